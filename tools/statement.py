@@ -10,12 +10,13 @@ are not followed: they are told at the end.
 
 usage: statement.py [COMMAND] [--html FILE]    the statement as a text, or as a page with links
        statement.py --count                    how many definitions and lines, by crate and command
-       statement.py --files                    which files of definitions have what
+       statement.py --files                    which files of definitions have what, and which
+                                               definitions stand in the other's place
 
 COMMAND is run, audit, gen, prove, check, price, ship, follow or serve: what its outcome reaches,
 alone. Lines are those of definitions, without comments and blank lines, and with the heads of the
-modules around them; `--count` tells the others apart. Ends with status 1 where a name is not found,
-and tells it.
+modules around them; `--count` tells the others apart. Definitions of proofs alone stand in the
+folder specs/steps/ of their crate. Ends with status 1 where a name is not found, and tells it.
 """
 import collections
 import heapq
@@ -26,6 +27,7 @@ import sys
 import resolve
 from resolve import Repository, definition_key
 
+STEPS = "steps"  # the folder in specs/ of what is of proofs alone
 CALLS = [("call", "hosed", "lib", "offline"), ("call", "hosed", "lib", "hosed")]
 OUTCOMES = {"run": "RunOutcome", "audit": "AuditOutcome", "gen": "GenOutcome",
             "prove": "ProveOutcome", "check": "CheckOutcome", "price": "PriceOutcome",
@@ -301,6 +303,19 @@ def count_table(statement):
     return rows
 
 
+def misplaced(statement):
+    """Rows of the definitions that stand in the other's place: those of the statement in a folder
+    of steps, and those of proofs alone outside of it."""
+    rows = []
+    for file in statement.repository.files.values():
+        for one in file.definitions:
+            inside = definition_key(one) in statement.reached
+            if inside == file.module.startswith(f"{STEPS}."):
+                kind = "the statement" if inside else "proofs alone"
+                rows.append(f"{one.path}:{one.line}: {one.name} is of {kind}")
+    return rows
+
+
 def file_table(statement):
     """The rows of `--files`: what each file of definitions has."""
     found = collections.defaultdict(list)
@@ -315,7 +330,9 @@ def file_table(statement):
     rows = []
     for kind, title in titles.items():
         rows += [f"{title}: {len(found[kind])} files", *(f"  {path}" for path in found[kind]), ""]
-    return rows
+    wrong = misplaced(statement)
+    return [*rows, f"in the other's place: {len(wrong)} definitions",
+            *(f"  {row}" for row in wrong), ""]
 
 
 def main(words):

@@ -171,6 +171,12 @@ REACHED = {
     "crates/base/src/source.rt": ["Source", "Source.content", "Source.faults"],
     "crates/top/src/lib.rt": ["go"],
 }
+MISPLACED = [
+    "crates/base/specs/Shapes.antt:30: unused is of proofs alone",
+    "crates/base/specs/Sizes.antt:11: far is of proofs alone",
+    "crates/base/specs/Sizes.antt:15: Far is of proofs alone",
+    "crates/base/specs/Sizes.antt:19: line_size is of proofs alone",
+]
 LINES = 2 + 3 + 4 + 5 + 4 + 1 + 3 + 3 + 2  # of these definitions, and the head of one module
 
 
@@ -189,9 +195,9 @@ def write_tree(folder, tree):
             file.write(text)
 
 
-def small(changes=()):
+def small(changes=(), tree=None):
     """The statement of the small tree, with some texts changed: path, old, new."""
-    tree = dict(TREE)
+    tree = dict(TREE if tree is None else tree)
     for path, old, new in changes:
         assert tree[path].count(old) == 1, (path, old)
         tree[path] = tree[path].replace(old, new)
@@ -268,8 +274,17 @@ class SmallTree(unittest.TestCase):
             "definitions of proofs alone: 0 files", "",
             "both, with how many of the statement: 2 files",
             "  crates/base/specs/Shapes.antt: 4 of 5",
-            "  crates/base/specs/Sizes.antt: 1 of 4", ""])
+            "  crates/base/specs/Sizes.antt: 1 of 4", "",
+            "in the other's place: 4 definitions", *(f"  {row}" for row in MISPLACED), ""])
         self.assertEqual(statement.count_table(made)[1], "all: 12 definitions, 36 lines")
+
+    def test_what_stands_in_the_others_place(self):
+        self.assertEqual(statement.misplaced(small()), MISPLACED)
+        moved = {path.replace("specs/Sizes", "specs/steps/Sizes"):
+                 text.replace("specs.Sizes", "specs.steps.Sizes") for path, text in TREE.items()}
+        self.assertEqual(statement.misplaced(small(tree=moved)), [
+            "crates/base/specs/Shapes.antt:30: unused is of proofs alone",
+            "crates/base/specs/steps/Sizes.antt:8: IsSmall is of the statement"])
 
 
 class Problems(unittest.TestCase):
@@ -372,6 +387,11 @@ class Repository(unittest.TestCase):
                     else:
                         key = ("module", *target.key) if target.kind == "module" else target.key
                         self.assertIn(key, named | modules)
+
+    def test_the_statement_stands_apart(self):
+        """What a top call's clauses reach stands in specs/, and what is of proofs alone in
+        specs/steps/."""
+        self.assertEqual(statement.misplaced(self.made), [])
 
     def test_each_outcome_is_in_the_statement(self):
         for name in statement.OUTCOMES.values():

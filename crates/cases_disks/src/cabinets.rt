@@ -3,7 +3,7 @@
 //
 // Bytes are told as the digits of a number, as 134 for 1, 3 and 4, and none as 0.
 ghost use Rattle.std.specs.Prelude.{◌≡◌, None, IfOk};
-ghost use Rattle.hose_disk.specs.CabinetState.{cabinet_frame};
+ghost use Rattle.hose_disk.specs.steps.CabinetState.{cabinet_frame};
 
 use crate::trouble::Trouble;
 use crate::words::{from_hex, number};

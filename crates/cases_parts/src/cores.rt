@@ -1,8 +1,8 @@
 // Books with the quotes of their customers: what commands are answered, and what is held.
 ghost use Rattle.std.specs.Prelude.{◌≡◌, ◌≤◌, IfOk};
 ghost use Rattle.hose_graph.specs.declared.limits.TheConstants.{MOST_EPOCH};
-ghost use Rattle.hose_core.specs.Holding.{IsMadeAt, WasMadeBefore};
-ghost use Rattle.hose_core.specs.Stepping.{IsSameOrNext};
+ghost use Rattle.hose_core.specs.steps.Holding.{IsMadeAt, WasMadeBefore};
+ghost use Rattle.hose_core.specs.steps.Stepping.{IsSameOrNext};
 
 use crate::networks::hose;
 use crate::trouble::Trouble;

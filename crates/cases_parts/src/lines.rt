@@ -1,5 +1,5 @@
 // Lines that are read as commands and as replies, and replies that are written.
-ghost use Rattle.hose_graph.specs.Naming.{NamesPlaces};
+ghost use Rattle.hose_graph.specs.steps.Naming.{NamesPlaces};
 
 use crate::networks::network;
 use crate::trouble::Trouble;

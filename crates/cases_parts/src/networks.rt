@@ -1,6 +1,6 @@
 // Networks by their names, and hoses and what they reserve by their words.
 ghost use Rattle.std.specs.Prelude.{IfOk};
-ghost use Rattle.hose_law.specs.Plan.{AreNodes};
+ghost use Rattle.hose_law.specs.steps.Plan.{AreNodes};
 
 use crate::trouble::Trouble;
 use hose_graph::{Amounts, Command, Hose, Reply, Topology};

@@ -2,11 +2,12 @@
 ghost use Rattle.std.specs.Prelude.{◌≡◌, ◌<◌, ◌≤◌, ◌↔◌, [], ◌∷◌, Bool, List, All, length};
 ghost use Rattle.std.specs.Prelude.{IfOk, IsSome, IsTrue, slice_index};
 ghost use Rattle.hose_graph.specs.Hose.{node_of};
-ghost use Rattle.hose_graph.specs.Row.{HasBoundedDistances, distance_of};
+ghost use Rattle.hose_graph.specs.Row.{distance_of};
+ghost use Rattle.hose_graph.specs.steps.Row.{HasBoundedDistances};
 ghost use Rattle.hose_law.specs.Row.{IsRow};
 ghost use Rattle.hose_law.specs.Tree.{JoinsHose};
 ghost use Rattle.hose_law.specs.Walk.{capacity_of};
-ghost use Rattle.hose_tree.specs.Amounts.{AreCarried};
+ghost use Rattle.hose_tree.specs.steps.Amounts.{AreCarried};
 
 use crate::networks::hose;
 use crate::trouble::Trouble;

@@ -1,6 +1,6 @@
 // Two customers who each release what they are told is admitted, at once.
 ghost use Rattle.std.specs.Prelude.{◌≡◌, ◌<◌, ◌≤◌, IfOk, None, length};
-ghost use Rattle.hose_shared.specs.Sharing.{IsPassOf, IsSamePass};
+ghost use Rattle.hose_shared.specs.steps.Sharing.{IsPassOf, IsSamePass};
 
 use crate::case::Case;
 use crate::run::Outcome;
@@ -79,7 +79,7 @@ struct Hearing<'a> {
 }
 
 impl Sink for Hearing<'_> {
-    ghost use Rattle.hose_io.specs.SinkState.{mem_sink_frame};
+    ghost use Rattle.hose_io.specs.steps.SinkState.{mem_sink_frame};
 
     ghost frame = { λ s. mem_sink_frame s.stored };
 

@@ -1,7 +1,7 @@
 // The run of a case that calls the program.
 ghost use Rattle.std.specs.Prelude.{◌≡◌, ◌≢◌, All, IfOk, IsOk, None};
-ghost use Rattle.hose_disk.specs.CabinetState.{cabinet_frame};
-ghost use Rattle.hose_io.specs.DoorState.{IsFresh};
+ghost use Rattle.hose_disk.specs.steps.CabinetState.{cabinet_frame};
+ghost use Rattle.hose_io.specs.steps.DoorState.{IsFresh};
 
 use crate::case::{Case, Connection, Journal, Output};
 use crate::streams::{LongSource, NarrowSink};

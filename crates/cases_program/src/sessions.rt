@@ -1,6 +1,6 @@
 // Sessions on the shared book of a case, which is closed after them.
 ghost use Rattle.std.specs.Prelude.{◌≡◌, IfOk};
-ghost use Rattle.hose_shared.specs.Sharing.{IsPassOf, IsSamePass};
+ghost use Rattle.hose_shared.specs.steps.Sharing.{IsPassOf, IsSamePass};
 
 use crate::case::{Case, Connection};
 use crate::run::{Outcome, disk_of, sink_of, source_of};

@@ -35,7 +35,7 @@ impl LongSource {
 }
 
 impl Source for LongSource {
-    ghost use Rattle.hose_io.specs.SourceState.{mem_source_frame};
+    ghost use Rattle.hose_io.specs.steps.SourceState.{mem_source_frame};
 
     ghost frame = { λ s. mem_source_frame s.stored };
 
@@ -87,7 +87,7 @@ impl NarrowSink {
 }
 
 impl Sink for NarrowSink {
-    ghost use Rattle.hose_io.specs.SinkState.{mem_sink_frame};
+    ghost use Rattle.hose_io.specs.steps.SinkState.{mem_sink_frame};
 
     ghost frame = { λ s. mem_sink_frame s.stored };
 

@@ -8,7 +8,7 @@ use Rattle.hose_graph.specs.declared.topology.Link.{Link}
 use Rattle.hose_law.specs.Book.{Book, load_of, loads_of}
 use Rattle.hose_law.specs.Walk.{cost_of}
 use Rattle.hose_law.proofs.Joined.{capacity_of_link, cost_of_link}
-use Rattle.hose_tree.specs.Amounts.{AreCarried}
+use Rattle.hose_tree.specs.steps.Amounts.{AreCarried}
 use Rattle.hose_audit.specs.Audit.{link_numbers, load_cost}
 use Rattle.hose_audit.proofs.Numbers.{load_told, sum_more}
 

@@ -6,7 +6,7 @@
 //! ```
 #![tactic(auto)]
 
-ghost use Rattle.hose_io.specs.Writing.{IsPut};
+ghost use Rattle.hose_io.specs.steps.Writing.{IsPut};
 ghost use Rattle.hose_audit.specs.Audit.{audit_text};
 
 mod lines;

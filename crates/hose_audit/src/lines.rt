@@ -1,9 +1,9 @@
 // The lines of an audit.
 ghost use Rattle.std.specs.Prelude.{◌≡◌, All};
 ghost use Rattle.std.specs.List.{flat_map};
-ghost use Rattle.hose_io.specs.Gather.{IsAdded};
+ghost use Rattle.hose_io.specs.steps.Gather.{IsAdded};
 ghost use Rattle.hose_graph.specs.Network.{IsLinkOf};
-ghost use Rattle.hose_book.specs.Ledger.{IsKept};
+ghost use Rattle.hose_book.specs.steps.Ledger.{IsKept};
 ghost use Rattle.hose_audit.specs.Audit.{epoch_line, load_line, link_numbers, live_line, total_cost, vpn_line};
 
 use hose_book::Book;

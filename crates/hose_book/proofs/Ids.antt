@@ -13,7 +13,8 @@ use Rattle.std.proofs.lemmas.List.Elements.{All-nil}
 use Rattle.std.specs.Str.{bytes_eq}
 use Rattle.hose_law.specs.Book.{Book, HasVpn, IsLiveVpn}
 use Rattle.hose_book.specs.Ledger.{Ledger}
-use Rattle.hose_law.specs.Live.{HasRisingIds, IsBetween, Rise}
+use Rattle.hose_law.specs.Live.{Rise}
+use Rattle.hose_law.specs.steps.Live.{HasRisingIds, IsBetween}
 
 -- where nothing is live the ids rise
 pub none_rise : (epoch : ℕ) (out : List ℕ) → HasRisingIds 0 (record { epoch = epoch; live = []; out = out })

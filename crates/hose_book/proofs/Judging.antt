@@ -13,7 +13,8 @@ use Rattle.hose_law.specs.Book.{Book, HasVpn}
 use Rattle.hose_law.specs.Decision.{CanBeReserved, Fits}
 use Rattle.hose_law.specs.History.{IsSoundAt, last_epoch}
 use Rattle.hose_law.specs.Room.{first_links, room_of}
-use Rattle.hose_law.specs.Service.{LinkStands, service_entry}
+use Rattle.hose_law.specs.Service.{LinkStands}
+use Rattle.hose_law.specs.steps.Service.{service_entry}
 use Rattle.hose_law.specs.Walk.{IsIn}
 use Rattle.hose_law.proofs.Serving.{length-links_in_service}
 use Rattle.hose_law.proofs.Unique.{stands_once}
@@ -21,7 +22,7 @@ use Rattle.hose_book.proofs.Served.{on_tree, served_on}
 use Rattle.hose_book.specs.declared.checking.BookRefusal.{BookRefusal}
 use Rattle.hose_book.specs.declared.checking.BookRefusal.TheVariants.{Spent, Full, NotATree, OutOfService, NoRoom, NoVpn, NoLink, Already}
 use Rattle.hose_graph.specs.Ascending.{IsAscending}
-use Rattle.hose_book.specs.Refusal.{AreInService, HasPlace, IsAbove, IsLowest, IsLowestFull, IsLowestOut, IsOutside, IsRefusedAdmission, IsRefusedFor, IsRefusedRelease, IsRefusedService, Judges}
+use Rattle.hose_book.specs.steps.Refusal.{AreInService, HasPlace, IsAbove, IsLowest, IsLowestFull, IsLowestOut, IsOutside, IsRefusedAdmission, IsRefusedFor, IsRefusedRelease, IsRefusedService, Judges}
 
 module _ (network : Network) (book : Book) where
   abbrev service : List Bool

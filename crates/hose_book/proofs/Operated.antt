@@ -4,13 +4,13 @@ use Rattle.hose_graph.specs.declared.entry.Entry.{Entry}
 use Rattle.hose_graph.specs.Network.{Network, IsNetwork}
 use Rattle.hose_law.specs.Book.{Book}
 use Rattle.hose_law.specs.History.{last_epoch, next_book}
-use Rattle.hose_law.specs.Live.{HasRisingIds}
+use Rattle.hose_law.specs.steps.Live.{HasRisingIds}
 use Rattle.hose_law.specs.Service.{links_in_service}
 use Rattle.hose_law.specs.Tracks.{Recent}
 use Rattle.hose_law.proofs.LiveIds.{rising_next}
-use Rattle.hose_book.specs.Changes.{AreUpTo, with_changes}
-use Rattle.hose_book.specs.Ledger.{AreKeptLoads, IsKept}
-use Rattle.hose_book.specs.Serving.{Served}
+use Rattle.hose_book.specs.steps.Changes.{AreUpTo, with_changes}
+use Rattle.hose_book.specs.steps.Ledger.{AreKeptLoads, IsKept}
+use Rattle.hose_book.specs.steps.Serving.{Served}
 use Rattle.hose_book.proofs.Tracking.{floor_next, with_up_to}
 
 module _ (network : Network) (loads : List ℕ) (book : Book) (served : Served) where

@@ -16,7 +16,7 @@ use Rattle.hose_law.specs.History.{is_vpn, next_book}
 use Rattle.hose_law.specs.Live.{Rise}
 use Rattle.hose_law.specs.Tracks.{touched_links}
 use Rattle.hose_graph.specs.Ascending.{firsts}
-use Rattle.hose_book.specs.Ledger.{IsKept}
+use Rattle.hose_book.specs.steps.Ledger.{IsKept}
 use Rattle.hose_law.proofs.Releases.{IsVpnOf, is_vpn_decides}
 
 -- a filter that all pass keeps all

@@ -15,8 +15,8 @@ use Rattle.hose_law.specs.Tree.{IsTreeReservation, links_of}
 use Rattle.hose_law.specs.Walk.{IsIn, all_links}
 use Rattle.hose_law.proofs.Reservations.{pair_there, tree_in_reserved}
 use Rattle.hose_law.proofs.Serving.{back_other, back_same, out_other, out_same}
-use Rattle.hose_book.specs.Refusal.{AreInService}
-use Rattle.hose_book.specs.Serving.{IsSetInService, Served}
+use Rattle.hose_book.specs.steps.Refusal.{AreInService}
+use Rattle.hose_book.specs.steps.Serving.{IsSetInService, Served}
 
 -- ---- what is out
 

@@ -11,8 +11,9 @@ use Rattle.hose_law.specs.History.{book_of}
 use Rattle.hose_law.specs.Tracks.{Change, Recent, Tracks, changes_of, touched_links}
 use Rattle.hose_law.proofs.Tracked.{tracks_anew, tracks_more}
 use Rattle.std.specs.List.Sorted.{IsStrictlyIncreasing}
-use Rattle.hose_book.specs.Changes.{AreInOrder, AreUpTo, AscendByLinks, with_changes}
-use Rattle.hose_book.specs.Ledger.{HasBookOf, Ledger, TracksOn, next_ledger}
+use Rattle.hose_book.specs.steps.Changes.{AreInOrder, AreUpTo, AscendByLinks, with_changes}
+use Rattle.hose_book.specs.Ledger.{HasBookOf, Ledger}
+use Rattle.hose_book.specs.steps.Ledger.{TracksOn, next_ledger}
 use Rattle.hose_book.specs.declared.recent.TheConstants.{MOST_CHANGES}
 
 -- the next ledger tracks the history with the entry

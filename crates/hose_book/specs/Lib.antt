@@ -1,7 +1,2 @@
-pub mod Changes
-pub mod Commit
-pub mod GoingOn
 pub mod Ledger
-pub mod Limits
-pub mod Refusal
-pub mod Serving
+pub mod steps

@@ -3,9 +3,9 @@ ghost use Rattle.std.specs.Prelude.{◌≡◌, IfOk, ⊤};
 ghost use Rattle.hose_io.specs.Frame.{Frame};
 ghost use Rattle.hose_graph.specs.declared.entry.Entry.{Entry};
 ghost use Rattle.hose_law.specs.History.{IsSoundAt};
-ghost use Rattle.hose_book.specs.Commit.{Commits, IsMet, KeepsTracks, unfailing};
+ghost use Rattle.hose_book.specs.steps.Commit.{Commits, IsMet, KeepsTracks, unfailing};
 ghost use Rattle.hose_book.specs.Ledger.{Ledger};
-ghost use Rattle.hose_graph.specs.Ranges.{IsInRanges};
+ghost use Rattle.hose_graph.specs.steps.Ranges.{IsInRanges};
 ghost use Rattle.hose_book.specs.declared.books.Committed.{Committed};
 
 use crate::Book;

@@ -4,7 +4,7 @@ ghost use Rattle.hose_graph.specs.Amounts.{link_of};
 ghost use Rattle.hose_graph.specs.Hose.{IsHose};
 ghost use Rattle.hose_law.specs.Book.{IsLiveVpn, amount_on};
 ghost use Rattle.hose_law.specs.History.{IsSoundAt, last_epoch};
-ghost use Rattle.hose_book.specs.Ledger.{TracksOn, next_ledger};
+ghost use Rattle.hose_book.specs.steps.Ledger.{TracksOn, next_ledger};
 
 use crate::Book;
 use hose_graph::{Amounts, Entry, Hose, Name, ReservedLink, Vpn};

@@ -5,9 +5,9 @@ ghost use Rattle.hose_graph.specs.Ascending.{IsAscending};
 ghost use Rattle.hose_law.specs.Decision.{Fits};
 ghost use Rattle.hose_law.specs.History.{IsSoundAt};
 ghost use Rattle.hose_law.specs.Room.{free_rates};
-ghost use Rattle.hose_law.specs.Service.{service_entry};
-ghost use Rattle.hose_tree.specs.Amounts.{AreCarried, AreOnLinks};
-ghost use Rattle.hose_book.specs.Refusal.{AreInService, IsLowestFull, IsLowestOut, IsRefusedFor, Judges};
+ghost use Rattle.hose_law.specs.steps.Service.{service_entry};
+ghost use Rattle.hose_tree.specs.steps.Amounts.{AreCarried, AreOnLinks};
+ghost use Rattle.hose_book.specs.steps.Refusal.{AreInService, IsLowestFull, IsLowestOut, IsRefusedFor, Judges};
 
 use crate::Book;
 use hose_graph::{Amounts, Entry, Hose, MOST_EPOCH, MOST_LIVE, Name, Topology};

@@ -2,7 +2,7 @@
 ghost use Rattle.std.specs.Prelude.{◌≡◌, ◌≢◌, ◌<◌, ℕ, Contains, IfSome, IfNone, IsSomeAnd, OnSome, length, slice_get, IsNone};
 ghost use Rattle.hose_law.specs.Book.{HasVpn, IsLiveVpn};
 ghost use Rattle.hose_law.specs.Live.{Rise};
-ghost use Rattle.hose_book.specs.Ledger.{IsKept};
+ghost use Rattle.hose_book.specs.steps.Ledger.{IsKept};
 
 use crate::Book;
 use hose_graph::{Name, Vpn};

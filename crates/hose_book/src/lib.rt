@@ -17,8 +17,8 @@
 #![tactic(auto)]
 
 ghost use Rattle.std.specs.Prelude.{◌≡◌, ◌<◌, ◌≤◌, ℕ, [], All, Contains, IfOk, length};
-ghost use Rattle.hose_book.specs.Changes.{AreInOrder, AreSince, AreUpTo, AscendByLinks};
-ghost use Rattle.hose_book.specs.Ledger.{IsKept, opening_ledger};
+ghost use Rattle.hose_book.specs.steps.Changes.{AreInOrder, AreSince, AreUpTo, AscendByLinks};
+ghost use Rattle.hose_book.specs.steps.Ledger.{IsKept, opening_ledger};
 ghost use Rattle.hose_book.specs.declared.recent.TheConstants.{MOST_CHANGES};
 ghost use Rattle.hose_graph.specs.Network.{IsNetwork};
 ghost use Rattle.hose_graph.specs.declared.limits.TheConstants.{MOST_EPOCH};
@@ -27,7 +27,7 @@ ghost use Rattle.hose_law.specs.Live.{Rise};
 ghost use Rattle.hose_law.specs.Room.{first_links};
 ghost use Rattle.hose_law.specs.Service.{is_out};
 ghost use Rattle.hose_law.specs.Tracks.{Tracks};
-ghost use Rattle.hose_tree.specs.Amounts.{AreCarried};
+ghost use Rattle.hose_tree.specs.steps.Amounts.{AreCarried};
 
 mod books;
 mod changing;
@@ -67,10 +67,11 @@ pub struct Book {
 impl Model for Book {
     ghost use Rattle.std.specs.Prelude.{◌≡◌, ◌≤◌, All};
     ghost use Rattle.hose_graph.specs.Network.{IsNetwork};
-    ghost use Rattle.hose_book.specs.Changes.{AreUpTo};
-    ghost use Rattle.hose_book.specs.Ledger.{Ledger, AreKeptLoads, IsKept};
+    ghost use Rattle.hose_book.specs.steps.Changes.{AreUpTo};
+    ghost use Rattle.hose_book.specs.Ledger.{Ledger};
+    ghost use Rattle.hose_book.specs.steps.Ledger.{AreKeptLoads, IsKept};
     ghost use Rattle.hose_law.specs.History.{last_epoch};
-    ghost use Rattle.hose_law.specs.Live.{HasRisingIds};
+    ghost use Rattle.hose_law.specs.steps.Live.{HasRisingIds};
     ghost use Rattle.hose_law.specs.Service.{links_in_service};
 
     ghost Value = { Ledger };

@@ -1,7 +1,7 @@
 // A customer's VPNs among the live.
 ghost use Rattle.std.specs.Prelude.{◌≡◌, ◌-◌, IfOk, length, slice_index};
 ghost use Rattle.hose_law.specs.Answer.{AreVpnsOf, IsNewest};
-ghost use Rattle.hose_law.specs.VpnIds.{ids_of};
+ghost use Rattle.hose_law.specs.steps.VpnIds.{ids_of};
 
 use crate::Book;
 use hose_graph::{Name, Vpn, VpnList};

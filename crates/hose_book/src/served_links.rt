@@ -21,7 +21,7 @@ pub(crate) struct ServedLinks {
 impl Model for ServedLinks {
     ghost use Rattle.std.specs.Prelude.{◌≤◌, length, vec_capacity};
     ghost use Rattle.hose_graph.specs.declared.limits.TheConstants.{MOST_LINKS};
-    ghost use Rattle.hose_book.specs.Serving.{Served, IsSetInService};
+    ghost use Rattle.hose_book.specs.steps.Serving.{Served, IsSetInService};
 
     ghost Value = { Served };
 

@@ -6,14 +6,14 @@ use Rattle.std.proofs.lemmas.Bool.{cases_lt, cond-false, cond-true, eq-eqb, ne_e
 use Rattle.std.specs.List.{flat_map, range_with_len}
 use Rattle.std.proofs.lemmas.List.{take-map, drop-map}
 use Rattle.std.proofs.lemmas.Grind.{flat_map-append}
-use Rattle.hose_io.specs.Gather.{Gathered, IsAdded}
+use Rattle.hose_io.specs.steps.Gather.{Gathered, IsAdded}
 use Rattle.hose_io.specs.declared.sink.Sink.{Ghosts}
 use Rattle.hose_io.proofs.Gathering.{IsAdded-next, IsAdded-none}
 use Rattle.hose_graph.specs.Network.{Network}
 use Rattle.hose_graph.specs.Row.{Distances}
 use Rattle.hose_law.specs.Row.{IsRow}
 use Rattle.hose_law.specs.Walk.{all_links}
-use Rattle.hose_cert.specs.Adding.{AddsRoots}
+use Rattle.hose_cert.specs.steps.Adding.{AddsRoots}
 use Rattle.hose_cert.specs.CertLine.{CertLine}
 use Rattle.hose_cert.specs.Written.{numbers_of, root_lines, roots_lines, certificate_text}
 

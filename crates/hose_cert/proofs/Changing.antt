@@ -8,7 +8,7 @@ use Rattle.hose_graph.specs.Network.{Network}
 use Rattle.hose_law.specs.Walk.{IsIn}
 use Rattle.hose_law.proofs.Joined.{cost_of_link, joins_ends, joins_its_ends}
 use Rattle.hose_law.proofs.Walks.{joins_turned}
-use Rattle.hose_cert.specs.Judging.{ChangesWithin, ChangesWithinKept}
+use Rattle.hose_cert.specs.steps.Judging.{ChangesWithin, ChangesWithinKept}
 use Rattle.hose_cert.specs.Rules.{DifferWithinCosts, others_of}
 
 module _ (network : Network) (l : ℕ) (row : List ℕ) (link : Link) (there : slice_get network.links l ≡ Some link) where

@@ -3,16 +3,17 @@ use Rattle.std.proofs.Common.{◌≡◌, ℕ, List, [], ◌++◌, Option, None, 
 use Rattle.std.specs.Prelude.{IfOk, OnOk}
 use Rattle.hose_io.specs.Stream.{Stream}
 use Rattle.hose_io.specs.declared.source.Source.{Ghosts}
-use Rattle.hose_words.specs.Lines.{Reader}
+use Rattle.hose_words.specs.steps.Lines.{Reader}
 use Rattle.hose_words.specs.Reading.{WhereTold}
 use Rattle.hose_words.proofs.OnReading.{WhereTold-map, WhereTold-then}
 use Rattle.hose_graph.specs.Network.{Network, IsNetwork}
 use Rattle.hose_cert.specs.CertLine.{CertLine}
 use Rattle.hose_cert.specs.Certificate.{IsCertText, IsCertificate}
-use Rattle.hose_cert.specs.Draft.{IsBody}
+use Rattle.hose_cert.specs.steps.Draft.{IsBody}
 use Rattle.hose_cert.specs.Rules.{CertClaim}
-use Rattle.hose_cert.specs.Taking.{IsAllRead, ReadsCertText, ReadsUpTo}
-use Rattle.hose_cert.specs.Verdict.{AreCheapestFound, IsVerdict, IsFoundOf, IsNoText, IsValid, IsYesOf}
+use Rattle.hose_cert.specs.steps.Taking.{IsAllRead, ReadsCertText, ReadsUpTo}
+use Rattle.hose_cert.specs.Verdict.{AreCheapestFound, IsVerdict, IsNoText, IsValid}
+use Rattle.hose_cert.specs.steps.Verdict.{IsFoundOf, IsYesOf}
 use Rattle.hose_cert.specs.declared.Verdict.{Verdict}
 use Rattle.hose_cert.specs.declared.Verdict.TheVariants.{Yes, No}
 use Rattle.hose_cert.specs.declared.draft.Body.{Body}

@@ -15,9 +15,9 @@ use Rattle.hose_graph.specs.Network.{Network}
 use Rattle.hose_graph.specs.declared.limits.TheConstants.{MOST_TREE_LINKS}
 use Rattle.hose_cert.specs.CertLine.{CertLine, cost_line, end_line, hose_line, numbers_from, pot_line, use_line, without_line}
 use Rattle.hose_cert.specs.Certificate.{FollowAll, MayFollow, last_of, left_out_by, left_out_in, numbers_by, numbers_in, place_after, used_by, used_in}
-use Rattle.hose_cert.specs.Draft.{AreDraftRows, IsBody, IsLast, IsRefusedLine, IsSaid, IsUse, TellsBelow}
-use Rattle.hose_cert.specs.Following.{MayLeaveOut, MayNumber, MayUse}
-use Rattle.hose_cert.specs.Judging.{AlsoTells, AreUpToMost, IsRootJudged}
+use Rattle.hose_cert.specs.steps.Draft.{AreDraftRows, IsBody, IsLast, IsRefusedLine, IsSaid, IsUse, TellsBelow}
+use Rattle.hose_cert.specs.steps.Following.{MayLeaveOut, MayNumber, MayUse}
+use Rattle.hose_cert.specs.steps.Judging.{AlsoTells, AreUpToMost, IsRootJudged}
 use Rattle.hose_cert.specs.Rules.{DifferWithinCosts, HasNamed, others_of, weighed_by}
 use Rattle.hose_cert.specs.declared.statement.TheConstants.{LINE_NUMBERS}
 use Rattle.hose_cert.specs.declared.draft.Body.{Body}

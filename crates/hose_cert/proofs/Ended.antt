@@ -3,8 +3,9 @@ use Rattle.std.proofs.Common.{◌≡◌, ◌∙◌, ℕ, ◌+◌, ◌-◌, ◌<�
 use Rattle.std.specs.Prelude.{⊤}
 use Rattle.std.specs.List.{flat_map, range_with_len}
 use Rattle.std.proofs.lemmas.Grind.{flat_map-append}
-use Rattle.hose_io.specs.Gather.{Gathered, IsAdded}
-use Rattle.hose_io.specs.Writing.{GrowsInPart, IsPut}
+use Rattle.hose_io.specs.steps.Gather.{Gathered, IsAdded}
+use Rattle.hose_io.specs.Writing.{GrowsInPart}
+use Rattle.hose_io.specs.steps.Writing.{IsPut}
 use Rattle.hose_io.specs.declared.Failed.{Failed}
 use Rattle.hose_io.specs.declared.sink.Sink.{Ghosts}
 use Rattle.hose_io.proofs.Gathering.{IsAdded-next, none_gathered}
@@ -13,12 +14,14 @@ use Rattle.hose_graph.specs.Hose.{IsHose}
 use Rattle.hose_graph.specs.Network.{Network, IsNetwork}
 use Rattle.hose_graph.specs.Row.{Distances}
 use Rattle.hose_law.specs.CanonicalPlan.{IsCanonicalPlan}
-use Rattle.hose_law.specs.Plan.{AreNodes, plan_cost}
+use Rattle.hose_law.specs.Plan.{plan_cost}
+use Rattle.hose_law.specs.steps.Plan.{AreNodes}
 use Rattle.hose_law.specs.Row.{IsRow}
 use Rattle.hose_law.specs.Walk.{all_links}
-use Rattle.hose_cert.specs.Adding.{AddsRoots}
+use Rattle.hose_cert.specs.steps.Adding.{AddsRoots}
 use Rattle.hose_cert.specs.CertLine.{CertLine, end_line}
-use Rattle.hose_cert.specs.Written.{AreRootRows, IsPlanText, Writes, first_lines, numbers_of, plan_lines, root_lines, roots_lines, certificate_text}
+use Rattle.hose_cert.specs.Written.{AreRootRows, IsPlanText, first_lines, numbers_of, plan_lines, root_lines, roots_lines, certificate_text}
+use Rattle.hose_cert.specs.steps.Written.{Writes}
 use Rattle.hose_cert.specs.declared.fault.ProveFault.TheVariants.{Write, Memory}
 use Rattle.hose_cert.proofs.Added.{flat_map_agree, range_split, text_append}
 use Rattle.hose_cert.proofs.Numbered.{one_dist}

@@ -1,7 +1,7 @@
 -- How flags go on from a root to the next.
 use Rattle.std.proofs.Common.{◌≡◌, ◌∙◌, ◌↔◌, ℕ, ◌≤◌, Bool, true, false, IsTrue, eqb, nat_le, sym, arith}
 use Rattle.std.proofs.lemmas.Bool.{eq-eqb, eqb-true, false≢true, le-leb, leb-true}
-use Rattle.hose_cert.specs.Judging.{AlsoTells}
+use Rattle.hose_cert.specs.steps.Judging.{AlsoTells}
 
 -- a flag that was true is what was tried
 pub where_true : (was now test : Bool) (P : Type 0) → was ≡ true → now ≡ test → IsTrue test ↔ P → AlsoTells was now P

@@ -3,9 +3,9 @@ use Rattle.std.proofs.Common.{◌≡◌, ◌↔◌, ◌∙◌, ℕ, ◌<◌, Boo
 use Rattle.std.proofs.lemmas.Bool.{false≢true}
 use Rattle.hose_graph.specs.Network.{Network}
 use Rattle.hose_cert.specs.CertLine.{CertLine}
-use Rattle.hose_cert.specs.Draft.{IsBody, TellsBelow}
+use Rattle.hose_cert.specs.steps.Draft.{IsBody, TellsBelow}
 use Rattle.hose_cert.specs.Rules.{BreaksFirst, ChangeWithinCosts, CertClaim, Claims, ClaimsTree, CostAsClaimed, StartAtRoots, WeighEnough}
-use Rattle.hose_cert.specs.Verdict.{IsFoundOf}
+use Rattle.hose_cert.specs.steps.Verdict.{IsFoundOf}
 use Rattle.hose_cert.specs.declared.Verdict.TheVariants.{No, Yes}
 use Rattle.hose_cert.specs.declared.draft.Body.{Body}
 

@@ -3,7 +3,7 @@ use Rattle.std.proofs.Common.{◌≡◌, ◌∙◌, ℕ, List, refl, sym, ap, ar
 use Rattle.std.specs.List.{All}
 use Rattle.hose_words.proofs.Keywords.{choice_of}
 use Rattle.hose_proto.proofs.Words.{every_choice}
-use Rattle.hose_cert.specs.Statement.{statement_word}
+use Rattle.hose_cert.specs.steps.Statement.{statement_word}
 use Rattle.hose_cert.specs.declared.statement.StatementKind.{StatementKind}
 use Rattle.hose_cert.specs.declared.statement.StatementKind.TheVariants as kind
 use Rattle.hose_cert.specs.declared.statement.TheConstants.{KINDS}

@@ -22,7 +22,7 @@ use Rattle.hose_proto.specs.Places.{IsHoseOf, end_word}
 use Rattle.hose_proto.specs.ReplyText.{end_text}
 use Rattle.hose_cert.specs.CertLine.{CertLine, IsLine, IsSpaced, IsSpelled, cost_line, end_line, hose_line, numbers_from, pot_line, use_line, without_line}
 use Rattle.hose_cert.specs.Certificate.{AreLines}
-use Rattle.hose_cert.specs.Judging.{AreUpToMost}
+use Rattle.hose_cert.specs.steps.Judging.{AreUpToMost}
 use Rattle.hose_cert.specs.Written.{line_text, number_text, certificate_text}
 use Rattle.hose_cert.specs.declared.statement.TheConstants.{MOST_NUMBER}
 

@@ -5,8 +5,10 @@ use Rattle.std.proofs.lemmas.Result.{err_from_is_err_and}
 use Rattle.std.specs.List.{before_first, after_first}
 use Rattle.std.proofs.lemmas.Bool.{cases_lt}
 use Rattle.hose_io.specs.declared.source.Source.{Ghosts}
-use Rattle.hose_words.specs.Lines.{GivesLine, IsNext, Reader, is_line_feed}
-use Rattle.hose_words.specs.Reading.{ReadsOn, WhereTold}
+use Rattle.hose_words.specs.Lines.{is_line_feed}
+use Rattle.hose_words.specs.steps.Lines.{GivesLine, IsNext, Reader}
+use Rattle.hose_words.specs.Reading.{WhereTold}
+use Rattle.hose_words.specs.steps.Reading.{ReadsOn}
 use Rattle.hose_words.specs.declared.lines.Line.{Line}
 use Rattle.hose_words.specs.declared.lines.Line.TheVariants.{Text, Long}
 use Rattle.hose_words.specs.declared.lines.LineFault.{LineFault}
@@ -17,9 +19,9 @@ use Rattle.hose_io.specs.Frame.{Rose}
 use Rattle.hose_graph.specs.Network.{Network, IsNetwork}
 use Rattle.hose_cert.specs.CertLine.{CertLine, IsLine, SaysLine}
 use Rattle.hose_cert.specs.Certificate.{AreLines, IsCertText, IsCertificate}
-use Rattle.hose_cert.specs.Draft.{IsRefusedLine, IsWholeIf, IsDraftOf}
-use Rattle.hose_cert.specs.Fault.{fault_of_line}
-use Rattle.hose_cert.specs.Taking.{Comes, IsTextOf, KeepsLineFault, PassesOne, ReadsCertText, ReadsUpTo, IsNextStep, fault_in}
+use Rattle.hose_cert.specs.steps.Draft.{IsRefusedLine, IsWholeIf, IsDraftOf}
+use Rattle.hose_cert.specs.steps.Fault.{fault_of_line}
+use Rattle.hose_cert.specs.steps.Taking.{Comes, IsTextOf, KeepsLineFault, PassesOne, ReadsCertText, ReadsUpTo, IsNextStep, fault_in}
 use Rattle.hose_cert.specs.declared.draft.Body.{Body}
 use Rattle.hose_cert.specs.declared.draft.Draft.{Draft}
 use Rattle.hose_cert.specs.declared.draft.Draft.TheVariants.{Start}

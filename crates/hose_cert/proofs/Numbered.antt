@@ -9,7 +9,8 @@ use Rattle.hose_graph.specs.Hose.{IsEnd, IsHose}
 use Rattle.hose_graph.specs.Network.{Network, IsNetwork}
 use Rattle.hose_graph.specs.Row.{Distances, distance_of}
 use Rattle.hose_law.specs.CanonicalPlan.{IsCanonicalPlan, IsWeight}
-use Rattle.hose_law.specs.Plan.{AreNodes, plan_cost}
+use Rattle.hose_law.specs.Plan.{plan_cost}
+use Rattle.hose_law.specs.steps.Plan.{AreNodes}
 use Rattle.hose_law.specs.Row.{IsRow}
 use Rattle.hose_law.specs.Walk.{IsDistance, Reaches, all_links, cost_of}
 use Rattle.hose_law.proofs.Distances.{costs_both, distance_itself, distance_least, distance_unique, from_distance, link_costs}
@@ -17,7 +18,7 @@ use Rattle.hose_law.proofs.Joined.{joins_nodes}
 use Rattle.hose_law.proofs.PlanWeight.{plan_weight}
 use Rattle.hose_law.proofs.Rows.{row_bound}
 use Rattle.hose_law.proofs.Walks.{joins_turned, reaches_along, reaches_itself, reaches_on}
-use Rattle.hose_cert.specs.Judging.{AreUpToMost}
+use Rattle.hose_cert.specs.steps.Judging.{AreUpToMost}
 use Rattle.hose_cert.specs.Rules.{DifferWithinCosts, weighed_by}
 use Rattle.hose_cert.specs.Written.{numbers_of}
 use Rattle.hose_cert.specs.declared.statement.TheConstants.{MOST_NUMBER}

@@ -7,7 +7,8 @@ use Rattle.hose_graph.specs.Network.{Network, IsNetwork}
 use Rattle.hose_cert.specs.CertLine.{CertLine}
 use Rattle.hose_cert.specs.Certificate.{AreLines, left_out_in}
 use Rattle.hose_cert.specs.Rules.{BreaksFirst, CertClaim, Claims, HasNamed, MeetsRules}
-use Rattle.hose_cert.specs.Verdict.{IsVerdict, IsValid, IsYesOf}
+use Rattle.hose_cert.specs.Verdict.{IsVerdict, IsValid}
+use Rattle.hose_cert.specs.steps.Verdict.{IsYesOf}
 use Rattle.hose_cert.specs.declared.Verdict.{Verdict}
 use Rattle.hose_cert.specs.declared.Verdict.TheVariants.{Yes, No}
 use Rattle.hose_cert.proofs.Spelling.{line_once}

@@ -10,13 +10,14 @@ use Rattle.hose_graph.specs.declared.command.Command.TheVariants.{Admit}
 use Rattle.hose_proto.specs.Command.{AreEndsOf}
 use Rattle.hose_proto.proofs.Back.{number_back, number_spelled, map_back}
 use Rattle.hose_proto.proofs.OneCommand.{command_unique}
-use Rattle.hose_cert.specs.CertLine.{CertLine, IsLine, IsSpaced, IsSpelled, SaysLine, cost_line, end_line, hose_line, statement_line, numbers_from, pot_line, use_line, without_line}
-use Rattle.hose_cert.specs.Judging.{AreUpToMost}
-use Rattle.hose_cert.specs.Reading.{IsFrom, IsLineTold, IsToldAfter}
+use Rattle.hose_cert.specs.CertLine.{CertLine, IsLine, IsSpaced, IsSpelled, SaysLine, cost_line, end_line, hose_line, numbers_from, pot_line, use_line, without_line}
+use Rattle.hose_cert.specs.steps.CertLine.{statement_line}
+use Rattle.hose_cert.specs.steps.Judging.{AreUpToMost}
+use Rattle.hose_cert.specs.steps.Reading.{IsFrom, IsLineTold, IsToldAfter}
 use Rattle.hose_cert.specs.declared.fault.CertFault.{CertFault}
 use Rattle.hose_cert.specs.declared.statement.Statement.{Statement}
-use Rattle.hose_words.specs.Cursor.{Position}
-use Rattle.hose_cert.specs.Statement.{statement_word}
+use Rattle.hose_words.specs.steps.Cursor.{Position}
+use Rattle.hose_cert.specs.steps.Statement.{statement_word}
 use Rattle.hose_cert.specs.declared.statement.TheConstants.{MOST_NUMBER}
 use Rattle.hose_cert.specs.declared.statement.StatementKind.{StatementKind}
 use Rattle.hose_cert.specs.declared.statement.StatementKind.TheVariants as kind

@@ -11,14 +11,15 @@ use Rattle.hose_graph.specs.Row.{Distances}
 use Rattle.hose_graph.specs.declared.limits.TheConstants.{MOST_AMOUNT, MOST_COST, MOST_TREE_LINKS}
 use Rattle.hose_graph.specs.declared.topology.Link.{Link}
 use Rattle.hose_law.specs.CanonicalPlan.{IsCanonicalPlan}
-use Rattle.hose_law.specs.Plan.{AreNodes, plan_cost}
+use Rattle.hose_law.specs.Plan.{plan_cost}
+use Rattle.hose_law.specs.steps.Plan.{AreNodes}
 use Rattle.hose_law.specs.Tree.{IsTreeReservation}
 use Rattle.hose_law.specs.Walk.{IsIn, all_links, cost_of}
 use Rattle.hose_law.proofs.Bounds.{reserved_few, reserved_links, reserved_most, reserved_ranges}
 use Rattle.hose_law.proofs.CanonicalPlans.{plan_reserves}
 use Rattle.hose_cert.specs.CertLine.{CertLine, end_line, numbers_from, use_line}
 use Rattle.hose_cert.specs.Certificate.{IsCertificate, left_out_in, numbers_in, used_in}
-use Rattle.hose_cert.specs.Judging.{AreUpToMost}
+use Rattle.hose_cert.specs.steps.Judging.{AreUpToMost}
 use Rattle.hose_cert.specs.Rules.{Claims, DifferWithinCosts, HasNamed, MeetsRules, others_of, weighed_by}
 use Rattle.hose_cert.specs.Verdict.{IsValid}
 use Rattle.hose_cert.specs.Written.{AreRootRows, IsPlanText, block_line, blocks_of, first_lines, numbers_of, plan_claim, plan_lines, root_lines, roots_lines, certificate_text}

@@ -6,7 +6,7 @@ use Rattle.std.proofs.lemmas.List.{take_more}
 use Rattle.std.proofs.lemmas.List.Sums.{sum_by_push}
 use Rattle.hose_graph.specs.Hose.{IsEnd}
 use Rattle.hose_graph.specs.declared.limits.TheConstants.{MOST_RATE}
-use Rattle.hose_cert.specs.Judging.{AreUpToMost}
+use Rattle.hose_cert.specs.steps.Judging.{AreUpToMost}
 use Rattle.hose_cert.specs.Rules.{weighed_by}
 use Rattle.hose_cert.specs.declared.statement.TheConstants.{MOST_NUMBER}
 

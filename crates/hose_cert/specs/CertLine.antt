@@ -10,8 +10,6 @@ use Rattle.hose_graph.specs.Network.{Network, IsLinkOf, IsNodeOf}
 use Rattle.hose_graph.specs.Limits.{most_amount}
 use Rattle.hose_proto.specs.Command.{AreEndsOf}
 use Rattle.hose_cert.specs.Limits.{line_numbers, most_number}
-use Rattle.hose_cert.specs.declared.statement.Statement.{Statement}
-use Rattle.hose_cert.specs.declared.statement.Statement.TheVariants as statement
 
 -- what one line of a certificate says
 pub data CertLine : Type 0 where
@@ -66,12 +64,3 @@ pub record SaysLine (network : Network) (bytes : List ℕ) (line : CertLine) : T
 pub record IsLine (network : Network) (bytes : List ℕ) (line : CertLine) : Type 0 where
   pub short : length bytes ≤ line_limit
   pub says : SaysLine network bytes line
-
--- what a statement that was read says
-abbrev pub statement_line : Statement → CertLine
-statement_line (statement.Cost cost) = cost_line cost
-statement_line (statement.Hose hose) = hose_line hose
-statement_line (statement.Use pair) = use_line pair
-statement_line (statement.Without link) = without_line link
-statement_line (statement.Pot pot) = pot_line pot.root pot.from pot.numbers.items
-statement_line statement.End = end_line

@@ -1,14 +1,7 @@
-pub mod Adding
 pub mod CertLine
 pub mod Certificate
-pub mod Draft
-pub mod Fault
-pub mod Following
-pub mod Judging
 pub mod Limits
-pub mod Reading
 pub mod Rules
-pub mod Statement
-pub mod Taking
 pub mod Verdict
 pub mod Written
+pub mod steps

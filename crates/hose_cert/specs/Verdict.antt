@@ -23,15 +23,6 @@ pub record IsBroken (network : Network) (text : List ℕ) (rule : ℕ) : Type 0 
   pub claims : Claims network lines claim
   pub breaks : BreaksFirst network lines claim rule
 
--- of lines that stand in order this is found
-abbrev pub IsFoundOf : Network → List CertLine → Verdict → Type 0
-IsFoundOf network lines (Yes hose without amounts cost) =
-    let claim : CertClaim =
-    record { cost = cost; hose = hose; pairs = amounts; without = without } in
-    Claims network lines claim × MeetsRules network lines claim
-IsFoundOf network lines (No rule) =
-    (claim : CertClaim) × Claims network lines claim × BreaksFirst network lines claim rule
-
 -- rule 1: the text is that of a certificate
 abbrev pub IsNoText : Network → List ℕ → Type 0
 IsNoText network text = (lines : List CertLine) → IsCertText network text lines → ⊥
@@ -42,12 +33,6 @@ IsVerdict network text (Yes hose without amounts cost) = IsValid network text
     (record { cost = cost; hose = hose; pairs = amounts; without = without })
 IsVerdict network text (No rule) =
     ((rule ≡ 1) × IsNoText network text) ⊎ IsBroken network text rule
-
--- the verdict is yes, to this claim
-abbrev pub IsYesOf : Verdict → CertClaim → Type 0
-IsYesOf (Yes hose without amounts cost) claim =
-    claim ≡ record { cost = cost; hose = hose; pairs = amounts; without = without }
-IsYesOf (No rule) claim = ⊥
 
 -- what is found valid is a cheapest way to carry the hose over the links that were not left out
 abbrev pub AreCheapestFound : Network → Verdict → Type 0

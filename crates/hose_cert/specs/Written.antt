@@ -1,10 +1,8 @@
 -- What is written of a plan over all links: the lines of its certificate, and their text.
-use Rattle.std.specs.Prelude.{◌≡◌, ◌⊎◌, ℕ, ◌+◌, ◌-◌, ◌*◌, ◌/◌, ◌<◌, Bool, true, false, List, [], ◌∷◌, ◌++◌, Option, Result, Ok, Err, codes, decimal, drop, length, map, replicate, take, unwrap_or}
+use Rattle.std.specs.Prelude.{◌≡◌, ℕ, ◌+◌, ◌-◌, ◌*◌, ◌/◌, ◌<◌, false, List, [], ◌∷◌, ◌++◌, Option, codes, decimal, drop, length, map, replicate, take, unwrap_or}
 use Rattle.std.specs.List.{flat_map, range_with_len}
-use Rattle.hose_io.specs.Frame.{Rose}
 use Rattle.hose_io.specs.Stream.{Grows}
 use Rattle.hose_io.specs.Writing.{GrowsInPart}
-use Rattle.hose_io.specs.declared.sink.Sink.{Ghosts}
 use Rattle.hose_graph.specs.Amounts.{ReservedLink, amount_of, link_of}
 use Rattle.hose_graph.specs.Hose.{Endpoint}
 use Rattle.hose_graph.specs.Network.{Network}
@@ -17,8 +15,6 @@ use Rattle.hose_proto.specs.ReplyText.{end_text, line_of}
 use Rattle.hose_cert.specs.CertLine.{CertLine, cost_line, end_line, hose_line, numbers_from, pot_line, use_line, without_line}
 use Rattle.hose_cert.specs.Rules.{CertClaim}
 use Rattle.hose_cert.specs.Verdict.{IsValid}
-use Rattle.hose_cert.specs.declared.fault.ProveFault.{ProveFault}
-use Rattle.hose_cert.specs.declared.fault.ProveFault.TheVariants.{Write, Memory}
 use Rattle.hose_cert.specs.Limits.{line_numbers}
 
 -- ---- texts
@@ -145,19 +141,3 @@ pub record GrowsByLines (network : Network) (hose : List Endpoint) (old new : Op
   pub out : Grows old new (certificate_text network lines)
   pub front : (row_of : ℕ → Distances) → AreRootRows network row_of
       → (more : List CertLine) × (plan_lines network hose plan row_of ≡ lines ++ more)
-
--- What writing the certificate of a hose comes to. It is out, and the sink has not failed; or the
--- hose has no plan, and the sink was not called; or the sink failed, and a part is out; or memory
--- was wanting, and whole lines are out or the sink was not called.
-abbrev pub Writes : {S : Type 0} → Ghosts S → Network → List Endpoint → S → S
-    → Result Bool ProveFault → Type 0
-Writes sink network hose was now (Ok true) =
-    GrowsByWhole network hose (sink.content was) (sink.content now)
-    × (sink.frame now ≡ sink.frame was)
-Writes sink network hose was now (Ok false) = HasNoPlan network hose × (now ≡ was)
-Writes sink network hose was now (Err Write) =
-    GrowsByPart network hose (sink.content was) (sink.content now)
-    × Rose (sink.frame was) (sink.frame now)
-Writes sink network hose was now (Err Memory) =
-    ((now ≡ was) ⊎ GrowsByLines network hose (sink.content was) (sink.content now))
-    × (sink.frame now ≡ sink.frame was)

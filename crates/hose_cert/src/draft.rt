@@ -2,9 +2,10 @@
 ghost use Rattle.std.specs.Prelude.{◌≡◌, ◌<◌, ◌≤◌, ◌↔◌, ℕ, [], Any, IfErr, IfOk, IfSome, IsTrue, MatchOption, length};
 ghost use Rattle.hose_graph.specs.Amounts.{link_of};
 ghost use Rattle.hose_graph.specs.Network.{Network, IsNetwork};
-ghost use Rattle.hose_cert.specs.CertLine.{cost_line, end_line, hose_line, statement_line, pot_line, use_line, without_line};
-ghost use Rattle.hose_cert.specs.Draft.{IsBodySomehow, IsSaid, IsWholeIf, StandsSomehow, TakesInto, TakesCertLine};
-ghost use Rattle.hose_cert.specs.Following.{MayBeCost, MayBeHose, MayLeaveOut, MayNumber, MayUse};
+ghost use Rattle.hose_cert.specs.CertLine.{cost_line, end_line, hose_line, pot_line, use_line, without_line};
+ghost use Rattle.hose_cert.specs.steps.CertLine.{statement_line};
+ghost use Rattle.hose_cert.specs.steps.Draft.{IsBodySomehow, IsSaid, IsWholeIf, StandsSomehow, TakesInto, TakesCertLine};
+ghost use Rattle.hose_cert.specs.steps.Following.{MayBeCost, MayBeHose, MayLeaveOut, MayNumber, MayUse};
 
 use crate::fault::CertFault;
 use crate::rows::{Rows, judge_row};

@@ -1,6 +1,6 @@
 // Why a certificate was not judged, or not written.
 ghost use Rattle.std.specs.Prelude.{◌≡◌};
-ghost use Rattle.hose_cert.specs.Fault.{fault_of_line};
+ghost use Rattle.hose_cert.specs.steps.Fault.{fault_of_line};
 ghost use Rattle.hose_cert.specs.declared.fault.CertFault.TheVariants.{Memory};
 ghost use Rattle.hose_cert.specs.declared.fault.ProveFault.TheVariants as prove;
 

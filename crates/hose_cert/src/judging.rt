@@ -1,8 +1,8 @@
 // What is found of a certificate whose text is in order.
 ghost use Rattle.std.specs.Prelude.{◌≡◌, List, length};
 ghost use Rattle.hose_cert.specs.CertLine.{CertLine};
-ghost use Rattle.hose_cert.specs.Draft.{IsBody, IsBodySomehow};
-ghost use Rattle.hose_cert.specs.Verdict.{IsFoundOf};
+ghost use Rattle.hose_cert.specs.steps.Draft.{IsBody, IsBodySomehow};
+ghost use Rattle.hose_cert.specs.steps.Verdict.{IsFoundOf};
 
 use crate::Verdict;
 use crate::draft::Body;

@@ -37,13 +37,14 @@
 ghost use Rattle.std.specs.Prelude.{◌≡◌, ◌++◌, ℕ, List, IfOk, OnOk};
 ghost use Rattle.hose_io.specs.Frame.{Stays};
 ghost use Rattle.hose_words.specs.Reading.{WhereTold};
-ghost use Rattle.hose_law.specs.Plan.{AreNodes};
+ghost use Rattle.hose_law.specs.steps.Plan.{AreNodes};
 ghost use Rattle.hose_cert.specs.CertLine.{CertLine};
 ghost use Rattle.hose_cert.specs.Certificate.{IsCertText};
-ghost use Rattle.hose_cert.specs.Taking.{IsAllRead, ReadsUpTo, fault_in};
+ghost use Rattle.hose_cert.specs.steps.Taking.{IsAllRead, ReadsUpTo, fault_in};
 ghost use Rattle.hose_cert.specs.Rules.{CertClaim};
-ghost use Rattle.hose_cert.specs.Verdict.{AreCheapestFound, IsVerdict, IsValid, IsYesOf};
-ghost use Rattle.hose_cert.specs.Written.{Writes};
+ghost use Rattle.hose_cert.specs.Verdict.{AreCheapestFound, IsVerdict, IsValid};
+ghost use Rattle.hose_cert.specs.steps.Verdict.{IsYesOf};
+ghost use Rattle.hose_cert.specs.steps.Written.{Writes};
 
 mod draft;
 mod fault;

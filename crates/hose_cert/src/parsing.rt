@@ -2,7 +2,7 @@
 ghost use Rattle.std.specs.Prelude.{◌≡◌, ◌≤◌, ◌↔◌, ℕ, List, [], ◌∷◌, IfErr, IfOk, IfNone, IfSome, IsTrue, MatchOption, decimal, length};
 ghost use Rattle.hose_graph.specs.Network.{Network, IsNetwork};
 ghost use Rattle.hose_cert.specs.CertLine.{IsSpaced, IsSpelled, SaysLine};
-ghost use Rattle.hose_cert.specs.Reading.{AreNumbers, IsFrom, IsLineTold, IsToldAfter};
+ghost use Rattle.hose_cert.specs.steps.Reading.{AreNumbers, IsFrom, IsLineTold, IsToldAfter};
 
 use crate::fault::CertFault;
 use crate::statement::{LINE_NUMBERS, MOST_NUMBER, Pot, Statement, StatementKind};

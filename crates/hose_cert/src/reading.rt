@@ -1,8 +1,8 @@
 // The lines of a certificate, one after the other, up to the end of the input.
 ghost use Rattle.std.specs.Prelude.{◌≡◌, IfErr, IfOk, OnOk};
 ghost use Rattle.hose_graph.specs.Network.{IsNetwork};
-ghost use Rattle.hose_cert.specs.Draft.{StandsSomehow};
-ghost use Rattle.hose_cert.specs.Taking.{IsAllRead, IsDraftStep, PassesOne, ReadsCertText, ReadsUpTo, IsNextStep, fault_in};
+ghost use Rattle.hose_cert.specs.steps.Draft.{StandsSomehow};
+ghost use Rattle.hose_cert.specs.steps.Taking.{IsAllRead, IsDraftStep, PassesOne, ReadsCertText, ReadsUpTo, IsNextStep, fault_in};
 
 use crate::Verdict;
 use crate::draft::{Body, Draft, take_line};

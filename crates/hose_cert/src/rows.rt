@@ -2,9 +2,9 @@
 ghost use Rattle.std.specs.Prelude.{◌≡◌, ◌*◌, ◌+◌, ◌<◌, ◌≤◌, ◌↔◌, ℕ, All, IsTrue, length};
 ghost use Rattle.hose_graph.specs.Hose.{node_of};
 ghost use Rattle.hose_graph.specs.Network.{IsLinkOf};
-ghost use Rattle.hose_law.specs.Plan.{AreNodes};
+ghost use Rattle.hose_law.specs.steps.Plan.{AreNodes};
 ghost use Rattle.hose_cert.specs.Rules.{DifferWithinCosts, others_of, weighed_by};
-ghost use Rattle.hose_cert.specs.Judging.{AreUpToMost, ChangesWithin, IsRootJudged, ChangesWithinKept};
+ghost use Rattle.hose_cert.specs.steps.Judging.{AreUpToMost, ChangesWithin, IsRootJudged, ChangesWithinKept};
 
 use crate::statement::MOST_NUMBER;
 use hose_graph::{Hose, Topology};

@@ -1,5 +1,5 @@
 // What a line of a certificate says, the words that begin it, and the limits of its numbers.
-ghost use Rattle.hose_cert.specs.Statement.{statement_word};
+ghost use Rattle.hose_cert.specs.steps.Statement.{statement_word};
 ghost use Rattle.std.specs.Prelude.{◌≡◌};
 ghost use Rattle.hose_cert.specs.Limits.{line_numbers, most_number};
 

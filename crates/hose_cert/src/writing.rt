@@ -2,18 +2,20 @@
 ghost use Rattle.std.specs.Prelude.{◌≡◌, ◌++◌, ◌<◌, ◌≤◌, ℕ, All, MatchResult, decimal, length, map, unwrap_or};
 ghost use Rattle.std.specs.List.{flat_map};
 ghost use Rattle.hose_io.specs.Frame.{Stays};
-ghost use Rattle.hose_io.specs.Gather.{IsAdded};
+ghost use Rattle.hose_io.specs.steps.Gather.{IsAdded};
 ghost use Rattle.hose_graph.specs.Amounts.{amount_of};
 ghost use Rattle.hose_graph.specs.Hose.{IsHose};
 ghost use Rattle.hose_graph.specs.Network.{IsNetwork};
 ghost use Rattle.hose_law.specs.CanonicalPlan.{IsCanonicalPlan};
-ghost use Rattle.hose_law.specs.Plan.{AreNodes, plan_cost};
+ghost use Rattle.hose_law.specs.Plan.{plan_cost};
+ghost use Rattle.hose_law.specs.steps.Plan.{AreNodes};
 ghost use Rattle.hose_law.specs.Walk.{all_links};
-ghost use Rattle.hose_tree.specs.Amounts.{AreOnLinks};
+ghost use Rattle.hose_tree.specs.steps.Amounts.{AreOnLinks};
 ghost use Rattle.hose_proto.specs.ReplyText.{line_of};
 ghost use Rattle.hose_cert.specs.CertLine.{cost_line, hose_line};
-ghost use Rattle.hose_cert.specs.Adding.{AddsRoots};
-ghost use Rattle.hose_cert.specs.Written.{Writes, first_lines, line_text, number_text, numbers_of, pot_text, root_lines, certificate_text, use_text};
+ghost use Rattle.hose_cert.specs.steps.Adding.{AddsRoots};
+ghost use Rattle.hose_cert.specs.Written.{first_lines, line_text, number_text, numbers_of, pot_text, root_lines, certificate_text, use_text};
+ghost use Rattle.hose_cert.specs.steps.Written.{Writes};
 
 use crate::fault::ProveFault;
 use crate::statement::LINE_NUMBERS;

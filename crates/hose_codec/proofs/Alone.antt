@@ -5,9 +5,10 @@ use Rattle.hose_graph.specs.declared.limits.TheConstants.{MOST_AMOUNT, MOST_LINK
 use Rattle.hose_graph.specs.Hose.{IsHose, IsEnd}
 use Rattle.hose_graph.specs.declared.entry.Entry.{Entry}
 use Rattle.hose_graph.specs.declared.entry.Entry.TheVariants.{Admit, Release, Down, Up}
-use Rattle.hose_codec.specs.Fields.{name_field, pair_field, pairs_field, ends_field, amounts_field, id_field, link_field, FitsPair, AreFormatAmounts}
+use Rattle.hose_codec.specs.Fields.{name_field, pair_field, pairs_field, ends_field, amounts_field, id_field, link_field, AreFormatAmounts}
+use Rattle.hose_codec.specs.steps.Fields.{FitsPair}
 use Rattle.hose_graph.specs.Ranges.{IsAmount}
-use Rattle.hose_codec.specs.Reading.{ArePairsFrom}
+use Rattle.hose_codec.specs.steps.Reading.{ArePairsFrom}
 use Rattle.hose_codec.specs.Spelling.{spelling, IsEntry}
 use Rattle.hose_codec.proofs.Numbers.{same_parts, same_numbers}
 use Rattle.hose_codec.proofs.Pairs.{are_pairs, fits_pair}

@@ -2,8 +2,9 @@
 use Rattle.std.proofs.Common.{◌≡◌, ◌∙◌, ℕ, zero, suc, ◌+◌, ◌*◌, ◌<◌, ◌≤◌, ◌^◌, List, [], ◌∷◌, ◌++◌, length, ap, sym, subst, arith}
 use Rattle.byteorder.specs.Endian.{big_number}
 use Rattle.byteorder.specs.Numbers.{big_number-reads_back}
-use Rattle.hose_codec.specs.Fields.{FitsPair, pair_field, pairs_field}
-use Rattle.hose_codec.specs.Reading.{Begins, BeginsNone, ArePairsFrom, AreCountedPairs, pairs_of}
+use Rattle.hose_codec.specs.Fields.{pair_field, pairs_field}
+use Rattle.hose_codec.specs.steps.Fields.{FitsPair}
+use Rattle.hose_codec.specs.steps.Reading.{Begins, BeginsNone, ArePairsFrom, AreCountedPairs, pairs_of}
 use Rattle.hose_codec.specs.declared.limits.TheConstants.{PAIR_BYTES}
 use Rattle.hose_codec.proofs.Lengths.{length-pairs_field}
 use Rattle.hose_codec.proofs.Numbers.{AreBytes, bytes_of_two, bytes_of_four, same_parts}

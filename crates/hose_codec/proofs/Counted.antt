@@ -6,7 +6,7 @@ use Rattle.hose_graph.specs.Hose.{IsHose, IsEnd}
 use Rattle.hose_codec.specs.declared.limits.TheConstants.{MOST_PAIRS}
 use Rattle.hose_codec.specs.Fields.{pairs_field, ends_field, amounts_field, AreFormatAmounts}
 use Rattle.hose_graph.specs.Ranges.{IsAmount}
-use Rattle.hose_codec.specs.Reading.{Begins, BeginsNone, ReadsField, AreCountedPairs}
+use Rattle.hose_codec.specs.steps.Reading.{Begins, BeginsNone, ReadsField, AreCountedPairs}
 use Rattle.hose_codec.specs.declared.limits.CodecFault.{CodecFault}
 use Rattle.hose_codec.proofs.Alone.{hose_pairs, amount_pairs}
 use Rattle.hose_codec.proofs.Numbers.{same_numbers}

@@ -4,8 +4,9 @@ use Rattle.std.specs.Prelude.{IfOk}
 use Rattle.hose_graph.specs.declared.entry.Entry.{Entry}
 use Rattle.hose_graph.specs.declared.entry.Entry.TheVariants.{Admit, Release, Down, Up}
 use Rattle.hose_codec.specs.declared.limits.CodecFault.{CodecFault}
-use Rattle.hose_codec.specs.Spelling.{spelling, IsEntry, IsSpelling, Decodes}
-use Rattle.hose_graph.specs.Ranges.{IsInRanges}
+use Rattle.hose_codec.specs.Spelling.{spelling, IsEntry, IsSpelling}
+use Rattle.hose_codec.specs.steps.Spelling.{Decodes}
+use Rattle.hose_graph.specs.steps.Ranges.{IsInRanges}
 use Rattle.hose_codec.proofs.Entries.{only_entry, same_entry}
 
 pub again : (bytes : List ℕ) (result : Result Entry CodecFault) → Decodes bytes result → (entry : Entry) → IsSpelling entry bytes → IfOk result (λ read. read ≡ entry)

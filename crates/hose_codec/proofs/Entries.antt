@@ -7,8 +7,9 @@ use Rattle.hose_graph.specs.declared.entry.Entry.TheVariants.{Admit, Release}
 use Rattle.hose_graph.specs.declared.limits.TheConstants.{MOST_EPOCH}
 use Rattle.hose_codec.specs.declared.limits.TheConstants.{ADMIT, RELEASE}
 use Rattle.hose_codec.specs.Fields.{name_field, ends_field, amounts_field, id_field, AreFormatAmounts}
-use Rattle.hose_codec.specs.Reading.{Begins, BeginsNone}
-use Rattle.hose_codec.specs.Spelling.{spelling, IsEntry, IsSpelling, IsNoSpelling}
+use Rattle.hose_codec.specs.steps.Reading.{Begins, BeginsNone}
+use Rattle.hose_codec.specs.Spelling.{spelling, IsEntry, IsSpelling}
+use Rattle.hose_codec.specs.steps.Spelling.{IsNoSpelling}
 use Rattle.hose_codec.proofs.Alone.{same_names, same_ends, same_amounts, same_entries}
 
 abbrev IsId : ℕ → Type 0

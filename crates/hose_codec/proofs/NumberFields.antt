@@ -2,7 +2,7 @@
 use Rattle.std.proofs.Common.{◌≡◌, ◌∙◌, ℕ, ◌<◌, List, ◌++◌, length, ap, sym}
 use Rattle.byteorder.specs.Endian.{big_bytes}
 use Rattle.byteorder.specs.Numbers.{length-bytes_high_first}
-use Rattle.hose_codec.specs.Reading.{Begins, BeginsNone}
+use Rattle.hose_codec.specs.steps.Reading.{Begins, BeginsNone}
 
 module _ (size bound : ℕ) where
   -- so many bytes were read, and are those of a number

@@ -6,8 +6,8 @@ use Rattle.std.specs.List.Sorted.{IsStrictlyIncreasing}
 use Rattle.std.proofs.lemmas.List.Elements.{All-nil, All-cons, All-head, All-tail}
 use Rattle.hose_graph.specs.Ascending.{IsAscending, firsts}
 use Rattle.hose_graph.specs.Limit.{IsUpTo}
-use Rattle.hose_codec.specs.Fields.{FitsPair}
-use Rattle.hose_codec.specs.Reading.{IsPairFrom, ArePairsFrom}
+use Rattle.hose_codec.specs.steps.Fields.{FitsPair}
+use Rattle.hose_codec.specs.steps.Reading.{IsPairFrom, ArePairsFrom}
 
 -- the bounds of a pair, from where it begins on
 abbrev pub Bounds : ℕ → ℕ → ℕ × ℕ → Type 0

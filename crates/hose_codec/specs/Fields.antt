@@ -1,5 +1,5 @@
 -- The fields that entries are spelled with. Numbers stand highest byte first.
-use Rattle.std.specs.Prelude.{ℕ, ◌<◌, ◌^◌, List, ◌∷◌, ◌++◌, length}
+use Rattle.std.specs.Prelude.{ℕ, List, ◌∷◌, ◌++◌, length}
 use Rattle.std.specs.List.{flat_map}
 use Rattle.byteorder.specs.Endian.{big_bytes}
 use Rattle.hose_graph.specs.Amounts.{ReservedLink}
@@ -14,11 +14,6 @@ name_field name = length name ∷ name
 -- an endpoint or an amount: two bytes of its node or link, and four of its rate or amount
 abbrev pub pair_field : ℕ × ℕ → List ℕ
 pair_field pair = big_bytes 2 pair.0 ++ big_bytes 4 pair.1
-
--- the numbers of a pair fit its bytes
-pub record FitsPair (pair : ℕ × ℕ) : Type 0 where
-  pub first : pair.0 < 2 ^ 16
-  pub second : pair.1 < 2 ^ 32
 
 -- pairs, one after the other
 abbrev pub pairs_field : List (ℕ × ℕ) → List ℕ

@@ -1,4 +1,4 @@
 pub mod Fields
 pub mod Limits
-pub mod Reading
 pub mod Spelling
+pub mod steps

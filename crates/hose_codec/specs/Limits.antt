@@ -17,10 +17,6 @@ down_kind = 3
 abbrev pub up_kind : ℕ
 up_kind = 4
 
--- the bytes of a link and its amount
-abbrev pub pair_bytes : ℕ
-pair_bytes = 6
-
 -- the greatest number of bytes of an entry
 abbrev pub most_spelling : ℕ
 most_spelling = 3471

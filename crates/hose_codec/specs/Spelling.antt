@@ -1,6 +1,6 @@
 -- The spelling of an entry: a byte for its kind, and its fields in order. Nothing follows the last
 -- of them.
-use Rattle.std.specs.Prelude.{◌≡◌, ℕ, ◌<◌, ◌≤◌, List, ◌∷◌, ◌++◌, Result, Ok, Err}
+use Rattle.std.specs.Prelude.{◌≡◌, ℕ, ◌<◌, ◌≤◌, List, ◌∷◌, ◌++◌}
 use Rattle.hose_graph.specs.Hose.{IsHose}
 use Rattle.hose_graph.specs.Name.{IsName}
 use Rattle.hose_graph.specs.declared.entry.Entry.{Entry}
@@ -8,8 +8,6 @@ use Rattle.hose_graph.specs.declared.entry.Entry.TheVariants.{Admit, Release, Do
 use Rattle.hose_graph.specs.Limits.{most_epoch, most_links}
 use Rattle.hose_codec.specs.Fields.{name_field, ends_field, amounts_field, id_field, link_field, AreFormatAmounts}
 use Rattle.hose_codec.specs.Limits.{admit_kind, release_kind, down_kind, up_kind}
-use Rattle.hose_codec.specs.declared.limits.CodecFault.{CodecFault}
-use Rattle.hose_codec.specs.declared.limits.CodecFault.TheVariants.{Bad, Memory}
 
 -- the bytes of an entry
 abbrev pub spelling : Entry → List ℕ
@@ -30,14 +28,3 @@ IsEntry (Up link) = link < most_links
 pub record IsSpelling (entry : Entry) (bytes : List ℕ) : Type 0 where
   pub is_entry : IsEntry entry
   pub spelled : bytes ≡ spelling entry
-
--- These bytes are the spelling of no entry.
-abbrev pub IsNoSpelling : List ℕ → Type 0
-IsNoSpelling bytes = (entry : Entry) → ¬ IsSpelling entry bytes
-
--- What is decoded is the entry that the bytes spell. Else there is no such entry, or memory was
--- wanting for it.
-abbrev pub Decodes : List ℕ → Result Entry CodecFault → Type 0
-Decodes bytes (Ok entry) = IsSpelling entry bytes
-Decodes bytes (Err Bad) = IsNoSpelling bytes
-Decodes bytes (Err Memory) = (entry : Entry) × IsSpelling entry bytes

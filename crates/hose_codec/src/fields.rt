@@ -4,7 +4,7 @@ ghost use Rattle.byteorder.specs.Endian.{big_bytes};
 ghost use Rattle.hose_graph.specs.Name.{IsName};
 ghost use Rattle.hose_graph.specs.Hose.{IsHose};
 ghost use Rattle.hose_codec.specs.Fields.{name_field, pair_field, pairs_field, ends_field, amounts_field, id_field, link_field, AreFormatAmounts};
-ghost use Rattle.hose_codec.specs.Reading.{ReadsField, TakesField, ArePairsFrom, AreCountedPairs, TakesPair, pairs_of};
+ghost use Rattle.hose_codec.specs.steps.Reading.{ReadsField, TakesField, ArePairsFrom, AreCountedPairs, TakesPair, pairs_of};
 
 use crate::limits::{CodecFault, MOST_PAIRS, PAIR_BYTES};
 use byteorder::{BigEndian, ByteOrder};

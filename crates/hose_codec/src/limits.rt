@@ -2,7 +2,8 @@
 // are the entry of none.
 ghost use Rattle.std.specs.Prelude.{◌≡◌};
 ghost use Rattle.hose_codec.specs.declared.limits.CodecFault.TheVariants.{Memory};
-ghost use Rattle.hose_codec.specs.Limits.{admit_kind, down_kind, most_spelling, pair_bytes, release_kind, up_kind};
+ghost use Rattle.hose_codec.specs.Limits.{admit_kind, down_kind, most_spelling, release_kind, up_kind};
+ghost use Rattle.hose_codec.specs.steps.Limits.{pair_bytes};
 
 use hose_graph::MOST_TREE_LINKS;
 use std::alloc::AllocError;

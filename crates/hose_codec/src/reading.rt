@@ -1,10 +1,11 @@
 // Reading an entry. No memory is taken before the bytes are known to be the spelling of one.
 ghost use Rattle.std.specs.Prelude.{◌≡◌, ◌↔◌, ◌∷◌, ◌++◌, [], List, ℕ, ◌<◌, IfOk, IsErrOf};
 ghost use Rattle.hose_graph.specs.declared.entry.Entry.{Entry};
-ghost use Rattle.hose_codec.specs.Spelling.{IsEntry, IsSpelling, IsNoSpelling, Decodes, spelling};
-ghost use Rattle.hose_graph.specs.Ranges.{IsInRanges};
+ghost use Rattle.hose_codec.specs.Spelling.{IsEntry, IsSpelling, spelling};
+ghost use Rattle.hose_codec.specs.steps.Spelling.{IsNoSpelling, Decodes};
+ghost use Rattle.hose_graph.specs.steps.Ranges.{IsInRanges};
 ghost use Rattle.hose_codec.specs.Fields.{link_field};
-ghost use Rattle.hose_codec.specs.Reading.{ReadsWhole};
+ghost use Rattle.hose_codec.specs.steps.Reading.{ReadsWhole};
 
 use crate::fields::{Fields, pairs_of};
 use crate::limits::{ADMIT, CodecFault, DOWN, RELEASE, UP};

@@ -3,10 +3,11 @@ ghost use Rattle.std.specs.Prelude.{◌≡◌, ◌<◌, ◌≤◌, ◌^◌, ◌+
 ghost use Rattle.byteorder.specs.Endian.{big_bytes};
 ghost use Rattle.hose_graph.specs.Name.{IsName};
 ghost use Rattle.hose_graph.specs.Hose.{IsHose};
-ghost use Rattle.hose_codec.specs.Fields.{name_field, pairs_field, ends_field, amounts_field, id_field, FitsPair};
+ghost use Rattle.hose_codec.specs.Fields.{name_field, pairs_field, ends_field, amounts_field, id_field};
+ghost use Rattle.hose_codec.specs.steps.Fields.{FitsPair};
 ghost use Rattle.hose_graph.specs.Ranges.{AreInRanges};
 ghost use Rattle.hose_codec.specs.Spelling.{spelling, IsEntry, IsSpelling};
-ghost use Rattle.hose_graph.specs.Ranges.{IsInRanges};
+ghost use Rattle.hose_graph.specs.steps.Ranges.{IsInRanges};
 
 use crate::limits::{ADMIT, DOWN, MOST_SPELLING, PAIR_BYTES, RELEASE, UP};
 use byteorder::{BigEndian, ByteOrder};

@@ -1,6 +1,6 @@
 -- What books answer: without an entry, by one that was entered, or as the disk failed to keep it.
 use Rattle.std.proofs.Common.{◌≡◌, ◌∙◌, Option, None, Some, inl, refl, sym, ap, subst}
-use Rattle.hose_graph.specs.Naming.{NamesPlaces}
+use Rattle.hose_graph.specs.steps.Naming.{NamesPlaces}
 use Rattle.hose_graph.specs.declared.entry.Entry.{Entry}
 use Rattle.hose_graph.specs.declared.command.Reply.{Reply}
 use Rattle.hose_graph.specs.declared.command.Reply.TheVariants as reply
@@ -10,9 +10,9 @@ use Rattle.hose_law.specs.ReplyKind.ReplyKind.{ByTheBook}
 use Rattle.hose_book.specs.declared.books.Books.{Ghosts}
 use Rattle.hose_book.specs.declared.books.Committed.{Committed}
 use Rattle.hose_book.specs.declared.books.Committed.TheVariants.{Done}
-use Rattle.hose_book.specs.Commit.{IsMet}
+use Rattle.hose_book.specs.steps.Commit.{IsMet}
 use Rattle.hose_book.specs.Ledger.{Ledger}
-use Rattle.hose_core.specs.Stepping.{AnswersBy, Goes, HaveAnswered, IsToldAs, committed_for, committed_of}
+use Rattle.hose_core.specs.steps.Stepping.{AnswersBy, Goes, HaveAnswered, IsToldAs, committed_for, committed_of}
 
 module _ {K R : Type 0} (books : Ghosts K R) (old new : K) (Is : Reply → Option Entry → Type 0) where
   abbrev was : Ledger

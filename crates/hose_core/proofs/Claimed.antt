@@ -9,10 +9,10 @@ use Rattle.hose_law.specs.Book.{Book}
 use Rattle.hose_law.specs.Decision.{HaveEqualGrounds}
 use Rattle.hose_book.specs.Ledger.{Ledger}
 use Rattle.hose_book.specs.declared.books.Books.{Ghosts}
-use Rattle.hose_core.specs.Bound.{HasNewest, is_stale}
-use Rattle.hose_core.specs.Claiming.{IsClaimOf}
-use Rattle.hose_core.specs.Planning.{AdmitsAtOnce}
-use Rattle.hose_core.specs.Stepping.{AdmitsCheapest, AnswersBy, HaveAnswered, Takes, TellsPlan}
+use Rattle.hose_core.specs.steps.Bound.{HasNewest, is_stale}
+use Rattle.hose_core.specs.steps.Claiming.{IsClaimOf}
+use Rattle.hose_core.specs.steps.Planning.{AdmitsAtOnce}
+use Rattle.hose_core.specs.steps.Stepping.{AdmitsCheapest, AnswersBy, HaveAnswered, Takes, TellsPlan}
 use Rattle.hose_core.specs.declared.claim.Claim.{Claim}
 use Rattle.hose_core.specs.declared.quotes.Quote.{Quote}
 use Rattle.hose_core.proofs.Decided.{admit_step}

@@ -10,7 +10,7 @@ use Rattle.std.proofs.lemmas.Map.Text.{is_eq-slice_cmp}
 use Rattle.std.proofs.lemmas.Slice.Eq.{bytes_eq-Decides}
 use Rattle.hose_law.proofs.Numbers.{at_none_held, with_none}
 use Rattle.hose_law.specs.Quotes.{at_number, none_held, with_number}
-use Rattle.hose_core.specs.Holding.{HoldsNow, AllQuotes, quotes_in}
+use Rattle.hose_core.specs.steps.Holding.{HoldsNow, AllQuotes, quotes_in}
 use Rattle.hose_core.specs.declared.quotes.Quote.{Quote}
 
 -- what a map has at a name

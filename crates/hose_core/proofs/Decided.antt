@@ -1,7 +1,7 @@
 -- What was decided of a hose at a ledger, and what becomes of it.
 use Rattle.std.proofs.Common.{◌≡◌, ◌≢◌, ◌∙◌, ℕ, Bool, List, Option, None, Some, IfNone, IfSome, MatchResult, Result, inl, inr, refl, ap, subst}
 use Rattle.hose_graph.specs.Hose.{IsHose}
-use Rattle.hose_graph.specs.Naming.{NamesPlaces}
+use Rattle.hose_graph.specs.steps.Naming.{NamesPlaces}
 use Rattle.hose_graph.specs.Network.{IsNetwork, Network}
 use Rattle.hose_graph.specs.declared.entry.Entry.{Entry}
 use Rattle.hose_graph.specs.declared.entry.Entry.TheVariants.{Admit}
@@ -14,18 +14,18 @@ use Rattle.hose_law.specs.History.{book_of}
 use Rattle.hose_law.specs.Quotes.{Held}
 use Rattle.hose_law.specs.Room.{Room, first_links, room_of}
 use Rattle.hose_law.proofs.Bounds.{reserved_ranges}
-use Rattle.hose_plan.specs.Planning.{IsDecision, IsSoundDecision, room_beside}
+use Rattle.hose_plan.specs.steps.Planning.{IsDecision, IsSoundDecision, room_beside}
 use Rattle.hose_plan.specs.declared.decision.Grounds.{Grounds}
 use Rattle.hose_plan.specs.declared.decision.Decision.{Decision}
 use Rattle.hose_plan.specs.declared.decision.Decision.TheVariants.{Plan}
 use Rattle.hose_book.specs.declared.books.Books.{Ghosts}
 use Rattle.hose_book.specs.declared.books.Committed.TheVariants.{Done}
 use Rattle.hose_book.specs.Ledger.{Ledger}
-use Rattle.hose_core.specs.Bound.{HasNewest, TellsNewest, admission_of}
-use Rattle.hose_core.specs.Holding.{IsMadeAt}
-use Rattle.hose_core.specs.Planning.{AdmitsAtOnce, EntersPlan, IsNotAdmitted, IsNotPlanned, IsPlannedFor}
+use Rattle.hose_core.specs.steps.Bound.{HasNewest, TellsNewest, admission_of}
+use Rattle.hose_core.specs.steps.Holding.{IsMadeAt}
+use Rattle.hose_core.specs.steps.Planning.{AdmitsAtOnce, EntersPlan, IsNotAdmitted, IsNotPlanned, IsPlannedFor}
 use Rattle.hose_core.specs.declared.quotes.Quote.{Quote}
-use Rattle.hose_core.specs.Stepping.{AdmitsCheapest, AnswersBy, HasStepped, TellsPlan, committed_of}
+use Rattle.hose_core.specs.steps.Stepping.{AdmitsCheapest, AnswersBy, HasStepped, TellsPlan, committed_of}
 use Rattle.hose_core.proofs.Answering.{answered_same, answers_without}
 use Rattle.hose_core.proofs.Stepped.{stepped_by}
 use Rattle.hose_core.proofs.Told.{told_step}

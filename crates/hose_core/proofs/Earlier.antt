@@ -5,17 +5,19 @@ use Rattle.hose_graph.specs.Network.{Network}
 use Rattle.hose_graph.specs.declared.entry.Entry.{Entry}
 use Rattle.hose_law.specs.Book.{Book, loads_of}
 use Rattle.hose_law.specs.Room.{first_links}
-use Rattle.hose_law.specs.Tracks.{Change, IsNamedSince, Recent, changes_of, touched_links}
+use Rattle.hose_law.specs.Tracks.{Change, Recent, changes_of, touched_links}
+use Rattle.hose_law.specs.steps.Tracks.{IsNamedSince}
 use Rattle.hose_law.proofs.LiveIds.{next_epoch}
 use Rattle.hose_law.proofs.Rooms.{loads_of-at}
 use Rattle.hose_law.proofs.Serving.{length-links_in_service, links_in_service-at}
 use Rattle.hose_law.proofs.Tracked.{is_change, untouched, untouched_out}
-use Rattle.hose_plan.specs.Planning.{AreMadeSince}
+use Rattle.hose_plan.specs.steps.Planning.{AreMadeSince}
 use Rattle.hose_plan.specs.declared.decision.Grounds.{Grounds}
-use Rattle.hose_book.specs.Ledger.{Ledger, next_ledger}
+use Rattle.hose_book.specs.Ledger.{Ledger}
+use Rattle.hose_book.specs.steps.Ledger.{next_ledger}
 use Rattle.hose_book.specs.declared.recent.TheConstants.{MOST_CHANGES}
-use Rattle.hose_core.specs.Holding.{AreKept, HasGroundsSince, IsMadeAt, LinkStays, WasMadeBefore}
-use Rattle.hose_core.specs.Stepping.{IsSameOrNext}
+use Rattle.hose_core.specs.steps.Holding.{AreKept, HasGroundsSince, IsMadeAt, LinkStays, WasMadeBefore}
+use Rattle.hose_core.specs.steps.Stepping.{IsSameOrNext}
 use Rattle.hose_core.specs.declared.quotes.Quote.{Quote}
 
 -- ---- a link at two books

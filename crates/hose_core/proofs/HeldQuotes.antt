@@ -15,8 +15,8 @@ use Rattle.hose_law.specs.History.{book_of}
 use Rattle.hose_law.specs.Quotes.{Held, HeldQuote, Holdings, at_number, free_number, none_held, with_held, with_number}
 use Rattle.hose_law.proofs.Numbers.{at_none_held, at_with_other, at_with_same, length_with, same_free, some_at}
 use Rattle.hose_book.specs.Ledger.{Ledger}
-use Rattle.hose_core.specs.Holding.{AreHeld, AreKept, FitsQuote, HoldsNow, IsMadeAt, IsQuoteOf, AllQuotes, WasMadeBefore, quotes_in}
-use Rattle.hose_core.specs.Planning.{HasTold}
+use Rattle.hose_core.specs.steps.Holding.{AreHeld, AreKept, FitsQuote, HoldsNow, IsMadeAt, IsQuoteOf, AllQuotes, WasMadeBefore, quotes_in}
+use Rattle.hose_core.specs.steps.Planning.{HasTold}
 use Rattle.hose_core.specs.declared.quotes.Quote.{Quote}
 
 -- ---- a longer history

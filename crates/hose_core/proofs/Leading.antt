@@ -5,12 +5,13 @@ use Rattle.hose_graph.specs.declared.command.Command.{Command}
 use Rattle.hose_graph.specs.declared.entry.Entry.{Entry}
 use Rattle.hose_graph.specs.declared.command.Reply.{Reply}
 use Rattle.hose_law.specs.Answer.{IsStepOf, IsStepOfKind}
-use Rattle.hose_law.specs.History.{IsDecidedAt, IsSoundWith, book_of}
+use Rattle.hose_law.specs.History.{IsDecidedAt, book_of}
+use Rattle.hose_law.specs.steps.History.{IsSoundWith}
 use Rattle.hose_law.specs.Quotes.{Held}
 use Rattle.hose_law.specs.ReplyKind.{ReplyKind, kind_of}
 use Rattle.hose_law.specs.ReplyKind.ReplyKind.{ByTheBook, ForDisk, ForMemory, ForNoCommand}
 use Rattle.hose_law.proofs.Steps.{step_decided, step_stays}
-use Rattle.hose_core.specs.Stepping.{committed_for, committed_of, history_with}
+use Rattle.hose_core.specs.steps.Stepping.{committed_for, committed_of, history_with}
 
 module _ (network : Network) (epoch : ℕ) (history : List Entry) (customer : List ℕ) (held : Held) (command : Command) where
   abbrev Is : Reply → Option Entry → List Entry → Held → Type 0

@@ -16,11 +16,11 @@ use Rattle.hose_law.specs.History.{IsSoundAt, last_epoch, most_live}
 use Rattle.hose_law.specs.Plan.{plan_cost}
 use Rattle.hose_book.specs.declared.books.Books.{Ghosts}
 use Rattle.hose_book.specs.Ledger.{Ledger}
-use Rattle.hose_plan.specs.Planning.{allowed_links}
-use Rattle.hose_core.specs.Claiming.{IsPlannedEntry}
-use Rattle.hose_core.specs.Holding.{IsMadeAt}
+use Rattle.hose_plan.specs.steps.Planning.{allowed_links}
+use Rattle.hose_core.specs.steps.Claiming.{IsPlannedEntry}
+use Rattle.hose_core.specs.steps.Holding.{IsMadeAt}
 use Rattle.hose_core.specs.declared.quotes.Quote.{Quote}
-use Rattle.hose_core.specs.Stepping.{AdmitsCheapest, AnswersBy, Goes, IsToldAs, TellsPlan}
+use Rattle.hose_core.specs.steps.Stepping.{AdmitsCheapest, AnswersBy, Goes, IsToldAs, TellsPlan}
 use Rattle.hose_core.proofs.Answering.{answers_entered, answers_without}
 
 module _ {K R : Type 0} (books : Ghosts K R) (old new : K) (customer : List ℕ) (hose plan : List (ℕ × ℕ)) (entry : Entry)

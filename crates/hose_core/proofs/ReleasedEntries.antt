@@ -11,7 +11,7 @@ use Rattle.hose_law.specs.History.{IsSoundAt, book_of, last_epoch}
 use Rattle.hose_law.specs.Quotes.{Held}
 use Rattle.hose_book.specs.declared.books.Books.{Ghosts}
 use Rattle.hose_book.specs.Ledger.{Ledger}
-use Rattle.hose_core.specs.Stepping.{AnswersBy, Goes, HasStepped, IsToldAs}
+use Rattle.hose_core.specs.steps.Stepping.{AnswersBy, Goes, HasStepped, IsToldAs}
 use Rattle.hose_core.proofs.Answering.{answers_entered, answers_without}
 use Rattle.hose_core.proofs.Stepped.{stepped_by}
 

@@ -1,7 +1,7 @@
 -- What becomes of an order to take a link out of service, or to put it back.
 use Rattle.std.proofs.Common.{◌≡◌, ◌+◌, ◌<◌, ◌∙◌, ℕ, Bool, true, false, not, List, Option, None, Some, refl, sym, ap, subst}
 use Rattle.hose_graph.specs.Limits.{operator}
-use Rattle.hose_graph.specs.Naming.{NamesPlaces}
+use Rattle.hose_graph.specs.steps.Naming.{NamesPlaces}
 use Rattle.hose_graph.specs.Network.{IsLinkOf, Network}
 use Rattle.hose_graph.specs.declared.entry.Entry.{Entry}
 use Rattle.hose_graph.specs.declared.command.Reply.{Reply}
@@ -12,11 +12,12 @@ use Rattle.hose_law.specs.History.{IsSoundAt, book_of, last_epoch}
 use Rattle.hose_law.specs.Quotes.{Held}
 use Rattle.hose_law.specs.ReplyKind.{kind_of}
 use Rattle.hose_law.specs.ReplyKind.ReplyKind.{ByTheBook}
-use Rattle.hose_law.specs.Service.{LinkStands, service_entry}
+use Rattle.hose_law.specs.Service.{LinkStands}
+use Rattle.hose_law.specs.steps.Service.{service_entry}
 use Rattle.hose_book.specs.declared.books.Books.{Ghosts}
 use Rattle.hose_book.specs.Ledger.{Ledger}
-use Rattle.hose_core.specs.Serving.{service_command, service_reply}
-use Rattle.hose_core.specs.Stepping.{AnswersBy, Goes, HasStepped, IsToldAs}
+use Rattle.hose_core.specs.steps.Serving.{service_command, service_reply}
+use Rattle.hose_core.specs.steps.Stepping.{AnswersBy, Goes, HasStepped, IsToldAs}
 use Rattle.hose_core.proofs.Answering.{answers_entered, answers_without}
 use Rattle.hose_core.proofs.Stepped.{stepped_by}
 

@@ -7,12 +7,13 @@ use Rattle.hose_graph.specs.declared.command.Reply.{Reply}
 use Rattle.hose_graph.specs.declared.command.Reply.TheVariants as reply
 use Rattle.hose_law.specs.Answer.{IsAnswer, IsStepOf, with_entry}
 use Rattle.hose_law.specs.Book.{Book}
-use Rattle.hose_law.specs.History.{IsSoundWith, book_of, opening_book}
+use Rattle.hose_law.specs.History.{book_of, opening_book}
+use Rattle.hose_law.specs.steps.History.{IsSoundWith}
 use Rattle.hose_law.specs.Quotes.{Held}
 use Rattle.hose_law.proofs.Scripts.{book_after_push}
 use Rattle.hose_law.proofs.Steps.{step_of}
 use Rattle.hose_book.specs.declared.books.Books.{Ghosts}
-use Rattle.hose_core.specs.Stepping.{AnswersBy, Goes, HasStepped, IsToldAs, book_with}
+use Rattle.hose_core.specs.steps.Stepping.{AnswersBy, Goes, HasStepped, IsToldAs, book_with}
 
 -- the book after an answer's entry is that of the history with it
 pub book_with_entry : (epoch : ℕ) (history : List Entry) (entry : Option Entry) → book_with (book_of epoch history) entry ≡ book_of epoch (with_entry history entry)

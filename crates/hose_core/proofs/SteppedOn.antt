@@ -17,14 +17,14 @@ use Rattle.hose_law.specs.Quotes.{Held, HeldQuote, Holdings, at_number, free_num
 use Rattle.hose_law.specs.Room.{room_of}
 use Rattle.hose_law.proofs.Numbers.{some_at}
 use Rattle.hose_law.proofs.Steps.{IsAnswered, IsIdle, step_cases}
-use Rattle.hose_plan.specs.Planning.{allowed_links}
+use Rattle.hose_plan.specs.steps.Planning.{allowed_links}
 use Rattle.hose_book.specs.declared.books.Books.{Ghosts}
 use Rattle.hose_book.specs.Ledger.{Ledger}
-use Rattle.hose_core.specs.Bound.{admission_of}
-use Rattle.hose_core.specs.Holding.{AllQuotes, AreHeld, HoldsNow, IsMadeAt, IsQuoteOf, State, quotes_in}
-use Rattle.hose_core.specs.Planning.{HasTold, IsNotPlanned}
-use Rattle.hose_core.specs.Serving.{service_command}
-use Rattle.hose_core.specs.Stepping.{FitsHistory, HasStepped, HaveAnswered, Steps, StepsAtEach, StepsOn}
+use Rattle.hose_core.specs.steps.Bound.{admission_of}
+use Rattle.hose_core.specs.steps.Holding.{AllQuotes, AreHeld, HoldsNow, IsMadeAt, IsQuoteOf, State, quotes_in}
+use Rattle.hose_core.specs.steps.Planning.{HasTold, IsNotPlanned}
+use Rattle.hose_core.specs.steps.Serving.{service_command}
+use Rattle.hose_core.specs.steps.Stepping.{FitsHistory, HasStepped, HaveAnswered, Steps, StepsAtEach, StepsOn}
 use Rattle.hose_core.proofs.Leading.{decided, leads}
 use Rattle.hose_core.specs.declared.quotes.Quote.{Quote}
 use Rattle.hose_core.proofs.Customers.{holds_same}

@@ -14,13 +14,13 @@ use Rattle.hose_law.specs.History.{book_of}
 use Rattle.hose_law.specs.Quotes.{Held, HeldQuote, at_number, with_number}
 use Rattle.hose_law.specs.Room.{first_links, room_of}
 use Rattle.hose_law.proofs.CanonicalPlans.{planned_sound, same_decisions}
-use Rattle.hose_plan.specs.Planning.{AreGroundsOf, allowed_links}
+use Rattle.hose_plan.specs.steps.Planning.{AreGroundsOf, allowed_links}
 use Rattle.hose_book.specs.declared.books.Books.{Ghosts}
 use Rattle.hose_book.specs.Ledger.{Ledger}
-use Rattle.hose_core.specs.Claiming.{IsClaimOf, IsPlannedEntry}
+use Rattle.hose_core.specs.steps.Claiming.{IsClaimOf, IsPlannedEntry}
 use Rattle.hose_core.specs.declared.claim.Claim.{Claim}
-use Rattle.hose_core.specs.Holding.{IsMadeAt, IsQuoteOf}
-use Rattle.hose_core.specs.Stepping.{AnswersBy, HasStepped}
+use Rattle.hose_core.specs.steps.Holding.{IsMadeAt, IsQuoteOf}
+use Rattle.hose_core.specs.steps.Stepping.{AnswersBy, HasStepped}
 use Rattle.hose_core.specs.declared.quotes.Quote.{Quote}
 use Rattle.hose_core.proofs.Answering.{answers_without}
 use Rattle.hose_core.proofs.Stepped.{stepped_by}

@@ -11,8 +11,8 @@ use Rattle.hose_law.specs.History.{book_of}
 use Rattle.hose_law.specs.Quotes.{Held}
 use Rattle.hose_book.specs.Ledger.{Ledger}
 use Rattle.hose_book.specs.declared.books.Books.{Ghosts}
-use Rattle.hose_core.specs.Stepping.{HasStepped}
-use Rattle.hose_core.specs.Telling.{AreShown, IsShown}
+use Rattle.hose_core.specs.steps.Stepping.{HasStepped}
+use Rattle.hose_core.specs.steps.Telling.{AreShown, IsShown}
 
 module _ {K R : Type 0} (books : Ghosts K R) (old : K) (epoch : ℕ) (history : List Entry) (customer : List ℕ) (held : Held) (here : (books.ledger old).book ≡ book_of epoch history) where
   abbrev was : Ledger

@@ -3,11 +3,11 @@ ghost use Rattle.std.specs.Prelude.{◌≡◌, ◌≢◌, IfSome, IsNone, MatchO
 ghost use Rattle.hose_graph.specs.Network.{IsNetwork};
 ghost use Rattle.hose_law.specs.Book.{Book};
 ghost use Rattle.hose_law.specs.Decision.{HaveEqualGrounds};
-ghost use Rattle.hose_law.specs.Plan.{AreNodes};
-ghost use Rattle.hose_core.specs.Bound.{HasNewest, is_stale};
-ghost use Rattle.hose_core.specs.Claiming.{IsClaimOf};
-ghost use Rattle.hose_core.specs.Holding.{HasGroundsSince, IsMade, IsMadeAt};
-ghost use Rattle.hose_core.specs.Planning.{AdmitsAtOnce};
+ghost use Rattle.hose_law.specs.steps.Plan.{AreNodes};
+ghost use Rattle.hose_core.specs.steps.Bound.{HasNewest, is_stale};
+ghost use Rattle.hose_core.specs.steps.Claiming.{IsClaimOf};
+ghost use Rattle.hose_core.specs.steps.Holding.{HasGroundsSince, IsMade, IsMadeAt};
+ghost use Rattle.hose_core.specs.steps.Planning.{AdmitsAtOnce};
 
 use crate::bound::newest_now;
 use crate::claim::Claim;

@@ -1,6 +1,6 @@
 // What an admission is bound to.
 ghost use Rattle.std.specs.Prelude.{MatchOption};
-ghost use Rattle.hose_core.specs.Bound.{HasNewest, TellsNewest};
+ghost use Rattle.hose_core.specs.steps.Bound.{HasNewest, TellsNewest};
 
 use hose_book::Book;
 use hose_graph::{Name, Reply};

@@ -2,8 +2,8 @@
 ghost use Rattle.std.specs.Prelude.{◌≡◌, ◌≤◌, ℕ, List, IfNone, IfSome, None, Option, Some};
 ghost use Rattle.hose_graph.specs.declared.limits.TheConstants.{MOST_QUOTES};
 ghost use Rattle.hose_law.specs.Quotes.{at_number, free_number, none_held, with_number};
-ghost use Rattle.hose_core.specs.Holding.{HoldsNow, quotes_in};
-ghost use Rattle.hose_core.specs.Planning.{HasTold};
+ghost use Rattle.hose_core.specs.steps.Holding.{HoldsNow, quotes_in};
+ghost use Rattle.hose_core.specs.steps.Planning.{HasTold};
 ghost use Rattle.hose_core.specs.declared.quotes.Quote.{Quote as QuoteHeld};
 
 use crate::quotes::{Quote, Quotes};
@@ -19,7 +19,7 @@ pub struct QuotesByCustomer {
 }
 
 impl Model for QuotesByCustomer {
-    ghost use Rattle.hose_core.specs.Holding.{AllQuotes};
+    ghost use Rattle.hose_core.specs.steps.Holding.{AllQuotes};
 
     ghost Value = { AllQuotes };
 

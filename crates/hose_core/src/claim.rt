@@ -2,8 +2,8 @@
 ghost use Rattle.std.specs.Prelude.{◌≡◌, ◌<◌, ◌≤◌, IfOk};
 ghost use Rattle.hose_graph.specs.Ranges.{AreInRanges};
 ghost use Rattle.hose_graph.specs.declared.limits.TheConstants.{MOST_EPOCH, MOST_LINKS};
-ghost use Rattle.hose_law.specs.Service.{service_entry};
-ghost use Rattle.hose_core.specs.Claiming.{IsClaimOf, IsReleaseClaim, IsServiceClaim};
+ghost use Rattle.hose_law.specs.steps.Service.{service_entry};
+ghost use Rattle.hose_core.specs.steps.Claiming.{IsClaimOf, IsReleaseClaim, IsServiceClaim};
 
 use crate::quotes::Quote;
 use hose_book::Books;

@@ -1,14 +1,14 @@
 // Entering what was planned, and any entry that is sound.
 ghost use Rattle.std.specs.Prelude.{◌≡◌, ◌≢◌, ℕ, List, Some};
 ghost use Rattle.hose_graph.specs.Hose.{Endpoint};
-ghost use Rattle.hose_graph.specs.Naming.{NamesPlaces};
+ghost use Rattle.hose_graph.specs.steps.Naming.{NamesPlaces};
 ghost use Rattle.hose_law.specs.Answer.{IsPlannedAnswer};
 ghost use Rattle.hose_law.specs.History.{IsSoundAt};
 ghost use Rattle.hose_law.specs.Plan.{plan_cost};
 ghost use Rattle.hose_law.specs.ReplyKind.{kind_of};
 ghost use Rattle.hose_law.specs.ReplyKind.ReplyKind.{ByTheBook};
-ghost use Rattle.hose_core.specs.Claiming.{IsPlannedEntry};
-ghost use Rattle.hose_core.specs.Stepping.{AnswersBy, Goes, HaveAnswered, IsToldAs, TellsPlan};
+ghost use Rattle.hose_core.specs.steps.Claiming.{IsPlannedEntry};
+ghost use Rattle.hose_core.specs.steps.Stepping.{AnswersBy, Goes, HaveAnswered, IsToldAs, TellsPlan};
 
 use hose_book::{Books, Committed};
 use hose_graph::{Amounts, Entry, MOST_EPOCH, MOST_LIVE, Reply};

@@ -2,10 +2,10 @@
 ghost use Rattle.std.specs.Prelude.{◌≡◌, MatchResult, length};
 ghost use Rattle.hose_graph.specs.Network.{IsNetwork};
 ghost use Rattle.hose_law.specs.Book.{Book, loads_of};
-ghost use Rattle.hose_law.specs.Plan.{AreNodes};
+ghost use Rattle.hose_law.specs.steps.Plan.{AreNodes};
 ghost use Rattle.hose_law.specs.Room.{first_links};
-ghost use Rattle.hose_tree.specs.Amounts.{AreCarried};
-ghost use Rattle.hose_core.specs.Planning.{IsNotPlanned, IsPlannedFor};
+ghost use Rattle.hose_tree.specs.steps.Amounts.{AreCarried};
+ghost use Rattle.hose_core.specs.steps.Planning.{IsNotPlanned, IsPlannedFor};
 
 use crate::quotes::Quote;
 use hose_book::Books;

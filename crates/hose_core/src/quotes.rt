@@ -2,7 +2,7 @@
 ghost use Rattle.std.specs.Prelude.{◌≡◌, ◌<◌, ◌≤◌, IfNone, IfSome, None, Some, is_none, length, position};
 ghost use Rattle.hose_law.specs.Quotes.{at_number, free_number, none_held, with_number};
 ghost use Rattle.hose_graph.specs.declared.limits.TheConstants.{MOST_QUOTES};
-ghost use Rattle.hose_core.specs.Planning.{HasTold};
+ghost use Rattle.hose_core.specs.steps.Planning.{HasTold};
 
 use hose_graph::{Amounts, Hose, MOST_QUOTES, Reply};
 use hose_plan::Grounds;

@@ -2,8 +2,8 @@
 ghost use Rattle.std.specs.Prelude.{◌≡◌, ◌≢◌, ℕ, List};
 ghost use Rattle.hose_graph.specs.declared.command.Command.{Command};
 ghost use Rattle.hose_graph.specs.declared.entry.Entry.{Entry};
-ghost use Rattle.hose_core.specs.Claiming.{IsReleaseClaim};
-ghost use Rattle.hose_core.specs.Stepping.{HaveAnswered, StepsAtEach};
+ghost use Rattle.hose_core.specs.steps.Claiming.{IsReleaseClaim};
+ghost use Rattle.hose_core.specs.steps.Stepping.{HaveAnswered, StepsAtEach};
 
 use crate::claim::Claim;
 use crate::entering::enter;

@@ -4,10 +4,10 @@ ghost use Rattle.hose_graph.specs.Limits.{operator};
 ghost use Rattle.hose_graph.specs.Network.{IsLinkOf};
 ghost use Rattle.hose_graph.specs.declared.entry.Entry.{Entry};
 ghost use Rattle.hose_graph.specs.declared.command.Reply.{Reply};
-ghost use Rattle.hose_law.specs.Service.{service_entry};
-ghost use Rattle.hose_core.specs.Claiming.{IsServiceClaim};
-ghost use Rattle.hose_core.specs.Serving.{service_command, service_reply};
-ghost use Rattle.hose_core.specs.Stepping.{HaveAnswered, StepsAtEach};
+ghost use Rattle.hose_law.specs.steps.Service.{service_entry};
+ghost use Rattle.hose_core.specs.steps.Claiming.{IsServiceClaim};
+ghost use Rattle.hose_core.specs.steps.Serving.{service_command, service_reply};
+ghost use Rattle.hose_core.specs.steps.Stepping.{HaveAnswered, StepsAtEach};
 
 use crate::claim::Claim;
 use crate::entering::enter;

@@ -1,19 +1,19 @@
 // A book with the quotes of its customers.
 ghost use Rattle.std.specs.Prelude.{◌≡◌, ℕ, ◌≤◌, List, Some};
-ghost use Rattle.hose_graph.specs.Naming.{AsksOf, NamesPlaces};
+ghost use Rattle.hose_graph.specs.steps.Naming.{AsksOf, NamesPlaces};
 ghost use Rattle.hose_graph.specs.Network.{IsLinkOf};
 ghost use Rattle.hose_graph.specs.declared.command.Command.{Command};
 ghost use Rattle.hose_graph.specs.declared.entry.Entry.{Entry};
 ghost use Rattle.hose_graph.specs.declared.limits.TheConstants.{MOST_EPOCH, MOST_QUOTES};
-ghost use Rattle.hose_law.specs.Plan.{AreNodes};
+ghost use Rattle.hose_law.specs.steps.Plan.{AreNodes};
 ghost use Rattle.hose_law.specs.Quotes.{free_number, nothing_held};
-ghost use Rattle.hose_book.specs.Commit.{IsMet};
+ghost use Rattle.hose_book.specs.steps.Commit.{IsMet};
 ghost use Rattle.hose_book.specs.Ledger.{HasBookOf};
 ghost use Rattle.hose_book.specs.declared.books.Committed.{Committed};
-ghost use Rattle.hose_core.specs.Bound.{admission_of};
-ghost use Rattle.hose_core.specs.Holding.{IsMadeAt, quotes_of};
-ghost use Rattle.hose_core.specs.Serving.{service_command};
-ghost use Rattle.hose_core.specs.Stepping.{FitsHistory, HaveAnswered, Steps, committed_of};
+ghost use Rattle.hose_core.specs.steps.Bound.{admission_of};
+ghost use Rattle.hose_core.specs.steps.Holding.{IsMadeAt, quotes_of};
+ghost use Rattle.hose_core.specs.steps.Serving.{service_command};
+ghost use Rattle.hose_core.specs.steps.Stepping.{FitsHistory, HaveAnswered, Steps, committed_of};
 
 use crate::admitting::admit_now;
 use crate::by_customer::QuotesByCustomer;
@@ -41,7 +41,7 @@ pub struct Core<K: Books + Drop> {
 
 impl<K: Books + Drop> Model for Core<K> {
     ghost use Rattle.std.specs.Prelude.{ℕ, List};
-    ghost use Rattle.hose_core.specs.Holding.{AreKept, State, quotes_in};
+    ghost use Rattle.hose_core.specs.steps.Holding.{AreKept, State, quotes_in};
 
     ghost Value = { State K };
 

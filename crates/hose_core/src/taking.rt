@@ -7,9 +7,9 @@ ghost use Rattle.hose_law.specs.Book.{Book};
 ghost use Rattle.hose_law.specs.Decision.{HaveEqualGrounds};
 ghost use Rattle.hose_law.specs.Quotes.{Held, HeldQuote, at_number};
 ghost use Rattle.hose_book.specs.Ledger.{HasBookOf};
-ghost use Rattle.hose_core.specs.Claiming.{IsClaimOf};
-ghost use Rattle.hose_core.specs.Holding.{HasGroundsSince, IsMade, IsMadeAt, IsQuoteOf};
-ghost use Rattle.hose_core.specs.Stepping.{AdmitsCheapest, HasStepped, HaveAnswered, Takes, TellsPlan};
+ghost use Rattle.hose_core.specs.steps.Claiming.{IsClaimOf};
+ghost use Rattle.hose_core.specs.steps.Holding.{HasGroundsSince, IsMade, IsMadeAt, IsQuoteOf};
+ghost use Rattle.hose_core.specs.steps.Stepping.{AdmitsCheapest, HasStepped, HaveAnswered, Takes, TellsPlan};
 
 use crate::claim::Claim;
 use crate::entering::enter_planned;

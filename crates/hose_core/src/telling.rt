@@ -1,13 +1,13 @@
 // What a book tells: a VPN, a customer's VPNs, or a link.
 ghost use Rattle.std.specs.Prelude.{◌≡◌, ◌<◌, ℕ, List, None, length};
-ghost use Rattle.hose_graph.specs.Naming.{NamesPlaces};
+ghost use Rattle.hose_graph.specs.steps.Naming.{NamesPlaces};
 ghost use Rattle.hose_graph.specs.Network.{IsLinkOf};
 ghost use Rattle.hose_graph.specs.declared.command.Command.{Command};
 ghost use Rattle.hose_law.specs.Answer.{IsLinkAnswer, IsShowAnswer};
 ghost use Rattle.hose_law.specs.Book.{HasVpn};
 ghost use Rattle.hose_book.specs.declared.books.Committed.{Committed};
-ghost use Rattle.hose_core.specs.Stepping.{StepsAtEach, committed_of};
-ghost use Rattle.hose_core.specs.Telling.{AreShown, IsShown};
+ghost use Rattle.hose_core.specs.steps.Stepping.{StepsAtEach, committed_of};
+ghost use Rattle.hose_core.specs.steps.Telling.{AreShown, IsShown};
 
 use hose_book::{Book, Books};
 use hose_graph::{Name, Reply};

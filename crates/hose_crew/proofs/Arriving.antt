@@ -1,11 +1,12 @@
 -- Connections that arrive, one after another.
 use Rattle.std.proofs.Common.{◌≡◌, ◌∙◌, ℕ, zero, suc, ◌+◌, List, [], ◌∷◌, drop, is_some, false, Option, None, Some, Result, refl, subst, sym, arith}
 use Rattle.std.proofs.Math.Numerals.{suc-eq-add-one}
-use Rattle.hose_io.specs.Connections.{Accepts, Connections}
+use Rattle.hose_io.specs.Connections.{Connections}
+use Rattle.hose_io.specs.steps.Connections.{Accepts}
 use Rattle.hose_io.specs.Frame.{Frame}
 use Rattle.hose_io.specs.Stream.{Stream}
 use Rattle.hose_io.specs.declared.Failed.{Failed}
-use Rattle.hose_crew.specs.Desk.{AreArrived, GoesSo, Started}
+use Rattle.hose_crew.specs.steps.Desk.{AreArrived, GoesSo, Started}
 
 drop_next : (xs ys : List (List ℕ)) (x : List ℕ) (n : ℕ) → x ∷ ys ≡ drop n xs → ys ≡ drop (suc n) xs
 drop_next [] ys x zero same = cc same

@@ -2,17 +2,20 @@
 use Rattle.std.proofs.Common.{◌≡◌, ◌∙◌, ◌⊎◌, inl, inr, ℕ, suc, All, ◌+◌, ◌≤◌, List, [], ◌∷◌, ◌++◌, length, Option, None, Some, Result, Ok, Err, OnOk, refl, sym, ap, subst, arith, append-nil}
 use Rattle.std.specs.Prelude.{⊤}
 use mathlib.Core.List.{IsPrefix}
-use Rattle.hose_io.specs.Connections.{AreUsedUp, Connection, Connections}
+use Rattle.hose_io.specs.Connections.{Connection, Connections}
+use Rattle.hose_io.specs.steps.Connections.{AreUsedUp}
 use Rattle.hose_io.specs.Frame.{Frame, Met}
 use Rattle.hose_io.specs.declared.Failed.{Failed}
 use Rattle.hose_io.specs.declared.door.Door.{Ghosts as DoorGhosts}
 use Rattle.hose_law.proofs.Fronts.{prefix_same}
 use Rattle.hose_session.specs.Accounts.{AccountFor}
-use Rattle.hose_shared.specs.Sharing.{IsPassOf, SharedBook}
-use Rattle.hose_turn.specs.Known.{HasOwnPlaces, Known}
-use Rattle.hose_crew.specs.Crew.{AreServed, ServesDoor}
-use Rattle.hose_crew.specs.Desk.{AreArrived, HasStopped, started_at}
-use Rattle.hose_crew.specs.Hands.{AreBack, IsGathered}
+use Rattle.hose_shared.specs.steps.Sharing.{IsPassOf, SharedBook}
+use Rattle.hose_turn.specs.Known.{Known}
+use Rattle.hose_turn.specs.steps.Known.{HasOwnPlaces}
+use Rattle.hose_crew.specs.Crew.{AreServed}
+use Rattle.hose_crew.specs.steps.Crew.{ServesDoor}
+use Rattle.hose_crew.specs.steps.Desk.{AreArrived, HasStopped, started_at}
+use Rattle.hose_crew.specs.steps.Hands.{AreBack, IsGathered}
 
 pub all_first : {A : Type 0} (P : A → Type 0) (first : A) (rest : List A) → All P (first ∷ rest) → P first
 all_first P first rest all = all 0 first (omega arith)

@@ -1,11 +1,12 @@
 -- Connections that come back to a door, one after another.
 use Rattle.std.proofs.Common.{◌≡◌, ◌∙◌, ℕ, suc, ◌+◌, ◌≤◌, List, [], ◌∷◌, ◌++◌, length, map, IsTrue, IsSome, is_some, Option, None, Some, refl, sym, ap, subst, arith, length-append, append_assoc, append-nil}
 use Rattle.std.proofs.lemmas.List.{map-append}
-use Rattle.hose_io.specs.Connections.{AreAccounted, ComesBack, Connection, Connections, MayComeBack}
+use Rattle.hose_io.specs.Connections.{Connection, Connections}
+use Rattle.hose_io.specs.steps.Connections.{AreAccounted, ComesBack, MayComeBack}
 use Rattle.hose_session.specs.Accounts.{AccountFor}
 use Rattle.hose_turn.specs.Known.{Known}
-use Rattle.hose_crew.specs.Desk.{AreArrived}
-use Rattle.hose_crew.specs.Hands.{Accounts, AllComeBack, AllMayComeBack, AreBack}
+use Rattle.hose_crew.specs.steps.Desk.{AreArrived}
+use Rattle.hose_crew.specs.steps.Hands.{Accounts, AllComeBack, AllMayComeBack, AreBack}
 
 pub none_back : (told : Option Connections) → AllComeBack told told []
 none_back None = tt

@@ -1,6 +1,7 @@
 -- A session that was served over the ends of a connection, as a connection that ended.
 use Rattle.std.proofs.Common.{◌≡◌, inl, inr, ℕ, List, [], ◌∷◌, ◌++◌, length, Option, None, Some, refl, subst}
-use Rattle.hose_io.specs.Connections.{Connection, IsConnection, connection_of}
+use Rattle.hose_io.specs.Connections.{Connection}
+use Rattle.hose_io.specs.steps.Connections.{IsConnection, connection_of}
 use Rattle.hose_io.specs.Stream.{Gives, Grows, Stream}
 use Rattle.hose_io.specs.declared.sink.Sink.{Ghosts as SinkGhosts}
 use Rattle.hose_io.specs.declared.source.Source.{Ghosts as SourceGhosts}
@@ -8,8 +9,10 @@ use Rattle.hose_graph.specs.Network.{Network}
 use Rattle.hose_graph.specs.declared.entry.Entry.{Entry}
 use Rattle.hose_graph.specs.declared.command.Reply.{Reply}
 use Rattle.hose_law.specs.Transcript.{SessionLine}
-use Rattle.hose_session.specs.Accounts.{AccountFor, ComeTo}
-use Rattle.hose_session.specs.Session.{IsSession, ServesSession, Telling}
+use Rattle.hose_session.specs.Accounts.{AccountFor}
+use Rattle.hose_session.specs.steps.Accounts.{ComeTo}
+use Rattle.hose_session.specs.Session.{IsSession, Telling}
+use Rattle.hose_session.specs.steps.Session.{ServesSession}
 use Rattle.hose_session.specs.declared.ending.SessionEnd.{SessionEnd}
 use Rattle.hose_session.specs.declared.ending.SessionEnd.TheVariants as session_end
 use Rattle.hose_turn.specs.Known.{Known}

@@ -6,12 +6,12 @@ use Rattle.hose_io.specs.Connections.{Connection, Connections}
 use Rattle.hose_law.proofs.Fronts.{prefix_on}
 use Rattle.hose_session.specs.Accounts.{AccountFor}
 use Rattle.hose_session.proofs.Accounting.{none_accounts}
-use Rattle.hose_shared.specs.Sharing.{IsSamePass}
+use Rattle.hose_shared.specs.steps.Sharing.{IsSamePass}
 use Rattle.hose_shared.proofs.Passes.{more_same}
 use Rattle.hose_turn.specs.Known.{Known}
 use Rattle.hose_turn.proofs.Places.{no_places}
 use Rattle.hose_turn.specs.declared.view.Origin.{Origin}
-use Rattle.hose_crew.specs.Hands.{PlaceState, Works, part_of}
+use Rattle.hose_crew.specs.steps.Hands.{PlaceState, Works, part_of}
 
 -- a place that was just taken
 pub begins_work : (told : Option Connections) (first : Known) (place : PlaceState) (ended : List (Option Connection)) → place.pass ≡ part_of first → place.parts ≡ 1 → place.amount ≡ 0 → ended ≡ [] → Works told first place ended

@@ -1,3 +1,2 @@
 pub mod Crew
-pub mod Desk
-pub mod Hands
+pub mod steps

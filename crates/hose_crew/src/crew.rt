@@ -1,11 +1,11 @@
 // A crew from its start to its end.
 ghost use Rattle.std.specs.Prelude.{◌≡◌, ◌+◌, ◌<◌, ◌≤◌, [], All, IfOk, length};
 ghost use mathlib.Core.List.{IsPrefix};
-ghost use Rattle.hose_io.specs.Connections.{AreAccounted};
-ghost use Rattle.hose_shared.specs.Sharing.{IsPassOf};
-ghost use Rattle.hose_crew.specs.Crew.{ServesDoor};
-ghost use Rattle.hose_crew.specs.Desk.{AreArrived, HasStopped, started_at};
-ghost use Rattle.hose_crew.specs.Hands.{AreBack, HasWorked, HaveWorked, IsGathered, IsIdle, MayServe};
+ghost use Rattle.hose_io.specs.steps.Connections.{AreAccounted};
+ghost use Rattle.hose_shared.specs.steps.Sharing.{IsPassOf};
+ghost use Rattle.hose_crew.specs.steps.Crew.{ServesDoor};
+ghost use Rattle.hose_crew.specs.steps.Desk.{AreArrived, HasStopped, started_at};
+ghost use Rattle.hose_crew.specs.steps.Hands.{AreBack, HasWorked, HaveWorked, IsGathered, IsIdle, MayServe};
 
 use crate::desk::{Closed, Desk, DoorStart, LockedDesk};
 use crate::hand::{GatheredCrew, Hand, Place, Work};
@@ -40,8 +40,8 @@ pub struct Crew<L: Door, N: DoorStart> {
 impl<L: Door, N: DoorStart> Model for Crew<L, N> {
     ghost use Rattle.std.specs.Prelude.{◌<◌, ◌≤◌, All, length};
     ghost use Rattle.hose_pool.specs.declared.rows.TheConstants.{MOST_WORKERS};
-    ghost use Rattle.hose_crew.specs.Crew.{CrewState};
-    ghost use Rattle.hose_crew.specs.Hands.{IsIdle};
+    ghost use Rattle.hose_crew.specs.steps.Crew.{CrewState};
+    ghost use Rattle.hose_crew.specs.steps.Hands.{IsIdle};
 
     ghost Value = { CrewState };
 

@@ -1,6 +1,6 @@
 // The door under its lock.
 ghost use Rattle.std.specs.Prelude.{◌≡◌, ◌+◌, ◌<◌, ◌≤◌, IfNone, IfSome, IsSome};
-ghost use Rattle.hose_crew.specs.Desk.{AreArrived, AreFresh, DeskState, HasStopped, Started, started_at};
+ghost use Rattle.hose_crew.specs.steps.Desk.{AreArrived, AreFresh, DeskState, HasStopped, Started, started_at};
 
 use hose_io::{Door, Failed};
 use std::marker::{Brand, Model};
@@ -69,7 +69,7 @@ pub struct Desk<L: Door, N: DoorStart> {
 }
 
 impl<L: Door, N: DoorStart> Model for Desk<L, N> {
-    ghost use Rattle.hose_crew.specs.Desk.{DeskState, IsDesk};
+    ghost use Rattle.hose_crew.specs.steps.Desk.{DeskState, IsDesk};
 
     ghost Value = { DeskState L };
 

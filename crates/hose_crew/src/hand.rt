@@ -1,11 +1,12 @@
 // A worker and what it has in hand.
 ghost use Rattle.std.specs.Prelude.{◌≡◌, ◌+◌, ◌<◌, ◌≤◌, ◌∷◌, [], ◌++◌, IfOk, IsTrue, List, Option, Some, is_some, map, vec_capacity};
 ghost use mathlib.Core.List.{IsPrefix};
-ghost use Rattle.hose_io.specs.Connections.{AreAccounted, Connection};
+ghost use Rattle.hose_io.specs.Connections.{Connection};
+ghost use Rattle.hose_io.specs.steps.Connections.{AreAccounted};
 ghost use Rattle.hose_session.specs.Accounts.{AccountFor};
-ghost use Rattle.hose_shared.specs.Sharing.{IsPassOf, IsSamePass};
-ghost use Rattle.hose_crew.specs.Desk.{AreArrived, AreFresh};
-ghost use Rattle.hose_crew.specs.Hands.{AllComeBack, AllMayComeBack, AreBack, HasWorked, IsGathered, IsIdle, MayServe, Works, part_of};
+ghost use Rattle.hose_shared.specs.steps.Sharing.{IsPassOf, IsSamePass};
+ghost use Rattle.hose_crew.specs.steps.Desk.{AreArrived, AreFresh};
+ghost use Rattle.hose_crew.specs.steps.Hands.{AllComeBack, AllMayComeBack, AreBack, HasWorked, IsGathered, IsIdle, MayServe, Works, part_of};
 
 use crate::desk::{Accept, Accepted, DoorStart};
 use hose_disk::Disk;
@@ -38,7 +39,7 @@ pub struct Place<N: DoorStart> {
 }
 
 impl<N: DoorStart> Model for Place<N> {
-    ghost use Rattle.hose_crew.specs.Hands.{PlaceState};
+    ghost use Rattle.hose_crew.specs.steps.Hands.{PlaceState};
 
     ghost Value = { PlaceState };
 
@@ -67,7 +68,7 @@ pub struct Hand<L: Door, N: DoorStart> {
 
 impl<L: Door, N: DoorStart> Model for Hand<L, N> {
     ghost use Rattle.std.specs.Prelude.{vec_capacity};
-    ghost use Rattle.hose_crew.specs.Hands.{HandState};
+    ghost use Rattle.hose_crew.specs.steps.Hands.{HandState};
 
     ghost Value = { HandState L.Done };
 

@@ -2,12 +2,13 @@
 use Rattle.std.proofs.Common.{◌≡◌, ◌⊎◌, ◌↔◌, inl, inr, ℕ, Bool, true, false, IsTrue, IsFalse, List, length, Contains, Some, refl, sym, ◌∙◌, ap, subst}
 use Rattle.std.proofs.lemmas.Bool.{false≢true}
 use Rattle.std.specs.Prelude.{Result, Ok, Err, OnOk, OnErr, is_err, ⊤}
-use Rattle.hose_io.specs.Faults.{one_fault, one_starved}
+use Rattle.hose_io.specs.steps.Faults.{one_fault, one_starved}
 use Rattle.hose_io.specs.declared.Failed.{Failed}
-use Rattle.hose_disk.specs.Disk.{StepsTo, NoneNew, Elapses}
-use Rattle.hose_disk.specs.Images.{DiskStep, IsImage, LeftSince}
-use Rattle.hose_disk.specs.Recording.{CallRecord, with_call, reads}
-use Rattle.hose_disk.specs.MemState.{Ends, IsMemCall, MemState, ToFail, after_kind, content_of, image_of, left_since_of, moment_of, of_kind}
+use Rattle.hose_disk.specs.Disk.{NoneNew}
+use Rattle.hose_disk.specs.steps.Disk.{StepsTo, Elapses}
+use Rattle.hose_disk.specs.steps.Images.{DiskStep, IsImage, LeftSince}
+use Rattle.hose_disk.specs.steps.Recording.{CallRecord, with_call, reads}
+use Rattle.hose_disk.specs.steps.MemState.{Ends, IsMemCall, MemState, ToFail, after_kind, content_of, image_of, left_since_of, moment_of, of_kind}
 use Rattle.hose_disk.specs.declared.call.DiskCall.{DiskCall}
 use Rattle.hose_disk.proofs.Images.{elapses, elapses_same}
 

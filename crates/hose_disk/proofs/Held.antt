@@ -2,7 +2,7 @@
 use Rattle.std.proofs.Common.{◌≡◌, ◌≢◌, ℕ, List, [], ◌∷◌, Option, None, Some, Bool, true, false, if◌then◌else◌, refl, sym, ◌∙◌, ap, subst}
 use Rattle.std.proofs.lemmas.Slice.Eq.{bytes_eq-Decides}
 use Rattle.std.specs.Str.{bytes_eq}
-use Rattle.hose_disk.specs.CabinetState.{NamedItem, ShelfState, item_of, without, held_where, shelf_after_taking}
+use Rattle.hose_disk.specs.steps.CabinetState.{NamedItem, ShelfState, item_of, without, held_where, shelf_after_taking}
 
 not_true : (b : Bool) → (b ≡ true → ⊥) → b ≡ false
 not_true true never = absurd (never refl)

@@ -1,8 +1,9 @@
 -- How the images of a disk in memory change at its calls.
 use Rattle.std.proofs.Common.{◌≡◌, ◌⊎◌, inl, inr, ℕ, zero, suc, ◌-◌, ◌+◌, ◌≤◌, min, List, [], ◌∷◌, ◌++◌, length, take, drop, refl, sym, ◌∙◌, ap, subst, arith, length-append, length-drop, append_assoc}
 use Rattle.std.proofs.lemmas.List.{take_at, drop_at, take_all, length-take, length-take-le}
-use Rattle.hose_disk.specs.Disk.{Torn, IsCut, StepsTo, NoneNew, Only, Elapses}
-use Rattle.hose_disk.specs.Images.{DiskStep, idle, wrote, tried_write, cut_to, tried_cut, synced, overwritten, read_of, IsImage, LeftSince}
+use Rattle.hose_disk.specs.Disk.{NoneNew}
+use Rattle.hose_disk.specs.steps.Disk.{Torn, IsCut, StepsTo, Only, Elapses}
+use Rattle.hose_disk.specs.steps.Images.{DiskStep, idle, wrote, tried_write, cut_to, tried_cut, synced, overwritten, read_of, IsImage, LeftSince}
 
 -- nothing of it was done
 pub torn_same : (at count : ℕ) (old : List ℕ) → Torn at count old old

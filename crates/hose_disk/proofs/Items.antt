@@ -1,7 +1,7 @@
 -- Where the first item of a name stands.
 use Rattle.std.proofs.Common.{◌≡◌, ℕ, zero, suc, ◌<◌, List, [], ◌∷◌, length, None, true, false, get_or, refl, ap, subst, arith}
 use Rattle.std.specs.Str.{bytes_eq}
-use Rattle.hose_disk.specs.CabinetState.{NamedItem, IsPlaceOf, item_of, without}
+use Rattle.hose_disk.specs.steps.CabinetState.{NamedItem, IsPlaceOf, item_of, without}
 
 module _ {A : Type 0} (name : List ℕ) where
   -- none of the first so many items has the name

@@ -3,10 +3,10 @@ use Rattle.std.proofs.Common.{◌≡◌, ◌⊎◌, inl, inr, ℕ, zero, suc, �
 use Rattle.std.proofs.lemmas.List.{length-replicate, length-take, reverse-append, map-append, length-reverse, length-map, length-drop, take-append-drop, drop_at, take_more}
 use Rattle.std.proofs.lemmas.Bool.{cases_lt}
 use native.Mathlib.Nat.{le_trans}
-use Rattle.hose_disk.specs.Disk.{Torn}
-use Rattle.hose_disk.specs.Images.{DiskStep, idle, wrote, tried_write, cut_to, tried_cut, synced, read_after, read_of, AreInRange, CallsMake, IsImage, WasImage, LeftSince, calls_at}
-use Rattle.hose_disk.specs.Picks.{filled, picked}
-use Rattle.hose_disk.specs.Recording.{CallRecord, step_of, steps_of}
+use Rattle.hose_disk.specs.steps.Disk.{Torn}
+use Rattle.hose_disk.specs.steps.Images.{DiskStep, idle, wrote, tried_write, cut_to, tried_cut, synced, read_after, read_of, AreInRange, CallsMake, IsImage, WasImage, LeftSince, calls_at}
+use Rattle.hose_disk.specs.steps.Picks.{filled, picked}
+use Rattle.hose_disk.specs.steps.Recording.{CallRecord, step_of, steps_of}
 use Rattle.hose_disk.specs.declared.recording.Pick.{Pick}
 use Rattle.hose_disk.specs.declared.recording.Pick.TheVariants.{Kept, Lost, Fill}
 use Rattle.hose_disk.specs.declared.recording.Recorded.{Recorded}

@@ -1,5 +1,5 @@
 -- What the calls of a cabinet do to its frame, and what they give.
-use Rattle.std.specs.Prelude.{◌≡◌, ℕ, ◌≤◌, List, [], length, take, drop, Option, None, Some, Bool, true, false, if◌then◌else◌, IsTrue, Result, OnOk, OnErr}
+use Rattle.std.specs.Prelude.{◌≡◌, ℕ, List, [], Option, None, Some, Bool, true, false, if◌then◌else◌, IsTrue, Result, OnOk, OnErr}
 use Rattle.hose_io.specs.Count.{one_more}
 use Rattle.hose_io.specs.Frame.{Frame, Met}
 use Rattle.hose_io.specs.declared.Failed.{Failed}
@@ -21,15 +21,6 @@ pub record CabinetFrame : Type 0 where
 abbrev pub object_of : CabinetFrame → Frame
 object_of cabinet = record { faults = cabinet.faults; number = 0; loan = [] }
 
--- What asking for a text does to the frame: its failure has a cause.
-pub record IsTextCall {T : Type 0} (before after : CabinetFrame) (result : Result T Failed) :
-    Type 0 where
-  pub met : Met (object_of before) (object_of after) result
-  pub absent : before.absent ≤ after.absent
-  pub returned : after.returned ≡ before.returned
-  pub out : after.out ≡ before.out
-  pub tells : after.tells ≡ before.tells
-
 -- What opening a disk does to the frame: its failure has a cause, and its success takes it out.
 pub record IsDiskCall {T : Type 0} (name : List ℕ) (before after : CabinetFrame)
     (result : Result T Failed) : Type 0 where
@@ -49,11 +40,6 @@ after_back disk cabinet = record cabinet {
   out = None;
 }
 
--- how many texts that are not there were asked for, after one that is this was
-abbrev pub absent_after : Option (List ℕ) → ℕ → ℕ
-absent_after None absent = one_more absent
-absent_after (Some bytes) absent = absent
-
 -- ---- texts and disks
 
 -- where a cabinet tells, there is this, and it is so
@@ -64,11 +50,6 @@ Has {A} tells found Is = IsTrue tells → (value : A) × (found ≡ Some value) 
 abbrev pub where_told : {A : Type 0} → Bool → A → Option A
 where_told true value = Some value
 where_told false value = None
-
--- a read of a text from a place gave the front of these, of this length
-pub record IsTextAt (from count : ℕ) (bytes got : List ℕ) : Type 0 where
-  pub bytes_there : take count got ≡ take count (drop from bytes)
-  pub none_only_at_end : count ≡ 0 → length bytes ≤ from
 
 -- the frame of a disk that was opened at this moment, and on which no call was made since
 abbrev pub opened_at : ℕ → DiskFrame

@@ -1,6 +1,7 @@
 // Where named texts and named disks are: its contract.
 ghost use Rattle.std.specs.Prelude.{◌≡◌, ◌≢◌, ◌<◌, ◌≤◌, ℕ, List, Option, None, IfOk, IfSome, IsErr, IsFalse, IsSome, IsTrue, OnErr, length};
-ghost use Rattle.hose_disk.specs.Cabinet.{CabinetFrame, IsTextCall, IsDiskCall, IsTextAt, Has, where_told, opened_at, absent_after, after_back};
+ghost use Rattle.hose_disk.specs.Cabinet.{CabinetFrame, IsDiskCall, Has, where_told, opened_at, after_back};
+ghost use Rattle.hose_disk.specs.steps.Cabinet.{IsTextCall, IsTextAt, absent_after};
 ghost use Rattle.hose_disk.specs.Disk.{NoneNew};
 
 use crate::disk::Disk;

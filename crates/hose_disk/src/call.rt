@@ -1,6 +1,6 @@
 // The kinds of calls of a disk, and which calls of each are to fail.
 ghost use Rattle.std.specs.Prelude.{◌≡◌, ◌↔◌, [], ◌∷◌, ◌++◌, Contains, IsTrue, OnOk, OnErr};
-ghost use Rattle.hose_disk.specs.MemState.{of_kind, with_kind, after_kind, none_to_fail};
+ghost use Rattle.hose_disk.specs.steps.MemState.{of_kind, with_kind, after_kind, none_to_fail};
 
 use hose_io::FailingCalls;
 use std::alloc::{AllocError, Global};
@@ -27,7 +27,7 @@ pub struct FailingByKind {
 }
 
 impl Model for FailingByKind {
-    ghost use Rattle.hose_disk.specs.MemState.{ToFail};
+    ghost use Rattle.hose_disk.specs.steps.MemState.{ToFail};
 
     ghost Value = { ToFail };
 

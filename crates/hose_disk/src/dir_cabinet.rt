@@ -95,7 +95,7 @@ impl<F: Files<File = File> + AllocGlobal + Drop> DirCabinet<F> {
 }
 
 impl<F: Files<File = File> + AllocGlobal + Drop> Cabinet for DirCabinet<F> {
-    ghost use Rattle.hose_disk.specs.Untold.{untold_bytes, untold_disk};
+    ghost use Rattle.hose_disk.specs.steps.Untold.{untold_bytes, untold_disk};
 
     type Disk = FileDisk;
 

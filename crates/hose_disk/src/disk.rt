@@ -1,6 +1,7 @@
 // What is read, written and made durable: its contract.
 ghost use Rattle.std.specs.Prelude.{◌≡◌, ◌+◌, ◌<◌, ◌≤◌, ◌^◌, ℕ, List, Option, None, IfOk, IfSome, OnOk, OnErr, length, take};
-ghost use Rattle.hose_disk.specs.Disk.{DiskFrame, IsCalled, IsOverwritten, Torn, IsCut, IsTruncated, IsReadAt, Told, StepsTo, NoneNew, Only, Elapses};
+ghost use Rattle.hose_disk.specs.Disk.{DiskFrame, NoneNew};
+ghost use Rattle.hose_disk.specs.steps.Disk.{IsCalled, IsOverwritten, Torn, IsCut, IsTruncated, IsReadAt, Told, StepsTo, Only, Elapses};
 
 use hose_io::Failed;
 

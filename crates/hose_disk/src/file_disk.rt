@@ -1,6 +1,6 @@
 // A disk over a file of the system.
 ghost use Rattle.std.specs.Prelude.{◌≡◌, ◌+◌, ◌<◌, ◌≤◌, ◌^◌, Ok, IfOk, false, length};
-ghost use Rattle.hose_disk.specs.Disk.{IsCalled};
+ghost use Rattle.hose_disk.specs.steps.Disk.{IsCalled};
 
 use crate::disk::Disk;
 use hose_io::Failed;
@@ -72,7 +72,7 @@ impl FileDisk {
 }
 
 impl Disk for FileDisk {
-    ghost use Rattle.hose_disk.specs.Untold.{no_image, untold_bytes};
+    ghost use Rattle.hose_disk.specs.steps.Untold.{no_image, untold_bytes};
 
     ghost frame = { λ disk. disk };
 

@@ -1,10 +1,11 @@
 // A cabinet in memory, whose disks keep records of their calls.
 ghost use Rattle.std.specs.Prelude.{◌≡◌, ◌≢◌, ◌⊎◌, ◌↔◌, ◌-◌, ◌<◌, ◌≤◌, ℕ, List, [], ◌∷◌, ◌++◌, None, Some, true, false, Contains, IfNone, IfOk, IfSome, IsErr, IsFalse, IsSome, IsTrue, MatchResult, OnErr, OnOk, length, min};
-ghost use Rattle.hose_io.specs.Faults.{no_faults};
-ghost use Rattle.hose_disk.specs.Cabinet.{Has, IsDiskCall, IsTextAt, IsTextCall, absent_after, after_back, opened_at, where_told};
-ghost use Rattle.hose_disk.specs.CabinetState.{IsMemOpening, cabinet_after_done, cabinet_after_refusal, cabinet_after_return, cabinet_frame, held_of, item_of, text_of};
+ghost use Rattle.hose_io.specs.steps.Faults.{no_faults};
+ghost use Rattle.hose_disk.specs.Cabinet.{Has, IsDiskCall, after_back, opened_at, where_told};
+ghost use Rattle.hose_disk.specs.steps.Cabinet.{IsTextAt, IsTextCall, absent_after};
+ghost use Rattle.hose_disk.specs.steps.CabinetState.{IsMemOpening, cabinet_after_done, cabinet_after_refusal, cabinet_after_return, cabinet_frame, held_of, item_of, text_of};
 ghost use Rattle.hose_disk.specs.Disk.{NoneNew};
-ghost use Rattle.hose_disk.specs.MemState.{content_of, mem_disk_frame, image_of, moment_of};
+ghost use Rattle.hose_disk.specs.steps.MemState.{content_of, mem_disk_frame, image_of, moment_of};
 
 use crate::cabinet::Cabinet;
 use crate::mem_disk::{MemDisk, read};
@@ -40,7 +41,7 @@ pub struct MemCabinet {
 }
 
 impl Model for MemCabinet {
-    ghost use Rattle.hose_disk.specs.CabinetState.{CabinetState};
+    ghost use Rattle.hose_disk.specs.steps.CabinetState.{CabinetState};
 
     ghost Value = { CabinetState };
 
@@ -117,7 +118,7 @@ impl MemCabinet {
 }
 
 impl Cabinet for MemCabinet {
-    ghost use Rattle.hose_disk.specs.CabinetState.{cabinet_frame, held_of, text_of};
+    ghost use Rattle.hose_disk.specs.steps.CabinetState.{cabinet_frame, held_of, text_of};
 
     type Disk = MemDisk;
 

@@ -1,11 +1,12 @@
 // A disk in memory, which keeps a record of its calls.
 ghost use Rattle.std.specs.Prelude.{◌≡◌, ◌+◌, ◌<◌, ◌≤◌, ◌^◌, ℕ, ◌∷◌, ◌++◌, [], IfOk, OnOk, OnErr, length, take};
-ghost use Rattle.hose_disk.specs.CabinetState.{reopened};
-ghost use Rattle.hose_disk.specs.Disk.{IsCalled, IsOverwritten, Torn, IsCut, IsTruncated, IsReadAt, Told, StepsTo, NoneNew, Only, Elapses};
-ghost use Rattle.hose_disk.specs.Images.{IsImage, calls_at, idle, wrote, tried_write, cut_to, tried_cut, synced};
-ghost use Rattle.hose_disk.specs.MemState.{of_kind, with_kind, fresh_disk, mem_disk_frame, content_of, moment_of, image_of, left_since_of, Ends, IsMemCall};
-ghost use Rattle.hose_disk.specs.Picks.{picked};
-ghost use Rattle.hose_disk.specs.Recording.{reads};
+ghost use Rattle.hose_disk.specs.steps.CabinetState.{reopened};
+ghost use Rattle.hose_disk.specs.Disk.{NoneNew};
+ghost use Rattle.hose_disk.specs.steps.Disk.{IsCalled, IsOverwritten, Torn, IsCut, IsTruncated, IsReadAt, Told, StepsTo, Only, Elapses};
+ghost use Rattle.hose_disk.specs.steps.Images.{IsImage, calls_at, idle, wrote, tried_write, cut_to, tried_cut, synced};
+ghost use Rattle.hose_disk.specs.steps.MemState.{of_kind, with_kind, fresh_disk, mem_disk_frame, content_of, moment_of, image_of, left_since_of, Ends, IsMemCall};
+ghost use Rattle.hose_disk.specs.steps.Picks.{picked};
+ghost use Rattle.hose_disk.specs.steps.Recording.{reads};
 ghost use Rattle.hose_disk.specs.declared.call.DiskCall.TheVariants.{Len, Read, Write, Cut, Sync};
 
 use crate::call::{DiskCall, FailingByKind};
@@ -27,7 +28,7 @@ pub struct MemDisk {
 }
 
 impl Model for MemDisk {
-    ghost use Rattle.hose_disk.specs.MemState.{MemState};
+    ghost use Rattle.hose_disk.specs.steps.MemState.{MemState};
 
     ghost Value = { MemState };
 
@@ -153,8 +154,8 @@ impl MemDisk {
 impl Disk for MemDisk {
     ghost use Rattle.std.specs.Prelude.{refl};
     ghost use Rattle.std.proofs.Common.{inl};
-    ghost use Rattle.hose_disk.specs.Images.{only_now};
-    ghost use Rattle.hose_disk.specs.MemState.{mem_disk_frame, content_of, moment_of, image_of, left_since_of, some_is_told};
+    ghost use Rattle.hose_disk.specs.steps.Images.{only_now};
+    ghost use Rattle.hose_disk.specs.steps.MemState.{mem_disk_frame, content_of, moment_of, image_of, left_since_of, some_is_told};
 
     ghost frame = { mem_disk_frame };
 

@@ -1,7 +1,7 @@
 // Items and their names.
 ghost use Rattle.std.specs.Prelude.{◌≡◌, ◌<◌, IfNone, IfSome, None, length};
 ghost use Rattle.std.specs.Str.{bytes_eq};
-ghost use Rattle.hose_disk.specs.CabinetState.{IsPlaceOf, item_of, without};
+ghost use Rattle.hose_disk.specs.steps.CabinetState.{IsPlaceOf, item_of, without};
 
 use std::marker::Model;
 
@@ -13,7 +13,7 @@ pub struct Named<T> {
 }
 
 impl<T> Model for Named<T> {
-    ghost use Rattle.hose_disk.specs.CabinetState.{NamedItem};
+    ghost use Rattle.hose_disk.specs.steps.CabinetState.{NamedItem};
 
     ghost Value = { NamedItem T };
 

@@ -1,10 +1,10 @@
 // What a disk in memory held at first, a record of its calls, and which images a stop may leave.
 ghost use Rattle.std.specs.Prelude.{◌≡◌, ◌≤◌, ◌+◌, ◌^◌, ◌<◌, [], ◌∷◌, length, OnOk, OnErr, IfOk, IsFalse, IsTrue};
-ghost use Rattle.hose_disk.specs.Disk.{IsOverwritten};
-ghost use Rattle.hose_disk.specs.Picks.{filled, pick_after, picked};
-ghost use Rattle.hose_disk.specs.Images as images;
-ghost use Rattle.hose_disk.specs.Images.{idle, wrote, tried_write, cut_to, tried_cut, synced, IsImage, calls_at};
-ghost use Rattle.hose_disk.specs.Recording.{with_call, reads, step_of, steps_of};
+ghost use Rattle.hose_disk.specs.steps.Disk.{IsOverwritten};
+ghost use Rattle.hose_disk.specs.steps.Picks.{filled, pick_after, picked};
+ghost use Rattle.hose_disk.specs.steps.Images as images;
+ghost use Rattle.hose_disk.specs.steps.Images.{idle, wrote, tried_write, cut_to, tried_cut, synced, IsImage, calls_at};
+ghost use Rattle.hose_disk.specs.steps.Recording.{with_call, reads, step_of, steps_of};
 
 use std::alloc::{AllocError, Global};
 use std::marker::Model;
@@ -42,8 +42,8 @@ pub struct Recording {
 
 impl Model for Recording {
     ghost use Rattle.std.specs.Prelude.{◌≡◌, ◌<◌, ◌^◌, length};
-    ghost use Rattle.hose_disk.specs.Images.{read_of, AreInRange};
-    ghost use Rattle.hose_disk.specs.Recording.{CallRecord, steps_of};
+    ghost use Rattle.hose_disk.specs.steps.Images.{read_of, AreInRange};
+    ghost use Rattle.hose_disk.specs.steps.Recording.{CallRecord, steps_of};
 
     ghost Value = { CallRecord };
 

@@ -1,6 +1,6 @@
 // The disks of a cabinet in memory, of which one may be out.
 ghost use Rattle.std.specs.Prelude.{◌≡◌, ◌<◌, None, IfOk, IfSome, IsSome, OnErr, OnOk, [], ◌∷◌, vec_capacity, vec_len};
-ghost use Rattle.hose_disk.specs.CabinetState.{shelf_after_putting, shelf_after_taking, item_of, or_empty, without};
+ghost use Rattle.hose_disk.specs.steps.CabinetState.{shelf_after_putting, shelf_after_taking, item_of, or_empty, without};
 
 use crate::mem_disk::MemDisk;
 use crate::named::{Named, place_of};
@@ -17,7 +17,7 @@ pub struct Shelf {
 
 impl Model for Shelf {
     ghost use Rattle.std.specs.Prelude.{◌<◌, IsSome, option_map, vec_capacity, vec_len};
-    ghost use Rattle.hose_disk.specs.CabinetState.{ShelfState};
+    ghost use Rattle.hose_disk.specs.steps.CabinetState.{ShelfState};
 
     ghost Value = { ShelfState };
 

@@ -1,10 +1,10 @@
 // A door over a port of the network.
 ghost use Rattle.std.specs.Prelude.{◌≡◌, ◌≤◌, false, true, None, Some, IfOk, IsErr, IsFalse, IsSome, MatchOption, MatchResult};
-ghost use Rattle.hose_io.specs.Connections.{Accepts, AreAccounted, AreUsedUp, IsConnection};
+ghost use Rattle.hose_io.specs.steps.Connections.{Accepts, AreAccounted, AreUsedUp, IsConnection};
 ghost use Rattle.hose_io.specs.Count.{one_more};
 ghost use Rattle.hose_io.specs.Frame.{Met, Rose};
-ghost use Rattle.hose_io.specs.StdState.{untold_stream, untold_text};
-ghost use Rattle.hose_door.specs.TcpState.{tcp_frame, std_sink, std_source, untold_connections};
+ghost use Rattle.hose_io.specs.steps.StdState.{untold_stream, untold_text};
+ghost use Rattle.hose_door.specs.steps.TcpState.{tcp_frame, std_sink, std_source, untold_connections};
 
 use crate::arrival::{accept_from, in_two, listen};
 use hose_io::{Door, Failed, StdSink, StdSource};
@@ -42,7 +42,7 @@ pub struct TcpDoor<N> {
 
 impl<N> Model for TcpDoor<N> {
     ghost use Rattle.std.specs.Prelude.{is_some};
-    ghost use Rattle.hose_door.specs.TcpState.{TcpState};
+    ghost use Rattle.hose_door.specs.steps.TcpState.{TcpState};
 
     ghost Value = { TcpState };
 
@@ -110,7 +110,7 @@ impl<N: Clock> TcpDoor<N> {
 }
 
 impl<N: Net<Listener = TcpListener, Stream = TcpStream> + Clock + Drop> Door for TcpDoor<N> {
-    ghost use Rattle.hose_door.specs.TcpState.{tcp_frame, untold_connection, untold_connections};
+    ghost use Rattle.hose_door.specs.steps.TcpState.{tcp_frame, untold_connection, untold_connections};
 
     type In = StdSource<TcpStream>;
 

@@ -3,7 +3,8 @@ use Rattle.std.proofs.Common.{◌≡◌, ◌∙◌, ℕ, ◌+◌, ◌≤◌, Lis
 use Rattle.std.specs.List.{slice_range}
 use Rattle.std.specs.Result.{result_unwrap_or}
 use Rattle.std.proofs.lemmas.List.{take_at}
-use Rattle.hose_io.specs.Stream.{Appends, Gives, IsAtEnd, Stream}
+use Rattle.hose_io.specs.Stream.{Gives, IsAtEnd, Stream}
+use Rattle.hose_io.specs.steps.Stream.{Appends}
 use Rattle.hose_io.specs.declared.Failed.{Failed}
 use Rattle.hose_io.proofs.Parts.{appended}
 

@@ -6,10 +6,10 @@ use Rattle.hose_io.specs.declared.source.Source.{Ghosts as SourceGhosts}
 use Rattle.hose_io.proofs.Frames.{Stays-none}
 use Rattle.hose_disk.specs.Disk.{object_frame}
 use Rattle.hose_disk.specs.declared.disk.Disk.{Ghosts as DiskGhosts}
-use Rattle.hose_store.specs.Store.{KeptStore}
+use Rattle.hose_store.specs.steps.Store.{KeptStore}
 use Rattle.hose_io.proofs.Streams.{Gives-nil}
-use Rattle.hose_follow.specs.Ends.{FollowsInput}
-use Rattle.hose_follow.specs.Offering.{none_yet}
+use Rattle.hose_follow.specs.steps.Ends.{FollowsInput}
+use Rattle.hose_follow.specs.steps.Offering.{none_yet}
 use Rattle.hose_follow.specs.Packet.{IsPacket}
 use Rattle.hose_follow.specs.declared.following.FollowEnd.TheVariants.{Memory}
 

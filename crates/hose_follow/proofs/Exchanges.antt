@@ -13,13 +13,14 @@ use Rattle.hose_io.proofs.Frames.{Stays-none, Stays-next, Stays-same}
 use Rattle.hose_io.proofs.Streams.{Grows-append, Grows-nil}
 use Rattle.hose_disk.specs.Disk.{object_frame}
 use Rattle.hose_disk.specs.declared.disk.Disk.{Ghosts as DiskGhosts}
-use Rattle.hose_store.specs.Store.{KeptStore}
+use Rattle.hose_store.specs.steps.Store.{KeptStore}
 use Rattle.hose_follow.specs.Answers.{TellsDiskAnswers, answer_line, offered_texts, disk_answers_in, one_if_disk_failed}
-use Rattle.hose_follow.specs.Arriving.{BeginsPacket}
-use Rattle.hose_follow.specs.Ends.{AllLinesOut, EndsSo, FollowsInput}
-use Rattle.hose_follow.specs.Offering.{AreOffered, IsOffered, none_yet, packet_more}
+use Rattle.hose_follow.specs.steps.Arriving.{BeginsPacket}
+use Rattle.hose_follow.specs.Ends.{AllLinesOut, EndsSo}
+use Rattle.hose_follow.specs.steps.Ends.{FollowsInput}
+use Rattle.hose_follow.specs.steps.Offering.{AreOffered, IsOffered, none_yet, packet_more}
 use Rattle.hose_follow.specs.Packet.{BeginsNoPacket, IsPacket, IsPartOfPacket, Packet, packet_bytes, packets_bytes}
-use Rattle.hose_follow.specs.Exchanging.{Answers, FollowsOn, FollowState, TakesMoreBytes, TouchesNone, AdvancesTo}
+use Rattle.hose_follow.specs.steps.Exchanging.{Answers, FollowsOn, FollowState, TakesMoreBytes, TouchesNone, AdvancesTo}
 use Rattle.hose_follow.specs.declared.answers.Offered.{Offered}
 use Rattle.hose_follow.specs.declared.answers.Offered.TheVariants.{Have, Want, Differs, Memory, Unsound, Disk}
 use Rattle.hose_follow.specs.declared.following.FollowEnd.{FollowEnd}

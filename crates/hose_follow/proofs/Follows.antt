@@ -21,13 +21,15 @@ use Rattle.hose_codec.specs.Spelling.{IsEntry}
 use Rattle.hose_disk.specs.declared.disk.Disk.{Ghosts}
 use Rattle.hose_journal.specs.Chain.{chain}
 use Rattle.hose_journal.specs.Image.{Meaning, listed}
-use Rattle.hose_store.specs.Commit.{Closes, IsLeft}
+use Rattle.hose_store.specs.steps.Commit.{Closes, IsLeft}
 use Rattle.hose_store.specs.Recovery.{IsHistoryOf, IsRecoveredAs, digest_of}
-use Rattle.hose_store.specs.Store.{HasHistory, IsAmid, IsHistoryWith, KeptStore}
-use Rattle.hose_follow.specs.Event.{Event, accepts, sends, offers, stops, closes, stops_within}
-use Rattle.hose_follow.specs.Offering.{Brings, Enters, IsDue, IsOffered, epoch_of}
+use Rattle.hose_store.specs.Store.{IsHistoryWith}
+use Rattle.hose_store.specs.steps.Store.{HasHistory, IsAmid, KeptStore}
+use Rattle.hose_follow.specs.steps.Event.{Event, accepts, sends, offers, stops, closes, stops_within}
+use Rattle.hose_follow.specs.steps.Offering.{Brings, Enters, IsDue, IsOffered, epoch_of}
 use Rattle.hose_follow.specs.Packet.{Packet, packet_after}
-use Rattle.hose_follow.specs.Replication.{Happens, IsBeginning, IsFollowing, IsOfLeader, IsReopened, IsSentOf, Lead, Replication, packet_at, told_after}
+use Rattle.hose_follow.specs.Replication.{IsSentOf, packet_at}
+use Rattle.hose_follow.specs.steps.Replication.{Happens, IsBeginning, IsFollowing, IsOfLeader, IsReopened, Lead, Replication, told_after}
 use Rattle.hose_follow.specs.declared.answers.Offered.{Offered}
 use Rattle.hose_follow.specs.declared.answers.Offered.TheVariants.{Have, Want, Differs, Memory, Unsound, Disk}
 use Rattle.hose_law.proofs.Epochs.{epoch_is}

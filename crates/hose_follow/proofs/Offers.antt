@@ -4,14 +4,14 @@ use Rattle.hose_graph.specs.Network.{Network}
 use Rattle.hose_graph.specs.declared.entry.Entry.{Entry}
 use Rattle.hose_law.specs.Book.{Book}
 use Rattle.hose_law.specs.History.{IsSoundAt, book_of}
-use Rattle.hose_book.specs.GoingOn.{entry_more, none_yet as nothing_yet}
+use Rattle.hose_book.specs.steps.GoingOn.{entry_more, none_yet as nothing_yet}
 use Rattle.hose_book.specs.Ledger.{Ledger}
 use Rattle.hose_book.specs.declared.books.Committed.TheVariants as committed
 use Rattle.hose_disk.specs.declared.disk.Disk.{Ghosts}
-use Rattle.hose_store.specs.Commit.{IsLeft}
-use Rattle.hose_store.specs.Store.{HasHistory, KeptStore}
-use Rattle.hose_follow.specs.Chained.{LeadsOn}
-use Rattle.hose_follow.specs.Offering.{AreOffered, Brings, Enters, IsOffered, none_yet, packet_more}
+use Rattle.hose_store.specs.steps.Commit.{IsLeft}
+use Rattle.hose_store.specs.steps.Store.{HasHistory, KeptStore}
+use Rattle.hose_follow.specs.steps.Chained.{LeadsOn}
+use Rattle.hose_follow.specs.steps.Offering.{AreOffered, Brings, Enters, IsOffered, none_yet, packet_more}
 use Rattle.hose_follow.specs.Packet.{Packet}
 use Rattle.hose_follow.specs.declared.answers.Offered.{Offered}
 use Rattle.hose_follow.specs.declared.answers.Offered.TheVariants.{Have, Want, Differs, Memory, Unsound, Disk}

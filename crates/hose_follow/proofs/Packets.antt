@@ -4,7 +4,7 @@ use Rattle.std.proofs.lemmas.List.{length-take-le, length-drop}
 use Rattle.byteorder.specs.Endian.{big_bytes}
 use Rattle.byteorder.specs.Numbers.{length-bytes_high_first}
 use Rattle.hose_codec.specs.declared.limits.TheConstants.{MOST_SPELLING}
-use Rattle.hose_follow.specs.Arriving.{BeginsPacket}
+use Rattle.hose_follow.specs.steps.Arriving.{BeginsPacket}
 use Rattle.hose_follow.specs.Packet.{HasLength}
 
 -- a part, and what is behind it

@@ -6,7 +6,7 @@ use Rattle.std.proofs.lemmas.Grind.{flat_map-append}
 use Rattle.std.proofs.lemmas.List.{drop-append-le, drop_all, length-drop}
 use Rattle.std.specs.Option.{IfSome}
 use Rattle.hose_io.specs.Frame.{Stays}
-use Rattle.hose_io.specs.Gather.{Gathered, IsAdded, IsFinished}
+use Rattle.hose_io.specs.steps.Gather.{Gathered, IsAdded, IsFinished}
 use Rattle.hose_io.specs.declared.Failed.{Failed}
 use Rattle.hose_io.specs.Stream.{Grows}
 use Rattle.hose_io.proofs.Gathering.{IsAdded-next, IsAdded-none, IsPut-finished, none_gathered}
@@ -25,11 +25,12 @@ use Rattle.hose_journal.specs.declared.prepared.Ready.{Ready}
 use Rattle.hose_journal.proofs.Runs.{started}
 use Rattle.hose_store.specs.Entries.{BeginsWith, HasEntries}
 use Rattle.hose_store.specs.Recovery.{digest_of}
-use Rattle.hose_store.specs.Replaying.{HasReplayed, IsOnlyOpened, IsReplaying, KeepsRead}
+use Rattle.hose_store.specs.Replaying.{IsOnlyOpened, KeepsRead}
+use Rattle.hose_store.specs.steps.Replaying.{HasReplayed, IsReplaying}
 use Rattle.hose_store.specs.declared.fault.StoreFault.{StoreFault}
 use Rattle.hose_store.specs.declared.replay.Replay.{Replay}
 use Rattle.hose_follow.specs.Packet.{Packet, packet_after, packet_bytes, packets_after, packets_bytes, packets_from}
-use Rattle.hose_follow.specs.Shipping.{AddsAll, HasAdded, HasAddedAll, HasAddedUpTo, Ships, ShipsUpTo, shipped_of}
+use Rattle.hose_follow.specs.steps.Shipping.{AddsAll, HasAdded, HasAddedAll, HasAddedUpTo, Ships, ShipsUpTo, shipped_of}
 
 drop_none : {X : Type 0} (n : ℕ) (none : List X) → none ≡ [] → drop n none ≡ []
 drop_none zero none is = is

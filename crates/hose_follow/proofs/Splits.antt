@@ -5,7 +5,7 @@ use Rattle.byteorder.specs.Endian.{big_bytes}
 use Rattle.byteorder.specs.Numbers.{length-bytes_high_first}
 use Rattle.hose_codec.proofs.Numbers.{same_numbers, same_parts}
 use Rattle.hose_follow.specs.Packet.{BeginsNoPacket, HasLength, IsPacket, IsPartOfPacket, Packet, packet_bytes, packets_bytes}
-use Rattle.hose_follow.specs.Splitting.{IsSplit}
+use Rattle.hose_follow.specs.steps.Splitting.{IsSplit}
 
 -- what a packet has behind its epoch, and behind its length
 abbrev behind_epoch : Packet → List ℕ

@@ -1,14 +1,6 @@
 pub mod Answers
-pub mod Arriving
-pub mod BufferInside
-pub mod Buffered
-pub mod Chained
 pub mod Ends
-pub mod Event
-pub mod Exchanging
 pub mod Layout
-pub mod Offering
 pub mod Packet
-pub mod Shipping
-pub mod Splitting
 pub mod Replication
+pub mod steps

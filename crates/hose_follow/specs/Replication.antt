@@ -1,42 +1,14 @@
 -- A leader, the packets that it sent, and a follower that is offered them in whatever order.
-use Rattle.std.specs.Prelude.{◌≡◌, ℕ, ◌≤◌, max, List, [], ◌∷◌, ◌++◌, length, take, All, Contains, Option, Some, None, IfSome, Result, slice_get, ⊤}
-use mathlib.Core.List.{IsPrefix}
-use Rattle.hose_io.specs.declared.Failed.{Failed}
+use Rattle.std.specs.Prelude.{◌≡◌, ℕ, List, take, All, Some, slice_get}
 use Rattle.hose_graph.specs.Network.{Network}
 use Rattle.hose_graph.specs.declared.entry.Entry.{Entry}
-use Rattle.hose_law.specs.History.{book_of, IsDecided, IsDecidedAt}
+use Rattle.hose_law.specs.History.{IsDecided}
 use Rattle.hose_codec.specs.Spelling.{IsEntry}
-use Rattle.hose_disk.specs.declared.disk.Disk.{Ghosts}
-use Rattle.hose_store.specs.Commit.{Closes}
-use Rattle.hose_store.specs.Opening.{IsOpenedOn}
-use Rattle.hose_store.specs.Recovery.{IsHistoryOf}
-use Rattle.hose_store.specs.Store.{KeptStore, HasHistory}
-use Rattle.hose_follow.specs.Event.{Event, accepts, sends, offers, stops, closes, stops_within}
-use Rattle.hose_follow.specs.Offering.{IsOffered}
 use Rattle.hose_follow.specs.Packet.{Packet, packet_after}
-use Rattle.hose_follow.specs.declared.answers.Offered.{Offered}
-use Rattle.hose_follow.specs.declared.answers.Offered.TheVariants.{Have, Want, Differs, Memory, Unsound, Disk}
-
--- The leader's list, the packets that were ever sent, the follower's store, and the greatest epoch
--- that a `have` of the follower told.
-pub record Replication (D : Type 0) : Type 0 where
-  pub leader : List Entry
-  pub sent : List Packet
-  pub store : KeptStore D
-  pub told : ℕ
 
 -- the packet of a place of a list
 abbrev pub packet_at : Network → List Entry → ℕ → Entry → Packet
 packet_at network list place entry = packet_after network (take place list) entry
-
--- what `have` told, after an answer more
-abbrev pub told_after : ℕ → Offered → ℕ
-told_after told (Have n) = max told n
-told_after told (Want n) = told
-told_after told (Differs at own given) = told
-told_after told Memory = told
-told_after told (Unsound epoch) = told
-told_after told (Disk at) = told
 
 -- ---- beginnings
 
@@ -45,82 +17,9 @@ pub record IsLeader (network : Network) (list : List Entry) : Type 0 where
   pub legal : IsDecided network 0 0 list
   pub spelled : All IsEntry list
 
--- No packet was sent, and nothing was told; the follower has a beginning of the leader's list, and
--- nothing in doubt.
-pub record IsBeginning {D : Type 0} (disk : Ghosts D) (network : Network) (state : Replication D) :
-    Type 0 where
-  pub leader : IsLeader network state.leader
-  pub sent : state.sent ≡ []
-  pub told : state.told ≡ 0
-  pub is_network : state.store.ledger.network ≡ network
-  pub own : List Entry
-  pub has : HasHistory disk state.store own None
-  pub begins : IsPrefix own state.leader
-
--- ---- what happens
-
--- a store was opened on a disk that held this image
-abbrev pub IsReopened : {D : Type 0} → Ghosts D → Network → List ℕ → KeptStore D → Type 0
-IsReopened {D} disk network image store =
-    (was : D) × (disk.content was ≡ Some image) × IsOpenedOn disk was network store
-
--- An event, and what it leaves.
-abbrev pub Happens : {D : Type 0} → Ghosts D → Network → Replication D → Event D → Replication D
-    → Type 0
-Happens disk network old (accepts entry) new =
-    IsEntry entry × IsDecidedAt network (book_of 0 old.leader) entry
-    × (new ≡ record old { leader = old.leader ++ entry ∷ [] })
-Happens disk network old (sends place) new =
-    (entry : Entry) × (slice_get old.leader place ≡ Some entry)
-    × (new ≡ record old { sent = old.sent ++ packet_at network old.leader place entry ∷ [] })
-Happens disk network old (offers packet answer) new =
-    Contains old.sent packet × IsOffered disk old.store packet answer new.store
-    × (new ≡ record old { store = new.store; told = told_after old.told answer })
-Happens disk network old (stops image) new =
-    disk.may_leave old.store.journal.disk image × IsReopened disk network image new.store
-    × (new ≡ record old { store = new.store })
-Happens disk network old (closes left image) new =
-    ((result : Result ⊤ Failed) × Closes disk old.store left result)
-    × disk.left_since left (disk.moment old.store.journal.disk) image
-    × IsReopened disk network image new.store × (new ≡ record old { store = new.store })
-Happens disk network old (stops_within packet answer left image) new =
-    Contains old.sent packet × IsOffered disk old.store packet answer left
-    × disk.left_since left.journal.disk (disk.moment old.store.journal.disk) image
-    × IsReopened disk network image new.store × (new ≡ record old { store = new.store })
-
--- events, one after another
-abbrev pub Lead : {D : Type 0} → Ghosts D → Network → Replication D → List (Event D)
-    → Replication D → Type 0
-Lead disk network old [] new = new ≡ old
-Lead {D} disk network old (event ∷ events) new =
-    (middle : Replication D) × Happens disk network old event middle
-    × Lead disk network middle events new
-
 -- ---- what holds after any events
 
 -- the packet is that of some place of the list
 abbrev pub IsSentOf : Network → List Entry → Packet → Type 0
 IsSentOf network leader packet = (place : ℕ) × (entry : Entry)
     × (slice_get leader place ≡ Some entry) × (packet ≡ packet_at network leader place entry)
-
--- The follower has a beginning of the leader's list, with the entry in doubt, if there is one, and
--- without it, and in it each entry that a `have` told.
-pub record IsFollowing {D : Type 0} (disk : Ghosts D) (network : Network) (state : Replication D) :
-    Type 0 where
-  pub leader : IsLeader network state.leader
-  pub sent : All (IsSentOf network state.leader) state.sent
-  pub is_network : state.store.ledger.network ≡ network
-  pub own : List Entry
-  pub doubt : Option Entry
-  pub has : HasHistory disk state.store own doubt
-  pub begins : IsPrefix own state.leader
-  pub doubtful : IfSome doubt (λ entry. IsPrefix (own ++ entry ∷ []) state.leader)
-  pub told : state.told ≤ length own
-
--- The image stands for a beginning of the leader's list that has each entry which a `have` told.
-pub record IsOfLeader (network : Network) (leader : List Entry) (least : ℕ)
-    (image : List ℕ) : Type 0 where
-  pub list : List Entry
-  pub stands : IsHistoryOf network list image
-  pub begins : IsPrefix list leader
-  pub told : least ≤ length list

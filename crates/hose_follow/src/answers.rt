@@ -1,8 +1,8 @@
 // The answers of a follower, and how they are written.
 ghost use Rattle.std.specs.Prelude.{◌≡◌, ◌++◌};
 ghost use Rattle.hex.specs.Hex.{encode_lower};
-ghost use Rattle.hose_io.specs.Gather.{IsAdded};
-ghost use Rattle.hose_io.specs.Writing.{IsPut};
+ghost use Rattle.hose_io.specs.steps.Gather.{IsAdded};
+ghost use Rattle.hose_io.specs.steps.Writing.{IsPut};
 ghost use Rattle.hose_follow.specs.Answers.{answer_line, offered_text};
 
 use crate::packet::VALUE_BYTES;

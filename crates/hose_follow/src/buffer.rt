@@ -1,7 +1,7 @@
 // Bytes that were taken of a source and belong to no packet yet that was answered.
 ghost use Rattle.std.specs.Prelude.{◌≡◌, ◌+◌, ◌-◌, ◌<◌, ◌≤◌, [], ◌++◌, List, ℕ, drop, length, take, IfOk};
 ghost use Rattle.std.specs.List.{slice_range};
-ghost use Rattle.hose_io.specs.Filling.{IsFilled};
+ghost use Rattle.hose_io.specs.steps.Filling.{IsFilled};
 
 use hose_io::{Failed, Source, take_after};
 use std::alloc::{AllocError, Global};
@@ -21,8 +21,8 @@ pub struct Buffer {
 impl Model for Buffer {
     ghost use Rattle.std.specs.Prelude.{◌-◌};
     ghost use Rattle.std.specs.List.{slice_range};
-    ghost use Rattle.hose_follow.specs.BufferInside.{ArePlacesInOrder};
-    ghost use Rattle.hose_follow.specs.Buffered.{BufferState};
+    ghost use Rattle.hose_follow.specs.steps.BufferInside.{ArePlacesInOrder};
+    ghost use Rattle.hose_follow.specs.steps.Buffered.{BufferState};
     ghost use Rattle.hose_follow.specs.declared.buffer.TheConstants.{ROOM_BYTES};
 
     ghost Value = { BufferState };

@@ -1,9 +1,9 @@
 // Packets of an input, each offered and answered.
 ghost use Rattle.std.specs.Prelude.{◌≡◌, ◌<◌, ◌≤◌, [], List, ℕ, length};
 ghost use Rattle.hose_io.specs.Frame.{Stays};
-ghost use Rattle.hose_follow.specs.Ends.{FollowsInput};
+ghost use Rattle.hose_follow.specs.steps.Ends.{FollowsInput};
 ghost use Rattle.hose_follow.specs.Packet.{IsPartOfPacket};
-ghost use Rattle.hose_follow.specs.Exchanging.{TakesMore, TakesPart, AdvancesTo};
+ghost use Rattle.hose_follow.specs.steps.Exchanging.{TakesMore, TakesPart, AdvancesTo};
 ghost use Rattle.hose_follow.specs.declared.following.FollowEnd.TheVariants.{Write};
 ghost use Rattle.hose_follow.specs.declared.packet.TheConstants.{MOST_PACKET};
 ghost use Rattle.hose_follow.specs.Layout.{follow_limit};

@@ -3,14 +3,14 @@ ghost use Rattle.std.specs.Prelude.{◌≡◌, ℕ, List, Contains, Option, Resu
 ghost use Rattle.hose_io.specs.declared.Failed.{Failed};
 ghost use Rattle.hose_graph.specs.declared.entry.Entry.{Entry};
 ghost use Rattle.hose_law.specs.History.{IsDecided};
-ghost use Rattle.hose_store.specs.Commit.{Closes};
-ghost use Rattle.hose_store.specs.Store.{HasHistory, KeptStore};
-ghost use Rattle.hose_follow.specs.Chained.{LeadsOn};
-ghost use Rattle.hose_follow.specs.Event.{Event};
-ghost use Rattle.hose_follow.specs.Offering.{AreOffered, IsOffered};
+ghost use Rattle.hose_store.specs.steps.Commit.{Closes};
+ghost use Rattle.hose_store.specs.steps.Store.{HasHistory, KeptStore};
+ghost use Rattle.hose_follow.specs.steps.Chained.{LeadsOn};
+ghost use Rattle.hose_follow.specs.steps.Event.{Event};
+ghost use Rattle.hose_follow.specs.steps.Offering.{AreOffered, IsOffered};
 ghost use Rattle.hose_follow.specs.Packet.{Packet};
-ghost use Rattle.hose_follow.specs.Splitting.{IsSplit};
-ghost use Rattle.hose_follow.specs.Replication.{IsBeginning, IsFollowing, IsOfLeader, Lead, Replication};
+ghost use Rattle.hose_follow.specs.steps.Splitting.{IsSplit};
+ghost use Rattle.hose_follow.specs.steps.Replication.{IsBeginning, IsFollowing, IsOfLeader, Lead, Replication};
 ghost use Rattle.hose_follow.specs.declared.answers.Offered.{Offered};
 
 use hose_disk::Disk;

@@ -1,6 +1,6 @@
 // One packet, offered to the store of a follower.
 ghost use Rattle.std.specs.Prelude.{◌≡◌, ◌+◌, ◌↔◌, ℕ, List, IsTrue};
-ghost use Rattle.hose_follow.specs.Offering.{IsChainOf, IsOffered};
+ghost use Rattle.hose_follow.specs.steps.Offering.{IsChainOf, IsOffered};
 
 use crate::answers::Offered;
 use crate::packet::VALUE_BYTES;

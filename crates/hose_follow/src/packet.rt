@@ -1,9 +1,9 @@
 // Packets as bytes, and their layout.
 ghost use Rattle.std.specs.Prelude.{◌≡◌, ◌≤◌, ◌<◌, ◌^◌, ◌++◌, length};
 ghost use Rattle.byteorder.specs.Endian.{big_bytes};
-ghost use Rattle.hose_io.specs.Gather.{IsAdded};
+ghost use Rattle.hose_io.specs.steps.Gather.{IsAdded};
 ghost use Rattle.hose_codec.specs.declared.limits.TheConstants.{MOST_SPELLING};
-ghost use Rattle.hose_follow.specs.Arriving.{IsFrontOf};
+ghost use Rattle.hose_follow.specs.steps.Arriving.{IsFrontOf};
 ghost use Rattle.hose_follow.specs.Packet.{packet_bytes};
 ghost use Rattle.hose_follow.specs.Layout.{body_length_bytes, epoch_bytes, front_bytes, value_bytes};
 

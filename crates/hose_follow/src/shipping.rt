@@ -3,15 +3,16 @@ ghost use Rattle.std.specs.Prelude.{◌≡◌, ◌+◌, ◌<◌, ◌≤◌, [], 
 ghost use Rattle.hose_graph.specs.Network.{Network};
 ghost use Rattle.hose_graph.specs.declared.entry.Entry.{Entry};
 ghost use Rattle.hose_io.specs.Frame.{Stays};
-ghost use Rattle.hose_io.specs.Gather.{Gathered, IsAdded};
+ghost use Rattle.hose_io.specs.steps.Gather.{Gathered, IsAdded};
 ghost use Rattle.hose_codec.specs.declared.limits.TheConstants.{MOST_SPELLING};
 ghost use Rattle.hose_law.specs.History.{last_epoch};
 ghost use Rattle.hose_journal.specs.Moments.{LeavesOnly};
 ghost use Rattle.hose_journal.specs.Opening.{KeepsDisk};
 ghost use Rattle.hose_store.specs.Opening.{IsAtOpening};
-ghost use Rattle.hose_store.specs.Replaying.{IsOnlyOpened, IsReplaying};
+ghost use Rattle.hose_store.specs.Replaying.{IsOnlyOpened};
+ghost use Rattle.hose_store.specs.steps.Replaying.{IsReplaying};
 ghost use Rattle.hose_follow.specs.Packet.{packet_bytes};
-ghost use Rattle.hose_follow.specs.Shipping.{AddsAll, AddsNext, HasAdded, Ships, shipped_of};
+ghost use Rattle.hose_follow.specs.steps.Shipping.{AddsAll, AddsNext, HasAdded, Ships, shipped_of};
 
 use crate::packet::{VALUE_BYTES, add_packet};
 use hose_disk::Disk;

@@ -7,7 +7,8 @@ use Rattle.std.proofs.lemmas.Bool.{cases_Bool, cond-true, cond-false, cases_lt, 
 use Rattle.std.proofs.lemmas.Bool.Decides.{nat_tests}
 use Rattle.std.proofs.lemmas.List.Elements.{All-cons, All-weaker}
 use Rattle.std.proofs.lemmas.List.Sorted.{All-permutation, Contains-permutation, IsPermutation-cons, IsPermutation-refl, IsPermutation-sym, IsPermutation-middle, IsPermutation-trans}
-use Rattle.hose_graph.specs.Hose.{Endpoint, IsHose, MakesHose, node_of}
+use Rattle.hose_graph.specs.Hose.{Endpoint, IsHose, node_of}
+use Rattle.hose_graph.specs.steps.Hose.{MakesHose}
 use Rattle.hose_graph.proofs.Endpoints.{IsHose-sorted}
 use Rattle.hose_graph.proofs.Ordered.{pairs_unique}
 use Rattle.hose_gen.specs.Generated.{in_order, placed}

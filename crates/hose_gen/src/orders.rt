@@ -1,8 +1,9 @@
 // The orders of customers, and their limits beside those of all networks.
 ghost use Rattle.std.specs.Prelude.{◌≡◌, ◌++◌, ◌≤◌, ◌<◌, IfOk, OnOk, false, length};
 ghost use Rattle.std.specs.List.{All};
-ghost use Rattle.hose_graph.specs.Hose.{IsEnd, MakesHose, node_of};
-ghost use Rattle.hose_graph.specs.Naming.{AsksOf};
+ghost use Rattle.hose_graph.specs.Hose.{IsEnd, node_of};
+ghost use Rattle.hose_graph.specs.steps.Hose.{MakesHose};
+ghost use Rattle.hose_graph.specs.steps.Naming.{AsksOf};
 ghost use Rattle.hose_graph.specs.Network.{Network};
 ghost use Rattle.hose_gen.specs.Draws.{next_state};
 ghost use Rattle.hose_gen.specs.Generated.{admission_at, after_admission, after_ends, after_orders, after_hoses, customer_at, endpoint_at, first_ends, first_orders, free_node, has_node, orders_at, release_at};

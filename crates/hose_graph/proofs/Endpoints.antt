@@ -11,7 +11,8 @@ use Rattle.std.proofs.lemmas.List.Sorted.{All-permutation, IsPermutation-map, le
 use Rattle.std.proofs.lemmas.List.Sums.{sum_by-le}
 use Rattle.std.proofs.lemmas.Map.Keys.{IsDistinct-from_apart, IsDistinct-IsPermutation, IsStrictlyIncreasing-from_distinct}
 use Rattle.hose_graph.specs.Ascending.{firsts}
-use Rattle.hose_graph.specs.Hose.{IsEnd, IsHose, MakesHose, HasDistinctNodes, total_rate}
+use Rattle.hose_graph.specs.Hose.{IsEnd, IsHose, HasDistinctNodes, total_rate}
+use Rattle.hose_graph.specs.steps.Hose.{MakesHose}
 use Rattle.hose_graph.specs.declared.limits.TheConstants.{MOST_ENDS, MOST_RATE}
 
 pub total_rate-le : (ends : List (ℕ × ℕ)) → IsHose ends → total_rate ends ≤ MOST_ENDS * MOST_RATE

@@ -40,9 +40,3 @@ total_rate ends = sum_by rate_of ends
 -- no two of these endpoints are at one node
 abbrev pub HasDistinctNodes : List Endpoint → Type 0
 HasDistinctNodes ends = AllPairs (λ one other. node_of one ≢ node_of other) ends
-
--- These endpoints, in any order, make a hose.
-pub record MakesHose (ends : List Endpoint) : Type 0 where
-  pub counted : IsCounted ends
-  pub within : All IsEnd ends
-  pub distinct : HasDistinctNodes ends

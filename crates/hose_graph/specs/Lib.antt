@@ -4,7 +4,7 @@ pub mod Hose
 pub mod Limit
 pub mod Limits
 pub mod Name
-pub mod Naming
 pub mod Network
 pub mod Ranges
 pub mod Row
+pub mod steps

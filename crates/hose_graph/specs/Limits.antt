@@ -58,10 +58,6 @@ most_tree_links = 511
 abbrev pub most_amount : ℕ
 most_amount = 32000000
 
--- the greatest distance of two nodes: what the links of a tree cost at most
-abbrev pub most_distance : ℕ
-most_distance = 511000000
-
 -- the name of the one customer who may take links out of service and put them back
 abbrev pub operator : List ℕ
 operator = codes "operator"

@@ -1,5 +1,5 @@
 -- Names of nodes and of customers, which contracts see as their bytes.
-use Rattle.std.specs.Prelude.{ℕ, ◌-◌, ◌≤◌, ◌==◌, ◌||◌, Bool, List, ◌++◌, length, replicate}
+use Rattle.std.specs.Prelude.{ℕ, ◌≤◌, ◌==◌, ◌||◌, Bool, List, length}
 use Rattle.std.specs.Char.{is_ascii_digit, is_ascii_lowercase}
 use Rattle.std.specs.List.{AllPass}
 use Rattle.hose_graph.specs.Limits.{most_name_bytes}
@@ -13,7 +13,3 @@ pub record IsName (bytes : List ℕ) : Type 0 where
   pub some : 1 ≤ length bytes
   pub short : length bytes ≤ most_name_bytes
   pub allowed : AllPass is_name_byte bytes
-
--- a name's bytes, and then zeros up to the greatest length
-abbrev pub padded : List ℕ → List ℕ
-padded bytes = bytes ++ replicate (most_name_bytes - length bytes) 0

@@ -1,8 +1,6 @@
 -- The ranges of the numbers of an entry, as far as its type leaves them open.
 use Rattle.std.specs.Prelude.{◌<◌, ◌≤◌, List, All, length}
-use Rattle.hose_graph.specs.declared.entry.Entry.{Entry}
-use Rattle.hose_graph.specs.declared.entry.Entry.TheVariants.{Admit, Release, Down, Up}
-use Rattle.hose_graph.specs.Limits.{most_amount, most_epoch, most_links, most_tree_links}
+use Rattle.hose_graph.specs.Limits.{most_amount, most_links, most_tree_links}
 use Rattle.hose_graph.specs.Amounts.{ReservedLink, amount_of, link_of}
 use Rattle.hose_graph.specs.Limit.{IsUpTo}
 
@@ -16,10 +14,3 @@ pub record AreInRanges (amounts : List ReservedLink) : Type 0 where
   pub some : 1 ≤ length amounts
   pub few : length amounts ≤ most_tree_links
   pub within : All IsAmount amounts
-
--- the entry's numbers are in their ranges
-abbrev pub IsInRanges : Entry → Type 0
-IsInRanges (Admit customer hose amounts) = AreInRanges amounts
-IsInRanges (Release customer id) = id ≤ most_epoch
-IsInRanges (Down link) = link < most_links
-IsInRanges (Up link) = link < most_links

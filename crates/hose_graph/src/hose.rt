@@ -1,6 +1,7 @@
 // Hoses: endpoints with their rates, checked and sorted.
 ghost use Rattle.std.specs.Prelude.{◌≡◌, ℕ, ◌*◌, ◌<◌, ◌≤◌, ◌↔◌, List, length, IsTrue, IsErrOf, IfOk, All, Any, IsPermutation};
-ghost use Rattle.hose_graph.specs.Hose.{IsEnd, IsHose, IsCounted, MakesHose, HasDistinctNodes, node_of, total_rate};
+ghost use Rattle.hose_graph.specs.Hose.{IsEnd, IsHose, IsCounted, HasDistinctNodes, node_of, total_rate};
+ghost use Rattle.hose_graph.specs.steps.Hose.{MakesHose};
 
 use crate::limits::{LEAST_ENDS, MOST_ENDS, MOST_NODES, MOST_RATE};
 use std::alloc::{AllocError, Global};

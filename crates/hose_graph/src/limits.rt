@@ -1,6 +1,7 @@
 // The limits of networks and hoses. The least capacity, length, cost and rate is 1.
 ghost use Rattle.std.specs.Prelude.{◌≡◌};
-ghost use Rattle.hose_graph.specs.Limits.{least_ends, most_amount, most_capacity, most_cost, most_distance, most_ends, most_epoch};
+ghost use Rattle.hose_graph.specs.Limits.{least_ends, most_amount, most_capacity, most_cost, most_ends, most_epoch};
+ghost use Rattle.hose_graph.specs.steps.Limits.{most_distance};
 ghost use Rattle.hose_graph.specs.Limits.{most_length, most_links, most_live, most_name_bytes, most_nodes, most_quotes, most_rate, most_tree_links};
 ghost use Rattle.hose_graph.specs.Limits.{operator};
 

@@ -28,7 +28,8 @@ pub struct Name {
 
 impl Model for Name {
     ghost use Rattle.std.specs.Prelude.{◌≡◌, ℕ, List, length, take};
-    ghost use Rattle.hose_graph.specs.Name.{IsName, padded};
+    ghost use Rattle.hose_graph.specs.Name.{IsName};
+    ghost use Rattle.hose_graph.specs.steps.Name.{padded};
 
     ghost Value = { List ℕ };
 

@@ -1,5 +1,5 @@
 -- Laws of calls of a source, for callers that make several.
-use Rattle.hose_io.specs.Calls.{HasGone, call_more, none_yet}
+use Rattle.hose_io.specs.steps.Calls.{HasGone, call_more, none_yet}
 use Rattle.hose_io.specs.declared.source.Source.{Ghosts}
 
 -- one call was made

@@ -5,9 +5,10 @@ use Rattle.std.proofs.lemmas.List.{take_more}
 use Rattle.std.proofs.lemmas.Grind.{flat_map-append}
 use Rattle.std.specs.List.{flat_map}
 use Rattle.hose_io.specs.Count.{one_more}
-use Rattle.hose_io.specs.Gather.{Gathered, GoesOut, IsCutShort, IsAdded, IsFinished}
+use Rattle.hose_io.specs.steps.Gather.{Gathered, GoesOut, IsCutShort, IsAdded, IsFinished}
 use Rattle.hose_io.specs.Stream.{Grows}
-use Rattle.hose_io.specs.Writing.{GrowsInPart, IsPut}
+use Rattle.hose_io.specs.Writing.{GrowsInPart}
+use Rattle.hose_io.specs.steps.Writing.{IsPut}
 use Rattle.hose_io.specs.declared.Failed.{Failed}
 use Rattle.hose_io.specs.declared.gather.TheConstants.{GATHER_LIMIT}
 use Rattle.hose_io.specs.declared.sink.Sink.{Ghosts}

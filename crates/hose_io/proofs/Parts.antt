@@ -5,7 +5,8 @@ use Rattle.std.specs.List.{slice_range}
 use Rattle.std.specs.Result.{result_unwrap_or}
 use Rattle.std.proofs.lemmas.List.{drop-drop, length-take-le, length-take, length-drop, drop-append-le}
 use Rattle.std.proofs.lemmas.Slice.{between_is}
-use Rattle.hose_io.specs.Stream.{Appends, Gives, Stream}
+use Rattle.hose_io.specs.Stream.{Gives, Stream}
+use Rattle.hose_io.specs.steps.Stream.{Appends}
 use Rattle.hose_io.specs.declared.Failed.{Failed}
 
 module _ {X : Type 0} where

@@ -1,15 +1,6 @@
-pub mod Borrowed
-pub mod Calls
 pub mod Connections
 pub mod Count
-pub mod DoorState
-pub mod FailingCalls
-pub mod Faults
-pub mod Filling
 pub mod Frame
-pub mod Gather
-pub mod SinkState
-pub mod SourceState
-pub mod StdState
 pub mod Stream
 pub mod Writing
+pub mod steps

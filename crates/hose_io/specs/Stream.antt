@@ -1,5 +1,5 @@
 -- What the calls of sources and sinks do to the bytes that these tell of.
-use Rattle.std.specs.Prelude.{◌≡◌, ℕ, List, [], ◌++◌, length, Option, None, Some, ⊤}
+use Rattle.std.specs.Prelude.{◌≡◌, ℕ, List, [], ◌++◌, Option, None, Some, ⊤}
 
 -- the bytes that a source has given, and those that it has left
 pub record Stream : Type 0 where
@@ -17,13 +17,6 @@ Gives None None bytes = ⊤
 Gives None (Some new) bytes = ⊥
 Gives (Some old) None bytes = ⊥
 Gives (Some old) (Some new) bytes = GoesOnBy old new bytes
-
--- This many bytes that a source gave come after those that were pending.
-pub record Appends (before after : Option Stream) (old new : List ℕ) (count : ℕ) : Type 0 where
-  pub bytes : List ℕ
-  pub gives : Gives before after bytes
-  pub pending : new ≡ old ++ bytes
-  pub counted : length bytes ≡ count
 
 -- a source has nothing left, where it tells
 abbrev pub IsAtEnd : Option Stream → Type 0

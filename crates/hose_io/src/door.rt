@@ -1,6 +1,7 @@
 // Where connections arrive: the contract of a door, which a borrow of one meets too.
 ghost use Rattle.std.specs.Prelude.{◌≡◌, ℕ, Option, Some, ◌∷◌, MatchOption, MatchResult};
-ghost use Rattle.hose_io.specs.Connections.{Accepts, AreAccounted, AreUsedUp, ComesBack, Connection, Connections, IsConnection, MayComeBack, connection_of};
+ghost use Rattle.hose_io.specs.Connections.{Connection, Connections};
+ghost use Rattle.hose_io.specs.steps.Connections.{Accepts, AreAccounted, AreUsedUp, ComesBack, IsConnection, MayComeBack, connection_of};
 ghost use Rattle.hose_io.specs.Frame.{Frame, Met};
 
 use crate::{Failed, Sink, Source};

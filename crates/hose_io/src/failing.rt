@@ -1,6 +1,6 @@
 // The calls to come that are to fail.
 ghost use Rattle.std.specs.Prelude.{◌≡◌, ◌↔◌, ◌-◌, ℕ, List, [], ◌∷◌, ◌++◌, map, Contains, IsTrue, OnOk, OnErr};
-ghost use Rattle.hose_io.specs.FailingCalls.{later_calls};
+ghost use Rattle.hose_io.specs.steps.FailingCalls.{later_calls};
 
 use std::alloc::{AllocError, Global};
 use std::marker::Model;

@@ -1,6 +1,6 @@
 // How often calls of a form in memory have failed.
 ghost use Rattle.std.specs.Prelude.{◌≡◌, ◌≤◌, ℕ};
-ghost use Rattle.hose_io.specs.Faults.{faults_frame, no_faults, one_fault, one_starved};
+ghost use Rattle.hose_io.specs.steps.Faults.{faults_frame, no_faults, one_fault, one_starved};
 ghost use Rattle.hose_io.specs.Frame.{Rose};
 
 use crate::Failed;

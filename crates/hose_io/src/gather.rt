@@ -2,8 +2,9 @@
 ghost use Rattle.std.specs.Prelude.{◌≡◌, ◌≢◌, ◌+◌, ◌≤◌, ℕ, IsFalse, List, [], ◌++◌, OnOk, IsOk, OnErr, decimal, false, length, take};
 ghost use Rattle.hose_io.specs.Count.{one_more};
 ghost use Rattle.hose_io.specs.Frame.{Met};
-ghost use Rattle.hose_io.specs.Gather.{GoesOut, IsAdded, IsFinished};
-ghost use Rattle.hose_io.specs.Writing.{GrowsInPart, IsPut};
+ghost use Rattle.hose_io.specs.steps.Gather.{GoesOut, IsAdded, IsFinished};
+ghost use Rattle.hose_io.specs.Writing.{GrowsInPart};
+ghost use Rattle.hose_io.specs.steps.Writing.{IsPut};
 
 use crate::{Failed, Sink};
 use itoa::Buffer;
@@ -26,7 +27,7 @@ pub struct Gather {
 
 impl Model for Gather {
     ghost use Rattle.std.specs.Prelude.{◌≤◌, take};
-    ghost use Rattle.hose_io.specs.Gather.{Gathered};
+    ghost use Rattle.hose_io.specs.steps.Gather.{Gathered};
 
     ghost Value = { Gathered };
 

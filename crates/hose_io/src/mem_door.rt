@@ -1,10 +1,10 @@
 // Connections in memory.
 ghost use Rattle.std.specs.Prelude.{◌≡◌, ◌↔◌, ◌<◌, ◌+◌, Option, None, Some, List, [], ◌∷◌, ◌++◌, All, IfOk, IsErr, OnOk, OnErr, MatchOption, MatchResult, Contains, length};
-ghost use Rattle.hose_io.specs.Connections.{Accepts, AreAccounted, AreUsedUp, ComesBack, IsConnection, MayComeBack, connection_of};
-ghost use Rattle.hose_io.specs.DoorState.{IsFresh, IsHandedOut, door_after_call, door_after_fault, door_after_open, door_after_return, connections_of, mem_door_frame, mem_sink, mem_source, outcome};
-ghost use Rattle.hose_io.specs.Faults.{no_faults};
+ghost use Rattle.hose_io.specs.steps.Connections.{Accepts, AreAccounted, AreUsedUp, ComesBack, IsConnection, MayComeBack, connection_of};
+ghost use Rattle.hose_io.specs.steps.DoorState.{IsFresh, IsHandedOut, door_after_call, door_after_fault, door_after_open, door_after_return, connections_of, mem_door_frame, mem_sink, mem_source, outcome};
+ghost use Rattle.hose_io.specs.steps.Faults.{no_faults};
 ghost use Rattle.hose_io.specs.Frame.{Met};
-ghost use Rattle.hose_io.specs.SinkState.{fresh_sink};
+ghost use Rattle.hose_io.specs.steps.SinkState.{fresh_sink};
 
 use crate::{Door, Failed, FailingCalls, Faults, MemSink, MemSource};
 use std::alloc::{AllocError, Global};
@@ -21,7 +21,7 @@ pub struct MemDone {
 }
 
 impl Model for MemDone {
-    ghost use Rattle.hose_io.specs.DoorState.{DoneState};
+    ghost use Rattle.hose_io.specs.steps.DoorState.{DoneState};
 
     ghost Value = { DoneState };
 
@@ -41,9 +41,9 @@ struct Coming {
 
 impl Model for Coming {
     ghost use Rattle.std.specs.Prelude.{◌≡◌};
-    ghost use Rattle.hose_io.specs.DoorState.{IsFresh};
-    ghost use Rattle.hose_io.specs.SinkState.{fresh_sink};
-    ghost use Rattle.hose_io.specs.SourceState.{SourceState};
+    ghost use Rattle.hose_io.specs.steps.DoorState.{IsFresh};
+    ghost use Rattle.hose_io.specs.steps.SinkState.{fresh_sink};
+    ghost use Rattle.hose_io.specs.steps.SourceState.{SourceState};
 
     ghost Value = { SourceState };
 
@@ -90,7 +90,7 @@ pub struct MemDoor {
 
 impl Model for MemDoor {
     ghost use Rattle.std.specs.Prelude.{◌+◌, ◌≤◌, length, vec_capacity, vec_len};
-    ghost use Rattle.hose_io.specs.DoorState.{DoorState};
+    ghost use Rattle.hose_io.specs.steps.DoorState.{DoorState};
 
     ghost Value = { DoorState };
 
@@ -163,7 +163,7 @@ impl MemDoor {
 
 impl Door for MemDoor {
     ghost use Rattle.std.specs.Prelude.{Some};
-    ghost use Rattle.hose_io.specs.DoorState.{connections_of, mem_door_frame, outcome};
+    ghost use Rattle.hose_io.specs.steps.DoorState.{connections_of, mem_door_frame, outcome};
 
     type In = MemSource;
 

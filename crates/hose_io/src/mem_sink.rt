@@ -1,8 +1,8 @@
 // Bytes in memory that are written.
 ghost use Rattle.std.specs.Prelude.{◌≡◌, ◌<◌, ◌≤◌, ℕ, Option, Some, List, [], ◌∷◌, ◌++◌, IfOk, IsErr, OnOk, OnErr, MatchResult, Contains, length, take};
-ghost use Rattle.hose_io.specs.Count.{pieces_after};
+ghost use Rattle.hose_io.specs.steps.Count.{pieces_after};
 ghost use Rattle.hose_io.specs.Frame.{Frame, Met};
-ghost use Rattle.hose_io.specs.SinkState.{SinkState, fresh_sink, mem_sink_frame, sink_after_putting, sink_after_fault, sink_after_starving};
+ghost use Rattle.hose_io.specs.steps.SinkState.{SinkState, fresh_sink, mem_sink_frame, sink_after_putting, sink_after_fault, sink_after_starving};
 ghost use Rattle.hose_io.specs.Stream.{Grows};
 
 use crate::{Failed, FailingCalls, Faults, Sink};
@@ -21,7 +21,7 @@ pub struct MemSink {
 }
 
 impl Model for MemSink {
-    ghost use Rattle.hose_io.specs.SinkState.{SinkState};
+    ghost use Rattle.hose_io.specs.steps.SinkState.{SinkState};
 
     ghost Value = { SinkState };
 
@@ -82,7 +82,7 @@ impl MemSink {
 
 impl Sink for MemSink {
     ghost use Rattle.std.specs.Prelude.{Some};
-    ghost use Rattle.hose_io.specs.SinkState.{mem_sink_frame};
+    ghost use Rattle.hose_io.specs.steps.SinkState.{mem_sink_frame};
 
     ghost frame = { mem_sink_frame };
 

@@ -1,8 +1,8 @@
 // Bytes in memory that are read.
 ghost use Rattle.std.specs.Prelude.{◌≡◌, ◌↔◌, ◌<◌, ◌≤◌, ℕ, Option, Ok, List, [], ◌∷◌, ◌++◌, IfOk, IsErr, OnOk, OnErr, MatchResult, Contains, length, min, take};
-ghost use Rattle.hose_io.specs.Faults.{no_faults};
+ghost use Rattle.hose_io.specs.steps.Faults.{no_faults};
 ghost use Rattle.hose_io.specs.Frame.{Frame, Met};
-ghost use Rattle.hose_io.specs.SourceState.{SourceState, mem_source_frame, source_after_taking, source_after_fault};
+ghost use Rattle.hose_io.specs.steps.SourceState.{SourceState, mem_source_frame, source_after_taking, source_after_fault};
 ghost use Rattle.hose_io.specs.Stream.{Stream, Gives, IsAtEnd};
 
 use crate::{Failed, FailingCalls, Faults, Source};
@@ -23,7 +23,7 @@ pub struct MemSource {
 
 impl Model for MemSource {
     ghost use Rattle.std.specs.Prelude.{◌≤◌, take, drop, vec_len};
-    ghost use Rattle.hose_io.specs.SourceState.{SourceState};
+    ghost use Rattle.hose_io.specs.steps.SourceState.{SourceState};
 
     ghost Value = { SourceState };
 
@@ -107,7 +107,7 @@ impl MemSource {
 
 impl Source for MemSource {
     ghost use Rattle.std.specs.Prelude.{Some};
-    ghost use Rattle.hose_io.specs.SourceState.{mem_source_frame};
+    ghost use Rattle.hose_io.specs.steps.SourceState.{mem_source_frame};
 
     ghost frame = { mem_source_frame };
 

@@ -1,7 +1,7 @@
 // What is written: the contract of a sink, which a borrow of one meets too.
 ghost use Rattle.std.specs.Prelude.{◌≡◌, ◌<◌, ◌≤◌, ℕ, Option, None, Some, List, ◌∷◌, IfOk, MatchResult, length, take};
 ghost use Rattle.std.specs.Borrow.{GName};
-ghost use Rattle.hose_io.specs.Count.{pieces_after};
+ghost use Rattle.hose_io.specs.steps.Count.{pieces_after};
 ghost use Rattle.hose_io.specs.Frame.{Frame, Met};
 ghost use Rattle.hose_io.specs.Stream.{Grows};
 

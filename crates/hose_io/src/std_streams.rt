@@ -2,10 +2,10 @@
 // reader or the writer tells of itself is passed on.
 ghost use Rattle.std.specs.Prelude.{◌≡◌, ◌<◌, ◌≤◌, Ok, IfOk, MatchResult, length, take};
 ghost use Rattle.std.specs.Io.KnownBytes.{ReadConsumes, WriteAppends};
-ghost use Rattle.hose_io.specs.Count.{pieces_after};
+ghost use Rattle.hose_io.specs.steps.Count.{pieces_after};
 ghost use Rattle.hose_io.specs.Frame.{Met};
 ghost use Rattle.hose_io.specs.Stream.{Gives, Grows, IsAtEnd};
-ghost use Rattle.hose_io.specs.StdState.{source_frame, sink_frame, untold_stream, untold_text};
+ghost use Rattle.hose_io.specs.steps.StdState.{source_frame, sink_frame, untold_stream, untold_text};
 
 use crate::{Failed, Sink, Source};
 use std::io::{ErrorKind, Read, Write};
@@ -19,7 +19,7 @@ pub struct StdSource<R> {
 }
 
 impl<R> Model for StdSource<R> {
-    ghost use Rattle.hose_io.specs.StdState.{StdSourceState};
+    ghost use Rattle.hose_io.specs.steps.StdState.{StdSourceState};
 
     ghost Value = { StdSourceState R };
 
@@ -36,7 +36,7 @@ impl<R: Read + Drop> StdSource<R> {
 }
 
 impl<R: Read + Drop> Source for StdSource<R> {
-    ghost use Rattle.hose_io.specs.StdState.{source_frame, untold_stream};
+    ghost use Rattle.hose_io.specs.steps.StdState.{source_frame, untold_stream};
 
     ghost frame = { source_frame };
 
@@ -78,7 +78,7 @@ pub struct StdSink<W> {
 }
 
 impl<W> Model for StdSink<W> {
-    ghost use Rattle.hose_io.specs.StdState.{StdSinkState};
+    ghost use Rattle.hose_io.specs.steps.StdState.{StdSinkState};
 
     ghost Value = { StdSinkState W };
 
@@ -99,7 +99,7 @@ impl<W: Write + Drop> StdSink<W> {
 }
 
 impl<W: Write + Drop> Sink for StdSink<W> {
-    ghost use Rattle.hose_io.specs.StdState.{sink_frame, untold_text};
+    ghost use Rattle.hose_io.specs.steps.StdState.{sink_frame, untold_text};
 
     ghost frame = { sink_frame };
 

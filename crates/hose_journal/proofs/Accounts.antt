@@ -8,10 +8,11 @@ use Rattle.hose_disk.specs.declared.disk.Disk.{Ghosts}
 use Rattle.hose_journal.specs.declared.journal.Journal.{Journal}
 use Rattle.hose_journal.specs.declared.layout.TheConstants.{BUFFER_BYTES, CLOSED, OPEN}
 use Rattle.hose_journal.specs.Chain.{chain}
-use Rattle.hose_journal.specs.Entries.{Item, closed_record, entered, entries_format, entries_in, entries_reader, entry_bytes, front_of, item_bytes, record_bytes, seal_bytes, sealed, IsListOf}
-use Rattle.hose_journal.specs.Gates.{Starts, IsDoubtful}
+use Rattle.hose_journal.specs.Entries.{Item, entered, entries_format, entries_in, entry_bytes, front_of, item_bytes, record_bytes, seal_bytes, sealed}
+use Rattle.hose_journal.specs.steps.Entries.{closed_record, entries_reader, IsListOf}
+use Rattle.hose_journal.specs.steps.Gates.{Starts, IsDoubtful}
 use Rattle.hose_journal.specs.Image.{IsClosed}
-use Rattle.hose_journal.specs.Journal.{Account, Stands, IsStopImage, IsListWith, IsListAmid, with_doubt, account_with}
+use Rattle.hose_journal.specs.steps.Journal.{Account, Stands, IsStopImage, IsListWith, IsListAmid, with_doubt, account_with}
 use Rattle.hose_journal.specs.Moments.{Images, LeavesOnly}
 use Rattle.hose_journal.proofs.Chains.{length-chain}
 use Rattle.hose_journal.proofs.Items.{chained_entry, chained_seal, entries_push, entries_seal, length-front, length-item, length-seal}

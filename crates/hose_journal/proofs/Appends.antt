@@ -6,10 +6,11 @@ use Rattle.hose_disk.specs.declared.disk.Disk.{Ghosts}
 use Rattle.hose_journal.specs.declared.journal.Journal.{Journal}
 use Rattle.hose_journal.specs.declared.layout.TheConstants.{CLOSED, OPEN}
 use Rattle.hose_journal.specs.Chain.{chain}
-use Rattle.hose_journal.specs.Entries.{IsListOf, entered, record_bytes, sealed}
-use Rattle.hose_journal.specs.Gates.{IsDoubtful, Starts}
+use Rattle.hose_journal.specs.Entries.{entered, record_bytes, sealed}
+use Rattle.hose_journal.specs.steps.Entries.{IsListOf}
+use Rattle.hose_journal.specs.steps.Gates.{IsDoubtful, Starts}
 use Rattle.hose_journal.specs.Image.{IsClosed}
-use Rattle.hose_journal.specs.Journal.{Account, IsListAmid, Stands, with_doubt}
+use Rattle.hose_journal.specs.steps.Journal.{Account, IsListAmid, Stands, with_doubt}
 use Rattle.hose_journal.specs.Moments.{Images, LeavesOnly}
 use Rattle.hose_journal.proofs.Accounts.{amid_closed, amid_writing, closed_here, closed_now, here, list_closed, list_sealing, written}
 use Rattle.hose_journal.proofs.Runs.{joined, weaker}

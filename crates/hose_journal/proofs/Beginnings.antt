@@ -2,12 +2,14 @@
 use Rattle.std.proofs.Common.{◌≡◌, ◌≢◌, inl, inr, ℕ, ◌+◌, ◌≤◌, List, [], ◌∷◌, ◌++◌, length, get_or, take, drop, sym, ◌∙◌, ap, subst, arith, length-append, append-nil}
 use Rattle.std.proofs.lemmas.Bool.{cases_eq, cases_lt}
 use Rattle.std.proofs.lemmas.List.{take_all, drop_all, length-take}
-use Rattle.hose_disk.specs.Disk.{Torn, IsCut, IsTruncated, StepsTo, NoneNew, Elapses}
-use Rattle.hose_disk.specs.Images.{overwritten}
+use Rattle.hose_disk.specs.Disk.{NoneNew}
+use Rattle.hose_disk.specs.steps.Disk.{Torn, IsCut, IsTruncated, StepsTo, Elapses}
+use Rattle.hose_disk.specs.steps.Images.{overwritten}
 use Rattle.hose_disk.specs.declared.disk.Disk.{Ghosts}
 use Rattle.hose_journal.specs.declared.layout.TheConstants.{OPEN, CLOSED, MARK, CHAINED, DIGEST_BYTES, EMPTY_BYTES, HEAD_BYTES}
 use Rattle.hose_journal.specs.Image.{IsUnbegun, head}
-use Rattle.hose_journal.specs.Moments.{Images, IsTornFrom, Lands, LeavesOnly}
+use Rattle.hose_journal.specs.Moments.{Images, LeavesOnly}
+use Rattle.hose_journal.specs.steps.Moments.{IsTornFrom, Lands}
 use Rattle.hose_journal.specs.Opening.{HasNoRecord}
 use Rattle.hose_journal.proofs.Runs.{started, goes_on, joined, weaker}
 

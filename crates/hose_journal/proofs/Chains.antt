@@ -13,7 +13,8 @@ use Rattle.hose_codec.specs.Spelling.{IsEntry, spelling}
 use Rattle.hose_codec.proofs.Entries.{same_entry}
 use Rattle.hose_codec.proofs.Numbers.{same_parts}
 use Rattle.hose_journal.specs.declared.layout.TheConstants.{DIGEST_BYTES}
-use Rattle.hose_journal.specs.Chain.{Collide, chain, chain_from, hashed, hashed_from}
+use Rattle.hose_journal.specs.Chain.{chain, chain_from}
+use Rattle.hose_journal.specs.steps.Chain.{Collide, hashed, hashed_from}
 
 -- one item more at the end
 pub chain_push : {X : Type 0} (hash : List ℕ → List ℕ) (spell : X → List ℕ) (value : List ℕ) (items : List X) (item : X)

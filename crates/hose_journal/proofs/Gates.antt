@@ -1,12 +1,13 @@
 -- What writes do to the front of an image.
 use Rattle.std.proofs.Common.{◌≡◌, ◌≢◌, ℕ, ◌+◌, ◌<◌, List, [], ◌∷◌, ◌++◌, length, get_or, take, drop, Option, None, Some, refl, sym, ◌∙◌, ap, subst, arith, length-append, append_assoc, take-append-drop, IfSome}
 use Rattle.std.proofs.lemmas.List.{take_at, drop_at, drop_more}
-use Rattle.hose_disk.specs.Disk.{Torn}
-use Rattle.hose_disk.specs.Images.{overwritten}
+use Rattle.hose_disk.specs.steps.Disk.{Torn}
+use Rattle.hose_disk.specs.steps.Images.{overwritten}
 use Rattle.hose_disk.specs.declared.disk.Disk.{Ghosts}
-use Rattle.hose_journal.specs.Gates.{Starts, IsDoubtful}
+use Rattle.hose_journal.specs.steps.Gates.{Starts, IsDoubtful}
 use Rattle.hose_journal.specs.Image.{IsClosed}
-use Rattle.hose_journal.specs.Moments.{Images, IsTornFrom, Lands}
+use Rattle.hose_journal.specs.Moments.{Images}
+use Rattle.hose_journal.specs.steps.Moments.{IsTornFrom, Lands}
 
 pub told_so : (P Q : List ℕ → Type 0) → ((image : List ℕ) → P image → Q image) → (content : Option (List ℕ)) → IfSome content P → IfSome content Q
 told_so P Q to None is = tt

@@ -4,9 +4,11 @@ use Rattle.std.proofs.lemmas.Bool.{cases_eq}
 use Rattle.hose_graph.specs.declared.entry.Entry.{Entry}
 use Rattle.hose_codec.specs.Spelling.{IsEntry}
 use Rattle.hose_journal.specs.declared.layout.TheConstants.{OPEN, CLOSED}
-use Rattle.hose_journal.specs.Entries.{IsListOf, Item, closed_record, entered, entries_format, entries_in, entries_reader, front_of, is_chained, sealed}
-use Rattle.hose_journal.specs.Gates.{Starts, IsDoubtful}
-use Rattle.hose_journal.specs.Image.{Format, RecordReader, IsVersion, records, AreItems, head, front, journal_bytes, IsClosed, HasMeaning, listed}
+use Rattle.hose_journal.specs.Entries.{Item, entered, entries_format, entries_in, front_of, is_chained, sealed}
+use Rattle.hose_journal.specs.steps.Entries.{IsListOf, closed_record, entries_reader}
+use Rattle.hose_journal.specs.steps.Gates.{Starts, IsDoubtful}
+use Rattle.hose_journal.specs.Image.{Format, RecordReader, IsVersion, records, AreItems, head, front, IsClosed, HasMeaning, listed}
+use Rattle.hose_journal.specs.steps.Image.{journal_bytes}
 use Rattle.hose_journal.proofs.Gates.{shut_gate}
 use Rattle.hose_journal.proofs.Items.{entries_push, entries_seal}
 

@@ -3,9 +3,10 @@ use Rattle.std.proofs.Common.{◌≡◌, inl, inr, ℕ, ◌≤◌, List, [], ◌
 use Rattle.hose_graph.specs.declared.entry.Entry.{Entry}
 use Rattle.hose_codec.specs.Spelling.{IsEntry}
 use Rattle.hose_journal.specs.declared.layout.TheConstants.{OPEN, DIGEST_BYTES}
-use Rattle.hose_journal.specs.Entries.{AreAllowed, IsListOf, MayBeNext, Item, entered, entries_format, entries_in, entries_reader, front_of, item_bytes, narrow_reader, sealed}
+use Rattle.hose_journal.specs.Entries.{MayBeNext, Item, entered, entries_format, entries_in, front_of, item_bytes, narrow_reader, sealed}
+use Rattle.hose_journal.specs.steps.Entries.{AreAllowed, IsListOf, entries_reader}
 use Rattle.hose_journal.specs.Image.{AreItems, Format, IsDamaged, IsClosed, HasMeaning, front, head, listed, records}
-use Rattle.hose_journal.specs.Reading.{IsFoundAt, IsReadUpTo}
+use Rattle.hose_journal.specs.steps.Reading.{IsFoundAt, IsReadUpTo}
 use Rattle.hose_journal.proofs.Items.{entries_push, entries_seal}
 use Rattle.hose_journal.proofs.Lists.{front_more}
 use Rattle.hose_journal.proofs.OneList.{same_item}

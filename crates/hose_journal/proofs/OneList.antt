@@ -10,7 +10,8 @@ use Rattle.hose_codec.proofs.Lengths.{length-spelling}
 use Rattle.hose_codec.proofs.Numbers.{same_numbers, same_parts}
 use Rattle.hose_journal.specs.Chain.{chain}
 use Rattle.hose_journal.specs.declared.layout.TheConstants.{DIGEST_BYTES, SEAL, SEAL_BYTES}
-use Rattle.hose_journal.specs.Entries.{IsListOf, Item, MayFollowItems, entered, entries_format, entries_in, entries_reader, front_of, is_chained, item_bytes, record_bytes, seal_bytes, sealed}
+use Rattle.hose_journal.specs.Entries.{Item, MayFollowItems, entered, entries_format, entries_in, front_of, is_chained, item_bytes, record_bytes, seal_bytes, sealed}
+use Rattle.hose_journal.specs.steps.Entries.{IsListOf, entries_reader}
 use Rattle.hose_journal.specs.Image.{AreItems, head, listed, records}
 use Rattle.hose_journal.proofs.Chains.{length-chain}
 use Rattle.hose_journal.proofs.OneMeaning.{AreAlone, head_begun, one_meaning, read_first, to_closed}

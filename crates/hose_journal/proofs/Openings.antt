@@ -3,17 +3,21 @@ use Rattle.std.proofs.Common.{◌≡◌, ◌≢◌, inl, inr, ⊎_elim, ℕ, zer
 use Rattle.std.specs.Prelude.{Err}
 use Rattle.std.proofs.lemmas.Bool.{cases_lt}
 use Rattle.std.proofs.lemmas.List.{take_all, drop_more, length-take, take-append-le}
-use Rattle.hose_disk.specs.Disk.{NoneNew, Elapses}
+use Rattle.hose_disk.specs.Disk.{NoneNew}
+use Rattle.hose_disk.specs.steps.Disk.{Elapses}
 use Rattle.hose_disk.specs.declared.disk.Disk.{Ghosts}
 use Rattle.hose_journal.specs.declared.fault.JournalFault.{JournalFault}
 use Rattle.hose_journal.specs.declared.fault.JournalFault.TheVariants.{Disk, Other, Damaged, Memory}
 use Rattle.hose_journal.specs.declared.layout.TheConstants.{OPEN, MARK, CHAINED, DIGEST_BYTES, EMPTY_BYTES, HEAD_BYTES, PIECE_BYTES}
 use Rattle.hose_journal.specs.declared.piece.Piece.{Piece}
-use Rattle.hose_journal.specs.Entries.{entries_reader, front_of, IsListOf}
+use Rattle.hose_journal.specs.Entries.{front_of}
+use Rattle.hose_journal.specs.steps.Entries.{entries_reader, IsListOf}
 use Rattle.hose_journal.specs.Image.{IsUnbegun, IsVersion, IsHeadless, IsUnmarked, IsOther, IsClosed, head}
-use Rattle.hose_journal.specs.Moments.{Images, LeavesOnly, ReadsItsImages}
-use Rattle.hose_journal.specs.Opening.{AddsNoRecord, HasHead, HasNoRecord, IsFront, IsHeadOf, IsOpened, IsRefusedJournal, KeepsList}
-use Rattle.hose_journal.specs.Reading.{IsOpen, IsReadUpTo, OnlyRead}
+use Rattle.hose_journal.specs.Moments.{Images, LeavesOnly}
+use Rattle.hose_journal.specs.steps.Moments.{ReadsItsImages}
+use Rattle.hose_journal.specs.Opening.{AddsNoRecord, HasNoRecord}
+use Rattle.hose_journal.specs.steps.Opening.{HasHead, IsFront, IsHeadOf, IsOpened, IsRefusedJournal, KeepsList}
+use Rattle.hose_journal.specs.steps.Reading.{IsOpen, IsReadUpTo, OnlyRead}
 use Rattle.hose_journal.proofs.Lists.{closed_is_list}
 use Rattle.hose_journal.proofs.Readings.{both, closed_images}
 use Rattle.hose_journal.proofs.Runs.{started, goes_on, joined, weaker, now_too}

@@ -5,7 +5,8 @@ use Rattle.std.proofs.lemmas.List.{take_all, take_at, drop_more, length-take-le}
 use Rattle.byteorder.specs.Endian.{big_bytes}
 use Rattle.byteorder.specs.Numbers.{length-bytes_high_first}
 use Rattle.hose_graph.specs.declared.entry.Entry.{Entry}
-use Rattle.hose_codec.specs.Spelling.{spelling, IsSpelling, IsNoSpelling}
+use Rattle.hose_codec.specs.Spelling.{spelling, IsSpelling}
+use Rattle.hose_codec.specs.steps.Spelling.{IsNoSpelling}
 use Rattle.hose_codec.specs.declared.limits.CodecFault.{CodecFault}
 use Rattle.hose_codec.specs.declared.limits.CodecFault.TheVariants.{Bad, Memory}
 use Rattle.hose_codec.specs.declared.limits.TheConstants.{MOST_SPELLING}
@@ -13,7 +14,7 @@ use Rattle.hose_codec.proofs.Lengths.{length-spelling}
 use Rattle.hose_codec.proofs.Numbers.{same_numbers, same_parts}
 use Rattle.hose_journal.specs.declared.layout.TheConstants.{OPEN, DIGEST_BYTES}
 use Rattle.hose_journal.specs.declared.part.Found.{Found}
-use Rattle.hose_journal.specs.AtGate.{BeginsEntry, BeginsNoEntry, BeginsSeal, HasFields, HasNoFields, IsFoundEntry, IsFoundIn, IsPart}
+use Rattle.hose_journal.specs.steps.AtGate.{BeginsEntry, BeginsNoEntry, BeginsSeal, HasFields, HasNoFields, IsFoundEntry, IsFoundIn, IsPart}
 use Rattle.hose_journal.specs.Chain.{chain}
 use Rattle.hose_journal.specs.Entries.{entry_bytes, seal_bytes, value_in}
 use Rattle.hose_journal.proofs.Chains.{length-chain}

@@ -2,7 +2,7 @@
 use Rattle.std.proofs.Common.{◌≡◌, inl, inr, ℕ, ◌+◌, ◌-◌, ◌≤◌, min, List, ◌++◌, length, take, drop, Option, None, Some, IfSome, refl, sym, ◌∙◌, ap, subst, arith, length-drop}
 use Rattle.std.proofs.lemmas.Bool.{cases_lt}
 use Rattle.std.proofs.lemmas.List.{take_all, drop_all, drop-take, length-take-le, take-append-le}
-use Rattle.hose_disk.specs.Disk.{IsReadAt}
+use Rattle.hose_disk.specs.steps.Disk.{IsReadAt}
 use Rattle.hose_journal.specs.declared.layout.TheConstants.{PIECE_BYTES}
 
 -- what is left of the first `len` after the first `skip`

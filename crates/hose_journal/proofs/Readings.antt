@@ -12,12 +12,13 @@ use Rattle.hose_journal.specs.declared.fault.JournalFault.{JournalFault}
 use Rattle.hose_journal.specs.declared.fault.JournalFault.TheVariants.{Disk, Other, Damaged, Memory}
 use Rattle.hose_journal.specs.declared.part.Found.{Found}
 use Rattle.hose_journal.specs.declared.reading.Reading.{Reading}
-use Rattle.hose_journal.specs.AtGate.{BeginsEntry, BeginsNoEntry, BeginsSeal, IsOpenBefore, IsPart, IsShut}
+use Rattle.hose_journal.specs.steps.AtGate.{BeginsEntry, BeginsNoEntry, BeginsSeal, IsOpenBefore, IsPart, IsShut}
 use Rattle.hose_journal.specs.Chain.{chain}
-use Rattle.hose_journal.specs.Entries.{Item, entered, entries_format, entries_in, entries_reader, entry_bytes, front_of, item_bytes, seal_bytes, sealed, IsListOf}
+use Rattle.hose_journal.specs.Entries.{Item, entered, entries_format, entries_in, entry_bytes, front_of, item_bytes, seal_bytes, sealed}
+use Rattle.hose_journal.specs.steps.Entries.{entries_reader, IsListOf}
 use Rattle.hose_journal.specs.Image.{BeginsNoRecord, IsDamaged, IsClosed}
-use Rattle.hose_journal.specs.Journal.{Stands}
-use Rattle.hose_journal.specs.Reading.{AtGate, HasRead, IsAtNoSeal, IsAtClosedGate, IsAtEntry, IsReadUpTo, CoversRecord, Reads, held_from}
+use Rattle.hose_journal.specs.steps.Journal.{Stands}
+use Rattle.hose_journal.specs.steps.Reading.{AtGate, HasRead, IsAtNoSeal, IsAtClosedGate, IsAtEntry, IsReadUpTo, CoversRecord, Reads, held_from}
 use Rattle.hose_journal.proofs.Chains.{length-chain}
 use Rattle.hose_journal.proofs.Gates.{told_so}
 use Rattle.hose_journal.proofs.Items.{chained_entry, chained_seal, entries_push, entries_seal, length-entry, length-seal}

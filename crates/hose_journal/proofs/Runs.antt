@@ -1,8 +1,9 @@
 -- How runs of calls go on.
 use Rattle.std.proofs.Common.{◌≡◌, inl, inr, ⊎_elim, ℕ, ◌≤◌, List, Option, None, Some, refl, sym, ◌∙◌, subst, arith, IfSome, ap}
 use Rattle.std.specs.Prelude.{Result, Ok, Err, OnErr, OnOk}
-use Rattle.hose_disk.specs.Disk.{Only, Told, Elapses}
-use Rattle.hose_journal.specs.Moments.{Images, LeavesOnly, IsTornFrom}
+use Rattle.hose_disk.specs.steps.Disk.{Only, Told, Elapses}
+use Rattle.hose_journal.specs.Moments.{Images, LeavesOnly}
+use Rattle.hose_journal.specs.steps.Moments.{IsTornFrom}
 use Rattle.hose_disk.specs.declared.disk.Disk.{Ghosts}
 use Rattle.hose_disk.proofs.Images.{torn_same}
 

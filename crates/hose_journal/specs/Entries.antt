@@ -4,9 +4,9 @@ use Rattle.std.specs.List.{list_any}
 use Rattle.byteorder.specs.Endian.{big_bytes}
 use Rattle.hose_graph.specs.declared.entry.Entry.{Entry}
 use Rattle.hose_codec.specs.Spelling.{spelling, IsEntry}
-use Rattle.hose_journal.specs.Layout.{chained_version, closed_gate, length_bytes, seal_kind, seal_body_bytes}
+use Rattle.hose_journal.specs.Layout.{chained_version, length_bytes, seal_kind, seal_body_bytes}
 use Rattle.hose_journal.specs.Chain.{chain}
-use Rattle.hose_journal.specs.Image.{Format, RecordReader, Meaning, HasMeaning, front, listed}
+use Rattle.hose_journal.specs.Image.{Format, RecordReader, front}
 
 -- ---- what stands in a journal
 
@@ -75,24 +75,6 @@ entries_format version digest = record {
 abbrev pub front_of : ℕ → List ℕ → List Item → List ℕ
 front_of version digest items = front (entries_format version digest) version digest items
 
--- a record with a closed gate after it
-abbrev pub closed_record : ℕ → List ℕ → List Item → Item → List ℕ
-closed_record version digest before item = item_bytes version digest before item ++ closed_gate ∷ []
-
--- ---- lists of entries
-
--- the records of a journal, and the entries that they say
-abbrev pub entries_reader : RecordReader Item Entry
-entries_reader = record { format = entries_format; view = entries_in }
-
--- what an image stands for
-abbrev pub Means : List ℕ → List ℕ → Meaning Entry → Type 0
-Means digest image meaning = HasMeaning entries_reader digest image meaning
-
--- the image stands for this list of entries
-abbrev pub IsListOf : List ℕ → List Entry → List ℕ → Type 0
-IsListOf digest entries image = Means digest image (listed entries)
-
 -- ---- fewer entries
 
 -- an item that is taken: a seal, or an entry that may follow the entries before it
@@ -110,9 +92,3 @@ narrow_reader Takes = record {
   };
   view = entries_in;
 }
-
--- each of these entries is taken after those before it
-abbrev pub AreAllowed : (List Entry → Entry → Type 0) → List Entry → List Entry → Type 0
-AreAllowed Takes before [] = ⊤
-AreAllowed Takes before (entry ∷ entries) =
-    Takes before entry × AreAllowed Takes (before ++ entry ∷ []) entries

@@ -1,7 +1,7 @@
 -- What an image of a disk stands for: a list, the journal of another topology, or damage at a
 -- place. The format of the records is a parameter, and so is the list that they say.
 use Rattle.std.specs.Prelude.{◌≡◌, ◌≢◌, ◌⊎◌, ℕ, ◌<◌, ◌≤◌, List, [], ◌∷◌, ◌++◌, length, take, drop, slice_index, ⊤}
-use Rattle.hose_journal.specs.Layout.{open_gate, closed_gate, head_mark, version_place, plain_version, chained_version, digest_bytes, empty_bytes}
+use Rattle.hose_journal.specs.Layout.{open_gate, head_mark, version_place, plain_version, chained_version, digest_bytes, empty_bytes}
 
 -- ---- the layout
 
@@ -34,10 +34,6 @@ head version digest = open_gate ∷ (head_mark ++ version ∷ digest)
 -- what stands before the gate that follows these items
 abbrev pub front : {X : Type 0} → Format X → ℕ → List ℕ → List X → List ℕ
 front format version digest items = head version digest ++ records format [] items
-
--- the journal of these items
-abbrev pub journal_bytes : {X : Type 0} → Format X → ℕ → List ℕ → List X → List ℕ
-journal_bytes format version digest items = front format version digest items ++ closed_gate ∷ []
 
 -- ---- reading an image
 

@@ -5,10 +5,6 @@ use Rattle.std.specs.Prelude.{ℕ, List, [], ◌∷◌}
 abbrev pub open_gate : ℕ
 open_gate = 1
 
--- the gate that is closed
-abbrev pub closed_gate : ℕ
-closed_gate = 0
-
 -- the mark after the first gate: `HOSE`
 abbrev pub head_mark : List ℕ
 head_mark = 72 ∷ 79 ∷ 83 ∷ 69 ∷ []
@@ -40,10 +36,6 @@ seal_body_bytes = 33
 -- the bytes of a journal without a record
 abbrev pub empty_bytes : ℕ
 empty_bytes = 39
-
--- the bytes of a journal's head
-abbrev pub head_bytes : ℕ
-head_bytes = 38
 
 -- the bytes of a record's length
 abbrev pub length_bytes : ℕ

@@ -1,10 +1,11 @@
 // Beginning a journal. Until the last write a stop leaves one that was not begun.
 ghost use Rattle.std.specs.Prelude.{◌≡◌, ◌∷◌, ◌++◌, [], OnOk};
-ghost use Rattle.hose_disk.specs.Disk.{IsCalled};
+ghost use Rattle.hose_disk.specs.steps.Disk.{IsCalled};
 ghost use Rattle.hose_journal.specs.Entries.{front_of};
 ghost use Rattle.hose_journal.specs.Image.{IsClosed, IsUnbegun};
 ghost use Rattle.hose_journal.specs.declared.layout.TheConstants.{CHAINED};
-ghost use Rattle.hose_journal.specs.Moments.{Images, LeavesOnly, ReadsItsImages, TellsAsBefore};
+ghost use Rattle.hose_journal.specs.Moments.{Images, LeavesOnly, TellsAsBefore};
+ghost use Rattle.hose_journal.specs.steps.Moments.{ReadsItsImages};
 ghost use Rattle.hose_journal.specs.Opening.{HasNoRecord};
 
 use crate::layout::{CHAINED, CLOSED, DIGEST_BYTES, HEAD_BYTES, MARK, OPEN, VERSION_AT};

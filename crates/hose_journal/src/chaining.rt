@@ -3,7 +3,8 @@ ghost use Rattle.std.specs.Prelude.{◌≡◌, ◌⊎◌, ◌++◌, ◌∷◌, [
 ghost use Rattle.sha2.specs.Sha256.{sha256};
 ghost use Rattle.hose_graph.specs.declared.entry.Entry.{Entry};
 ghost use Rattle.hose_codec.specs.Spelling.{IsEntry, spelling};
-ghost use Rattle.hose_journal.specs.Chain.{Collide, chain, hashed};
+ghost use Rattle.hose_journal.specs.Chain.{chain};
+ghost use Rattle.hose_journal.specs.steps.Chain.{Collide, hashed};
 ghost use Rattle.hose_journal.specs.Entries.{value_in};
 
 use crate::layout::DIGEST_BYTES;

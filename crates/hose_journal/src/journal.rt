@@ -1,12 +1,13 @@
 // A journal to which entries are added.
 ghost use Rattle.std.specs.Prelude.{◌≡◌, ◌⊎◌, ◌<◌, ◌≤◌, ◌+◌, ◌∷◌, [], Option, Some, None, false, length, IfOk, IsFalse, IsTrue, IsOk, OnErr, OnOk};
 ghost use Rattle.hose_graph.specs.declared.entry.Entry.{Entry};
-ghost use Rattle.hose_graph.specs.Ranges.{IsInRanges};
-ghost use Rattle.hose_disk.specs.Disk.{IsCalled};
+ghost use Rattle.hose_graph.specs.steps.Ranges.{IsInRanges};
+ghost use Rattle.hose_disk.specs.steps.Disk.{IsCalled};
 ghost use Rattle.hose_journal.specs.Chain.{chain};
-ghost use Rattle.hose_journal.specs.Entries.{IsListOf};
-ghost use Rattle.hose_journal.specs.Journal.{Account, IsListAmid, IsReady, Stands, with_doubt, account_with};
-ghost use Rattle.hose_journal.specs.Moments.{Images, IsTornFrom, Lands, LeavesOnly, TellsAsBefore};
+ghost use Rattle.hose_journal.specs.steps.Entries.{IsListOf};
+ghost use Rattle.hose_journal.specs.steps.Journal.{Account, IsListAmid, IsReady, Stands, with_doubt, account_with};
+ghost use Rattle.hose_journal.specs.Moments.{Images, LeavesOnly, TellsAsBefore};
+ghost use Rattle.hose_journal.specs.steps.Moments.{IsTornFrom, Lands};
 ghost use Rattle.hose_journal.specs.declared.layout.TheConstants.{CLOSED};
 
 use crate::chaining::chain_after;

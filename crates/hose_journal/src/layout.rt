@@ -2,7 +2,8 @@
 // where it has any other. In the first version a record is a length and a body; in the second one a
 // chain value stands between them.
 ghost use Rattle.std.specs.Prelude.{◌≡◌};
-ghost use Rattle.hose_journal.specs.Layout.{chained_version, closed_gate, digest_bytes, empty_bytes, head_bytes, head_mark, length_bytes, open_gate, plain_version, seal_body_bytes, seal_kind, version_place};
+ghost use Rattle.hose_journal.specs.Layout.{chained_version, digest_bytes, empty_bytes, head_mark, length_bytes, open_gate, plain_version, seal_body_bytes, seal_kind, version_place};
+ghost use Rattle.hose_journal.specs.steps.Layout.{closed_gate, head_bytes};
 
 use hose_codec::MOST_SPELLING;
 

@@ -2,8 +2,10 @@
 ghost use Rattle.std.specs.Prelude.{◌≡◌, ◌⊎◌, ◌↔◌, [], ◌++◌, List, ℕ, IfErr, IfOk, IfSome, IsErr, IsTrue, MatchResult, OnOk, length};
 ghost use Rattle.hose_journal.specs.Image.{IsUnbegun};
 ghost use Rattle.hose_journal.specs.Moments.{KeepsCount, LeavesOnly};
-ghost use Rattle.hose_journal.specs.Opening.{AddsNoRecord, HasHead, IsFront, IsOpened, IsRefusedJournal, KeepsDisk, KeepsList, KeepsOrBegins};
-ghost use Rattle.hose_journal.specs.Reading.{HasFailed, IsOpen, OnlyRead, Reads};
+ghost use Rattle.hose_journal.specs.Opening.{AddsNoRecord, KeepsDisk};
+ghost use Rattle.hose_journal.specs.steps.Opening.{HasHead, IsFront, IsOpened, IsRefusedJournal, KeepsList, KeepsOrBegins};
+ghost use Rattle.hose_journal.specs.Reading.{HasFailed};
+ghost use Rattle.hose_journal.specs.steps.Reading.{IsOpen, OnlyRead, Reads};
 
 use crate::beginning::begin;
 use crate::fault::JournalFault;

@@ -2,7 +2,7 @@
 ghost use Rattle.std.specs.Prelude.{◌≡◌, ◌↔◌, ◌<◌, ◌≤◌, ◌^◌, ◌++◌, ◌∷◌, [], ℕ, List, IfNone, IfSome, IsTrue, length};
 ghost use Rattle.byteorder.specs.Endian.{big_bytes};
 ghost use Rattle.hose_graph.specs.declared.entry.Entry.{Entry};
-ghost use Rattle.hose_journal.specs.AtGate.{BeginsSeal, HasFields, HasNoFields, IsFoundIn, IsPart};
+ghost use Rattle.hose_journal.specs.steps.AtGate.{BeginsSeal, HasFields, HasNoFields, IsFoundIn, IsPart};
 ghost use Rattle.hose_journal.specs.Chain.{chain};
 ghost use Rattle.hose_journal.specs.Entries.{seal_bytes};
 

@@ -1,7 +1,8 @@
 // The piece of a disk's content that was read last.
 ghost use Rattle.std.specs.Prelude.{◌≡◌, ◌+◌, ◌-◌, ◌<◌, ◌≤◌, ◌^◌, ◌↔◌, ◌⊎◌, IfOk, IfSome, IsErr, IsTrue, OnOk, drop, length, take};
 ghost use Rattle.hose_journal.specs.Moments.{KeepsCount};
-ghost use Rattle.hose_journal.specs.Reading.{HasFailed, IsPiece, OnlyRead, CoversRecord};
+ghost use Rattle.hose_journal.specs.Reading.{HasFailed};
+ghost use Rattle.hose_journal.specs.steps.Reading.{IsPiece, OnlyRead, CoversRecord};
 
 use crate::layout::{MOST_PART, PIECE_BYTES};
 use hose_disk::{Disk, Failed};

@@ -1,13 +1,16 @@
 // A journal whose entries are read, one after another, and that it is read as one list.
 ghost use Rattle.std.specs.Prelude.{◌≡◌, ◌≤◌, ◌++◌, [], List, ℕ, None, Some, IfSome, IsErr, IsFalse, IsTrue, OnErr, OnOk, true, vec_capacity};
 ghost use Rattle.hose_graph.specs.declared.entry.Entry.{Entry};
-ghost use Rattle.hose_journal.specs.AtGate.{BeginsSeal};
+ghost use Rattle.hose_journal.specs.steps.AtGate.{BeginsSeal};
 ghost use Rattle.hose_journal.specs.Chain.{chain};
-ghost use Rattle.hose_journal.specs.Entries.{IsListOf, Item, entries_format, entries_in};
-ghost use Rattle.hose_journal.specs.Image.{AreItems, IsVersion, journal_bytes};
-ghost use Rattle.hose_journal.specs.Journal.{Stands};
+ghost use Rattle.hose_journal.specs.Entries.{Item, entries_format, entries_in};
+ghost use Rattle.hose_journal.specs.steps.Entries.{IsListOf};
+ghost use Rattle.hose_journal.specs.Image.{AreItems, IsVersion};
+ghost use Rattle.hose_journal.specs.steps.Image.{journal_bytes};
+ghost use Rattle.hose_journal.specs.steps.Journal.{Stands};
 ghost use Rattle.hose_journal.specs.Moments.{KeepsCount};
-ghost use Rattle.hose_journal.specs.Reading.{AtGate, HasFailed, HasRead, IsAtNoSeal, IsOpen, KeepsJournalFault, OnlyRead, CoversRecord, Reads, held_from};
+ghost use Rattle.hose_journal.specs.Reading.{HasFailed};
+ghost use Rattle.hose_journal.specs.steps.Reading.{AtGate, HasRead, IsAtNoSeal, IsOpen, KeepsJournalFault, OnlyRead, CoversRecord, Reads, held_from};
 ghost use Rattle.hose_journal.specs.declared.layout.TheConstants.{BUFFER_BYTES, HEAD_BYTES};
 
 use crate::fault::JournalFault;

@@ -1,10 +1,11 @@
 // Writes that are synced, and the two steps of an append by them. Between the two a stop leaves the
 // list as it was.
 ghost use Rattle.std.specs.Prelude.{◌≡◌, ◌+◌, ◌<◌, ◌≤◌, ◌^◌, ◌∷◌, ◌++◌, [], List, ℕ, length, IfSome, OnOk};
-ghost use Rattle.hose_disk.specs.Disk.{IsCalled};
-ghost use Rattle.hose_journal.specs.Gates.{IsDoubtful, Starts};
+ghost use Rattle.hose_disk.specs.steps.Disk.{IsCalled};
+ghost use Rattle.hose_journal.specs.steps.Gates.{IsDoubtful, Starts};
 ghost use Rattle.hose_journal.specs.Image.{IsClosed};
-ghost use Rattle.hose_journal.specs.Moments.{Images, IsTornFrom, Lands, LeavesOnly, ReadsItsImages, TellsAsBefore};
+ghost use Rattle.hose_journal.specs.Moments.{Images, LeavesOnly, TellsAsBefore};
+ghost use Rattle.hose_journal.specs.steps.Moments.{IsTornFrom, Lands, ReadsItsImages};
 
 use hose_disk::{Disk, Failed};
 

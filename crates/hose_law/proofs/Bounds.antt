@@ -15,8 +15,10 @@ use Rattle.hose_graph.specs.Network.{Network, IsNetwork}
 use Rattle.hose_graph.specs.Ranges.{AreInRanges, IsAmount}
 use Rattle.hose_graph.specs.declared.limits.TheConstants.{MOST_AMOUNT, MOST_COST, MOST_RATE, MOST_TREE_LINKS}
 use Rattle.hose_graph.specs.declared.topology.Step.{Step}
-use Rattle.hose_law.specs.Plan.{AreNodes, plan_cost}
-use Rattle.hose_law.specs.Tree.{Grow, IsOn, IsReservation, IsTreeReservation, growth, links_of, step_links, new_nodes}
+use Rattle.hose_law.specs.Plan.{plan_cost}
+use Rattle.hose_law.specs.steps.Plan.{AreNodes}
+use Rattle.hose_law.specs.Tree.{Grow, IsOn, IsReservation, IsTreeReservation, links_of, step_links, new_nodes}
+use Rattle.hose_law.specs.steps.Tree.{growth}
 use Rattle.hose_law.specs.Walk.{Joins, cost_of}
 use Rattle.hose_law.proofs.Apart.{apart_links, apart_rising, same_sums}
 use Rattle.hose_law.proofs.Joined.{joined, joins_costs}

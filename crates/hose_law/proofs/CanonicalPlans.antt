@@ -7,7 +7,8 @@ use Rattle.hose_graph.specs.Hose.{IsHose, total_rate}
 use Rattle.hose_graph.specs.Network.{Network, IsNetwork}
 use Rattle.hose_law.specs.Book.{Book}
 use Rattle.hose_law.specs.CanonicalPlan.{IsWeight, IsRoot, IsCanonicalTree, IsCanonicalPlan}
-use Rattle.hose_law.specs.Decision.{Fits, CanBeReserved, IsAllowed, IsPlanned, IsPlannedOver, IsRefused, AreGrounds, lowest_end, IsReachedList, HaveEqualDecisions, HaveEqualGrounds}
+use Rattle.hose_law.specs.Decision.{Fits, CanBeReserved, IsAllowed, IsPlanned, IsPlannedOver, IsRefused, AreGrounds, lowest_end, IsReachedList, HaveEqualGrounds}
+use Rattle.hose_law.specs.steps.Decision.{HaveEqualDecisions}
 use Rattle.hose_law.specs.Room.{Room, room_of, safe_links}
 use Rattle.hose_law.specs.Tree.{Growth, IsReservation, IsTreeReservation, links_of, way_up, goes_along, rate_beyond, smaller_side}
 use Rattle.hose_law.specs.Walk.{IsIn}

@@ -14,7 +14,8 @@ use Rattle.hose_graph.specs.declared.entry.Entry.TheVariants.{Admit}
 use Rattle.hose_graph.specs.declared.topology.Step.{Step}
 use Rattle.hose_law.specs.CanonicalPlan.{IsCanonicalPlan, IsWeight}
 use Rattle.hose_law.specs.Carries.{Carry, amounts_on}
-use Rattle.hose_law.specs.Cheapest.{AreCheapest, HasRootWithin, IsCheapest, amounts_cost}
+use Rattle.hose_law.specs.Cheapest.{AreCheapest, IsCheapest, amounts_cost}
+use Rattle.hose_law.specs.steps.Cheapest.{HasRootWithin}
 use Rattle.hose_law.specs.Book.{Book}
 use Rattle.hose_law.specs.History.{AreFrom, IsDecided, IsDecidedAt, book_after, next_book, opening_book}
 use Rattle.hose_law.specs.Plan.{plan_cost}

@@ -2,7 +2,7 @@
 use Rattle.std.proofs.Common.{◌≡◌, ◌∙◌, ℕ, ◌+◌, ◌<◌, ◌≤◌, Bool, true, false, not, List, length, get_or, cond, refl, ap, arith}
 use Rattle.std.proofs.lemmas.List.{get_or-map}
 use Rattle.hose_graph.specs.Hose.{total_rate}
-use Rattle.hose_law.specs.Heaviest.{lies_beyond}
+use Rattle.hose_law.specs.steps.Heaviest.{lies_beyond}
 use Rattle.hose_law.specs.Matrix.{sum_below, demand, rate_at, IsWithinRates}
 use Rattle.hose_law.specs.Route.{one_alone, matrix_load}
 use Rattle.hose_law.specs.Tree.{Growth, goes_along, way_up, rate_beyond, smaller_side}

@@ -11,7 +11,7 @@ use Rattle.hose_graph.specs.declared.entry.Entry.{Entry}
 use Rattle.hose_graph.specs.declared.entry.Entry.TheVariants.{Admit, Release, Down, Up}
 use Rattle.hose_law.specs.Book.{Book}
 use Rattle.hose_law.specs.History.{opening_book, next_book, book_after, book_of, is_vpn}
-use Rattle.hose_law.specs.Live.{HasRisingIds, IsBetween}
+use Rattle.hose_law.specs.steps.Live.{HasRisingIds, IsBetween}
 use Rattle.hose_law.specs.Service.{put_back, taken_out}
 
 -- an entry makes the epoch one more

@@ -14,8 +14,8 @@ use Rattle.hose_graph.specs.Network.{Network}
 use Rattle.hose_law.specs.Answer.{IsAfterAnswer, IsNewest}
 use Rattle.hose_law.specs.Book.{Book}
 use Rattle.hose_law.specs.History.{book_of, opening_book}
-use Rattle.hose_law.specs.Live.{IsBetween}
-use Rattle.hose_law.specs.Once.{AdmitsOnce}
+use Rattle.hose_law.specs.steps.Live.{IsBetween}
+use Rattle.hose_law.specs.steps.Once.{AdmitsOnce}
 use Rattle.hose_law.proofs.Epochs.{epoch_after}
 use Rattle.hose_law.proofs.LiveIds.{rising_ids}
 use Rattle.hose_law.proofs.Lives.{stays_live}

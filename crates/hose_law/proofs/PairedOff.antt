@@ -3,7 +3,7 @@ use Rattle.std.proofs.Common.{◌≡◌, ◌∙◌, ℕ, zero, suc, ◌+◌, ◌
 use Rattle.std.specs.List.{All}
 use Rattle.std.specs.Prelude.{nat_lt}
 use Rattle.std.proofs.lemmas.Bool.Decides.{nat_tests}
-use Rattle.hose_law.specs.Heaviest.{lies_beyond, rate_before, common, IsPairedOff}
+use Rattle.hose_law.specs.steps.Heaviest.{lies_beyond, rate_before, common, IsPairedOff}
 use Rattle.hose_law.specs.Matrix.{sum_below, demand, rate_at, IsWithinRates}
 use Rattle.hose_law.specs.Route.{one_alone, matrix_load}
 use Rattle.hose_law.specs.Tree.{Growth, smaller_side}

@@ -8,7 +8,8 @@ use Rattle.std.proofs.lemmas.List.Sums.{sum_by-cons}
 use Rattle.hose_graph.specs.Hose.{total_rate}
 use Rattle.hose_graph.specs.Network.{Network}
 use Rattle.hose_graph.specs.declared.topology.Step.{Step}
-use Rattle.hose_law.specs.Route.{one_alone, AreSame, HaveSameRoutes}
+use Rattle.hose_law.specs.Route.{one_alone}
+use Rattle.hose_law.specs.steps.Route.{AreSame, HaveSameRoutes}
 use Rattle.hose_law.specs.Tree.{Growth, IsOn, Grow, IsTree, links_up, goes_along, step_links}
 use Rattle.hose_law.specs.Walk.{Joins}
 use Rattle.hose_law.proofs.TightWays.{in_reverse, from_reverse}

@@ -5,7 +5,8 @@ use Rattle.std.proofs.lemmas.Bool.{cases_eq}
 use Rattle.std.proofs.lemmas.List.{get_or_default}
 use Rattle.std.proofs.lemmas.Option.{MatchOption-at_some, MatchOption-at_none, none-some}
 use Rattle.hose_graph.specs.Network.{Network, IsNetwork}
-use Rattle.hose_graph.specs.Row.{Distances, HasBoundedDistances, IsWithinReach, distance_of, tight_link_of}
+use Rattle.hose_graph.specs.Row.{Distances, distance_of, tight_link_of}
+use Rattle.hose_graph.specs.steps.Row.{HasBoundedDistances, IsWithinReach}
 use Rattle.hose_graph.specs.declared.limits.TheConstants.{MOST_DISTANCE}
 use Rattle.hose_law.specs.Walk.{cost_of, Joins, IsIn, IsWalk, walk_cost, IsDistance, Reaches}
 use Rattle.hose_law.specs.Row.{IsTight, IsTightLink, IsRow}

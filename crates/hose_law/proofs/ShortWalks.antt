@@ -8,7 +8,8 @@ use Rattle.std.proofs.lemmas.List.Sums.{sum_by-set}
 use Rattle.std.proofs.lemmas.List.Folds.{sum_by-replicate}
 use Rattle.hose_graph.specs.declared.limits.TheConstants.{MOST_COST, MOST_DISTANCE}
 use Rattle.hose_graph.specs.Network.{Network, IsNetwork}
-use Rattle.hose_law.specs.Walk.{cost_of, Joins, IsIn, set_without, IsWalk, walk_cost, IsDistance}
+use Rattle.hose_law.specs.Walk.{cost_of, Joins, IsIn, IsWalk, walk_cost, IsDistance}
+use Rattle.hose_law.specs.steps.Walk.{set_without}
 use Rattle.hose_law.proofs.Joined.{joins_nodes, joins_costs}
 
 -- how many nodes a side has

@@ -7,7 +7,8 @@ use Rattle.hose_graph.specs.declared.command.Command.TheVariants.{Admit, AdmitAf
 use Rattle.hose_graph.specs.declared.command.Reply.{Reply}
 use Rattle.hose_graph.specs.declared.command.Reply.TheVariants.{Admitted, Quoted, Refused, Stale, Full, Spent, Released, NoVpn, TooMany, Shown, Vpns, Newest, LinkState, Down, Up, Already, Denied, Memory}
 use Rattle.hose_graph.specs.Hose.{Endpoint}
-use Rattle.hose_law.specs.Answer.{ChangesHeld, IsAdmitAnswer, IsAfterAnswer, IsAnswer, IsLinkAnswer, IsOperatorAnswer, IsPlannedAnswer, IsQuoteAnswer, IsReleaseAnswer, IsServiceAnswer, IsShowAnswer, IsStepOf, IsStepOfKind, IsTakeAnswer, IsTakingAnswer, IsVpnsAnswer, with_entry}
+use Rattle.hose_law.specs.Answer.{IsAdmitAnswer, IsAfterAnswer, IsAnswer, IsLinkAnswer, IsOperatorAnswer, IsPlannedAnswer, IsQuoteAnswer, IsReleaseAnswer, IsServiceAnswer, IsShowAnswer, IsStepOf, IsStepOfKind, IsTakeAnswer, IsTakingAnswer, IsVpnsAnswer, with_entry}
+use Rattle.hose_law.specs.steps.Answer.{ChangesHeld}
 use Rattle.hose_law.specs.Book.{Book}
 use Rattle.hose_law.specs.History.{IsDecidedAt, IsSoundAt, book_of}
 use Rattle.hose_law.specs.ReplyKind.{ReplyKind, kind_of}

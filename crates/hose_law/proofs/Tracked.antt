@@ -16,7 +16,8 @@ use Rattle.hose_graph.specs.declared.entry.Vpn.{Vpn}
 use Rattle.hose_law.specs.Book.{Book, amount_on, load_of}
 use Rattle.hose_law.specs.History.{book_after, book_of, is_vpn, next_book, opening_book}
 use Rattle.hose_law.specs.Service.{is_out}
-use Rattle.hose_law.specs.Tracks.{Change, IsNamedSince, LoadsStay, Recent, ServiceStays, Tracks, changes_from, changes_of, touched_links}
+use Rattle.hose_law.specs.Tracks.{Change, Recent, Tracks, changes_from, changes_of, touched_links}
+use Rattle.hose_law.specs.steps.Tracks.{IsNamedSince, LoadsStay, ServiceStays}
 use Rattle.hose_law.proofs.LiveIds.{next_epoch}
 use Rattle.hose_law.proofs.Serving.{back_other, out_other}
 

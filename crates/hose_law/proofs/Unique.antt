@@ -23,7 +23,8 @@ use Rattle.hose_law.specs.Decision.{HaveEqualGrounds, IsPlanned, IsReachedList, 
 use Rattle.hose_law.specs.History.{book_of, last_epoch, most_live}
 use Rattle.hose_law.specs.Room.{room_of, safe_links}
 use Rattle.hose_law.specs.Answer.{AreVpnsOf, IsNewest, IsPlannedAnswer, IsAdmitAnswer, IsAfterAnswer, IsQuoteAnswer, IsTakingAnswer, IsTakeAnswer, IsReleaseAnswer, IsShowAnswer, IsVpnsAnswer, IsLinkAnswer, IsOperatorAnswer, IsServiceAnswer, IsAnswer, IsStep, IsStepOfKind, with_entry}
-use Rattle.hose_law.specs.Service.{LinkStands, is_out, service_entry}
+use Rattle.hose_law.specs.Service.{LinkStands, is_out}
+use Rattle.hose_law.specs.steps.Service.{service_entry}
 use Rattle.hose_law.specs.Quotes.{Held, HeldQuote, Holdings, at_number, free_number, with_held, with_number}
 use Rattle.hose_law.specs.ReplyKind.{ReplyKind, IsDiskKind, IsMemoryKind, kind_of}
 use Rattle.hose_law.specs.ReplyKind.ReplyKind.{ByTheBook, ForDisk, ForMemory, ForNoCommand}

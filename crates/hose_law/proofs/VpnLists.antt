@@ -14,7 +14,7 @@ use Rattle.hose_law.specs.Answer.{AreVpnsOf}
 use Rattle.hose_law.specs.Book.{Book, HasVpn}
 use Rattle.hose_law.specs.History.{book_of}
 use Rattle.hose_law.specs.Live.{Rise}
-use Rattle.hose_law.specs.VpnIds.{ids_of}
+use Rattle.hose_law.specs.steps.VpnIds.{ids_of}
 use Rattle.hose_law.proofs.LiveIds.{rising_ids}
 use Rattle.hose_law.proofs.Unique.{vpns_unique}
 

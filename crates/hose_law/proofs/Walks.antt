@@ -4,7 +4,8 @@ use Rattle.std.specs.Option.{IsSomeAnd}
 use Rattle.std.specs.List.{slice_get}
 use Rattle.hose_graph.specs.declared.topology.Link.{Link}
 use Rattle.hose_graph.specs.Network.{Network}
-use Rattle.hose_law.specs.Walk.{IsIn, Joins, IsWalk, Reaches, IsClosedSide}
+use Rattle.hose_law.specs.Walk.{IsIn, Joins, IsWalk, Reaches}
+use Rattle.hose_law.specs.steps.Walk.{IsClosedSide}
 
 -- no walk over the set leaves a side that is closed
 pub stays : (network : Network) (set side : List Bool) → IsClosedSide network set side → (u v : ℕ) (walk : List ℕ) → IsWalk network set u v walk → IsIn side u → IsIn side v

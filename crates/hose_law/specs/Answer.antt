@@ -250,16 +250,3 @@ abbrev pub IsStep : Network → ℕ → List Entry → List ℕ → Held → Com
 IsStep network epoch history customer held command reply next after =
     (entry : Option Entry)
     × IsStepOf network epoch history customer held command reply entry next after
-
--- the commands that may change what their customer holds
-abbrev pub ChangesHeld : Command → Type 0
-ChangesHeld (Admit hose) = ⊥
-ChangesHeld (AdmitAfter known hose) = ⊥
-ChangesHeld (Quote hose) = ⊤
-ChangesHeld (Take number) = ⊤
-ChangesHeld (Release id) = ⊥
-ChangesHeld (Show id) = ⊥
-ChangesHeld VpnsCommand = ⊥
-ChangesHeld (Link link) = ⊥
-ChangesHeld (DownCommand link) = ⊥
-ChangesHeld (UpCommand link) = ⊥

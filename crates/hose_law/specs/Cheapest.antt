@@ -1,18 +1,16 @@
 -- Least cost: amounts that carry a hose over a set of links, and none on any tree that cost less.
-use Rattle.std.specs.Prelude.{◌≡◌, ℕ, ◌<◌, ◌≤◌, Bool, List, length, take, Some, All, slice_get}
+use Rattle.std.specs.Prelude.{◌≡◌, ℕ, ◌≤◌, Bool, List, take, Some, slice_get}
 use Rattle.hose_graph.specs.declared.entry.Entry.{Entry}
 use Rattle.hose_graph.specs.declared.entry.Entry.TheVariants.{Admit}
 use Rattle.hose_graph.specs.Amounts.{ReservedLink}
-use Rattle.hose_graph.specs.Hose.{Endpoint, node_of}
+use Rattle.hose_graph.specs.Hose.{Endpoint}
 use Rattle.hose_graph.specs.Network.{Network}
-use Rattle.hose_law.specs.CanonicalPlan.{IsWeight}
 use Rattle.hose_law.specs.Carries.{Carry, CarryOver, amounts_on}
 use Rattle.hose_law.specs.Decision.{IsAllowed}
 use Rattle.hose_law.specs.History.{book_of}
 use Rattle.hose_law.specs.Plan.{plan_cost}
 use Rattle.hose_law.specs.Room.{room_of}
 use Rattle.hose_law.specs.Tree.{Growth, IsTree, IsTreeOver}
-use Rattle.hose_law.specs.Walk.{Reaches}
 
 -- what amounts on a tree cost, of which there is one for each step
 abbrev pub amounts_cost : Network → Growth → List ℕ → ℕ
@@ -25,16 +23,6 @@ pub record IsCheapest (network : Network) (set : List Bool) (hose : List Endpoin
   pub carries : CarryOver network set hose pairs
   pub least : (tree : Growth) (amounts : List ℕ) → IsTree network tree → IsTreeOver set tree
       → Carry tree hose amounts → plan_cost network pairs ≤ amounts_cost network tree amounts
-
--- Some node that reaches all endpoints over a set of links weighs no more than this: it cannot but
--- have a weight, and has none above.
-pub record HasRootWithin (network : Network) (set : List Bool) (hose : List Endpoint)
-    (most : ℕ) : Type 0 where
-  pub root : ℕ
-  pub is_node : root < length network.nodes
-  pub reaches : All (λ (end : Endpoint). Reaches network set root (node_of end)) hose
-  pub weighs : ¬ ((weight : ℕ) → ¬ IsWeight network set root hose weight)
-  pub within : (weight : ℕ) → IsWeight network set root hose weight → weight ≤ most
 
 -- Each admission of a history from a place on reserves a cheapest way to carry its hose over the
 -- links that were allowed at the book before it.

@@ -85,14 +85,3 @@ pub record HaveEqualGrounds (network : Network) (one other : Book)
   pub safe : List Bool
   pub here : AreGrounds network (room_of network one) hose service fits safe
   pub there : AreGrounds network (room_of network other) hose service fits safe
-
--- The decisions on a hose at two books are the same: one admits it with a plan over a set just
--- where the other does, and refuses it with a side just where the other does.
-pub record HaveEqualDecisions (network : Network) (one other : Book)
-    (hose : List Endpoint) : Type 0 where
-  pub plans : (set : List Bool) (plan : List ReservedLink)
-      → IsPlannedOver network (room_of network one) hose set plan
-      ↔ IsPlannedOver network (room_of network other) hose set plan
-  pub refusals : (side : List ℕ)
-      → IsRefused network (room_of network one) hose side
-      ↔ IsRefused network (room_of network other) hose side

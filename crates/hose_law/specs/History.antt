@@ -1,6 +1,6 @@
 -- Histories: lists of accepted entries, the books that they lead to, and which of them are sound
 -- and decided.
-use Rattle.std.specs.Prelude.{ℕ, zero, suc, ◌+◌, ◌<◌, ◌==◌, ◌&&◌, not, Bool, List, [], ◌∷◌, ◌++◌, filter, length, Option, None, Some, ⊤}
+use Rattle.std.specs.Prelude.{ℕ, zero, suc, ◌+◌, ◌<◌, ◌==◌, ◌&&◌, not, Bool, List, [], ◌∷◌, ◌++◌, filter, length, ⊤}
 use Rattle.std.specs.Str.{bytes_eq}
 use Rattle.hose_graph.specs.declared.entry.Entry.{Entry}
 use Rattle.hose_graph.specs.declared.entry.Entry.TheVariants.{Admit, Release, Down, Up}
@@ -67,11 +67,6 @@ IsSoundAt network book (Admit customer hose amounts) =
 IsSoundAt network book (Release customer id) = (book.epoch < last_epoch) × HasVpn book customer id
 IsSoundAt network book (Down link) = (book.epoch < last_epoch) × IsInService network book link
 IsSoundAt network book (Up link) = (book.epoch < last_epoch) × IsOutOfService network book link
-
--- an entry, if there is one, is sound at a book
-abbrev pub IsSoundWith : Network → Book → Option Entry → Type 0
-IsSoundWith network book None = ⊤
-IsSoundWith network book (Some entry) = IsSoundAt network book entry
 
 -- An entry is decided at a book: it is sound there, and an admission's plan is the decision's.
 abbrev pub IsDecidedAt : Network → Book → Entry → Type 0

@@ -5,11 +5,9 @@ pub mod Carried
 pub mod Carries
 pub mod Cheapest
 pub mod Decision
-pub mod Heaviest
 pub mod History
 pub mod Live
 pub mod Matrix
-pub mod Once
 pub mod Plan
 pub mod Quotes
 pub mod ReplyKind
@@ -21,8 +19,8 @@ pub mod Service
 pub mod Tracks
 pub mod Transcript
 pub mod Tree
-pub mod VpnIds
 pub mod Walk
+pub mod steps
 pub use Rattle.hose_graph.specs.Ascending
 pub use Rattle.hose_graph.specs.Hose
 pub use Rattle.hose_graph.specs.Network

@@ -2,8 +2,6 @@
 -- network: all links are in service then.
 use Rattle.std.specs.Prelude.{◌≡◌, ℕ, ◌==◌, Bool, true, false, not, List, [], ◌∷◌, ◌++◌, filter, length, map}
 use Rattle.std.specs.List.{list_any, range_with_len}
-use Rattle.hose_graph.specs.declared.entry.Entry.{Entry}
-use Rattle.hose_graph.specs.declared.entry.Entry.TheVariants.{Down, Up}
 use Rattle.hose_graph.specs.Network.{Network, IsLinkOf}
 use Rattle.hose_law.specs.Book.{Book}
 
@@ -35,8 +33,3 @@ IsInService network book link = LinkStands network book link false
 -- at a book this is a link of the network that is out of service
 abbrev pub IsOutOfService : Network → Book → ℕ → Type 0
 IsOutOfService network book link = LinkStands network book link true
-
--- the entry that takes a link out of service, where this is true, or puts it back
-abbrev pub service_entry : Bool → ℕ → Entry
-service_entry true link = Down link
-service_entry false link = Up link

@@ -1,14 +1,13 @@
 -- Which links the recent entries of a history touched: only their loads may have changed, and
 -- whether they are in service.
-use Rattle.std.specs.Prelude.{◌≡◌, ℕ, ◌+◌, ◌<◌, ◌≤◌, List, [], ◌∷◌, ◌++◌, filter, length, map, take, Contains}
+use Rattle.std.specs.Prelude.{◌≡◌, ℕ, ◌+◌, List, [], ◌∷◌, ◌++◌, filter, length, map}
 use Rattle.std.specs.List.{flat_map}
 use Rattle.hose_graph.specs.Ascending.{firsts}
 use Rattle.hose_graph.specs.declared.entry.Entry.{Entry}
 use Rattle.hose_graph.specs.declared.entry.Entry.TheVariants.{Admit, Release, Down, Up}
 use Rattle.hose_graph.specs.declared.entry.Vpn.{Vpn}
-use Rattle.hose_law.specs.Book.{Book, load_of}
+use Rattle.hose_law.specs.Book.{Book}
 use Rattle.hose_law.specs.History.{book_of, is_vpn, next_book}
-use Rattle.hose_law.specs.Service.{is_out}
 
 -- a change: the epoch after an entry, and a link that the entry touched
 abbrev pub Change : Type 0
@@ -39,10 +38,6 @@ changes_from book (entry ∷ entries) =
     changes_of (book.epoch + 1) (touched_links book entry)
     ++ changes_from (next_book book entry) entries
 
--- a change of a later epoch names the link
-abbrev pub IsNamedSince : List Change → ℕ → ℕ → Type 0
-IsNamedSince changes seen link = (epoch : ℕ) × (seen < epoch) × Contains changes (epoch, link)
-
 -- The changes are those of the entries of a history that came since a floor, which is an epoch of
 -- the history.
 pub record Tracks (epoch : ℕ) (history : List Entry) (recent : Recent) : Type 0 where
@@ -51,19 +46,3 @@ pub record Tracks (epoch : ℕ) (history : List Entry) (recent : Recent) : Type 
   pub whole : history ≡ before ++ since
   pub floor : recent.floor ≡ epoch + length before
   pub changes : recent.changes ≡ changes_from (book_of epoch before) since
-
--- from each place whose epoch is at least the floor on, what a link carries stays as it is where no
--- change of a later epoch names the link
-abbrev pub LoadsStay : ℕ → List Entry → Recent → Type 0
-LoadsStay epoch history recent = (place link : ℕ)
-    → place ≤ length history → recent.floor ≤ epoch + place
-    → ¬ IsNamedSince recent.changes (epoch + place) link
-    → load_of (book_of epoch (take place history)) link ≡ load_of (book_of epoch history) link
-
--- from each place whose epoch is at least the floor on, whether a link is out of service stays as
--- it is where no change of a later epoch names the link
-abbrev pub ServiceStays : ℕ → List Entry → Recent → Type 0
-ServiceStays epoch history recent = (place link : ℕ)
-    → place ≤ length history → recent.floor ≤ epoch + place
-    → ¬ IsNamedSince recent.changes (epoch + place) link
-    → is_out (book_of epoch (take place history)).out link ≡ is_out (book_of epoch history).out link

@@ -13,10 +13,6 @@ pub record Growth : Type 0 where
   pub start : ℕ
   pub steps : List Step
 
--- the growth of a start node and steps
-abbrev pub growth : ℕ → List Step → Growth
-growth start steps = record { start = start; steps = steps }
-
 -- the links of steps
 abbrev pub step_links : List Step → List ℕ
 step_links steps = map (λ (step : Step). step.link) steps

@@ -1,5 +1,5 @@
 -- Walks over a set of links, distances, and what a node reaches.
-use Rattle.std.specs.Prelude.{◌≡◌, ◌⊎◌, ℕ, ◌+◌, ◌≤◌, Bool, true, false, List, [], ◌∷◌, map, length, IsTrue, IsSomeAnd, replicate, slice_get, slice_set, slice_index, slice_index_or}
+use Rattle.std.specs.Prelude.{◌≡◌, ◌⊎◌, ℕ, ◌+◌, ◌≤◌, Bool, true, false, List, [], ◌∷◌, map, length, IsTrue, IsSomeAnd, replicate, slice_get, slice_index, slice_index_or}
 use Rattle.hose_graph.specs.declared.topology.Link.{Link}
 use Rattle.hose_graph.specs.Network.{Network}
 
@@ -25,10 +25,6 @@ IsIn set l = IsTrue (slice_index_or set l false)
 abbrev pub all_links : Network → List Bool
 all_links network = replicate (length network.links) true
 
--- the set without a link
-abbrev pub set_without : List Bool → ℕ → List Bool
-set_without set l = slice_set set l false
-
 -- A walk over a set of links is the list of the links that it goes along, from a node to a node.
 abbrev pub IsWalk : Network → List Bool → ℕ → ℕ → List ℕ → Type 0
 IsWalk network set u v [] = u ≡ v
@@ -50,8 +46,3 @@ pub record IsDistance (network : Network) (set : List Bool) (u v distance : ℕ)
 -- there is a walk from the one node to the other
 abbrev pub Reaches : Network → List Bool → ℕ → ℕ → Type 0
 Reaches network set u v = (walk : List ℕ) × IsWalk network set u v walk
-
--- No link of the set leads out of a side, which has a truth value for each node.
-abbrev pub IsClosedSide : Network → List Bool → List Bool → Type 0
-IsClosedSide network set side =
-    (l u v : ℕ) → IsIn set l → Joins network l u v → IsIn side u → IsIn side v

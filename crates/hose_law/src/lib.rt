@@ -13,17 +13,22 @@ ghost use Rattle.std.specs.Prelude.{◌≡◌, ◌↔◌, ℕ, ◌≤◌, List, 
 ghost use Rattle.hose_law.specs.Answer.{AreVpnsOf};
 ghost use Rattle.hose_law.specs.Book.{IsOversold};
 ghost use Rattle.hose_law.specs.Carries.{Carry};
-ghost use Rattle.hose_law.specs.Cheapest.{HasRootWithin, amounts_cost};
+ghost use Rattle.hose_law.specs.Cheapest.{amounts_cost};
+ghost use Rattle.hose_law.specs.steps.Cheapest.{HasRootWithin};
 ghost use Rattle.hose_law.specs.CanonicalPlan.{IsCanonicalPlan, IsRoot, IsWeight};
-ghost use Rattle.hose_law.specs.Decision.{HaveEqualDecisions, HaveEqualGrounds};
+ghost use Rattle.hose_law.specs.Decision.{HaveEqualGrounds};
+ghost use Rattle.hose_law.specs.steps.Decision.{HaveEqualDecisions};
 ghost use Rattle.hose_law.specs.History.{IsSound, book_of};
-ghost use Rattle.hose_law.specs.Live.{AreLiveUnreleased, IsAdmission, StaysLive};
-ghost use Rattle.hose_law.specs.Once.{AdmitsOnce};
+ghost use Rattle.hose_law.specs.Live.{AreLiveUnreleased, StaysLive};
+ghost use Rattle.hose_law.specs.steps.Live.{IsAdmission};
+ghost use Rattle.hose_law.specs.steps.Once.{AdmitsOnce};
 ghost use Rattle.hose_law.specs.Plan.{plan_cost};
-ghost use Rattle.hose_law.specs.Route.{AreSame, HaveSameRoutes};
-ghost use Rattle.hose_law.specs.Tracks.{LoadsStay, Recent, ServiceStays, Tracks};
-ghost use Rattle.hose_law.specs.Tree.{IsTree, IsTreeOver, growth};
-ghost use Rattle.hose_law.specs.VpnIds.{ids_of};
+ghost use Rattle.hose_law.specs.steps.Route.{AreSame, HaveSameRoutes};
+ghost use Rattle.hose_law.specs.Tracks.{Recent, Tracks};
+ghost use Rattle.hose_law.specs.steps.Tracks.{LoadsStay, ServiceStays};
+ghost use Rattle.hose_law.specs.Tree.{IsTree, IsTreeOver};
+ghost use Rattle.hose_law.specs.steps.Tree.{growth};
+ghost use Rattle.hose_law.specs.steps.VpnIds.{ids_of};
 
 use hose_graph::{Amounts, Entry, Hose, Name, Step, Topology};
 

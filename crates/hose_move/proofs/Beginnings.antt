@@ -3,21 +3,24 @@ use Rattle.std.proofs.Common.{◌≡◌, ◌∙◌, ℕ, List, Option, None, Som
 use Rattle.std.specs.Prelude.{Result, Ok, Err}
 use Rattle.hose_io.proofs.Frames.{Rose-later, Stays-next}
 use Rattle.hose_graph.specs.Network.{Network}
-use Rattle.hose_graph.specs.Ranges.{IsInRanges}
+use Rattle.hose_graph.specs.steps.Ranges.{IsInRanges}
 use Rattle.hose_disk.specs.Disk.{object_frame}
 use Rattle.hose_disk.specs.declared.disk.Disk.{Ghosts}
 use Rattle.hose_journal.specs.Image.{IsUnbegun, damaged, other}
 use Rattle.hose_journal.specs.Moments.{KeepsCount}
-use Rattle.hose_journal.specs.Opening.{IsOpened, KeepsDisk}
-use Rattle.hose_journal.specs.Reading.{HasFailed, OnlyRead}
+use Rattle.hose_journal.specs.Opening.{KeepsDisk}
+use Rattle.hose_journal.specs.steps.Opening.{IsOpened}
+use Rattle.hose_journal.specs.Reading.{HasFailed}
+use Rattle.hose_journal.specs.steps.Reading.{OnlyRead}
 use Rattle.hose_journal.proofs.Runs.{joined, weaker}
-use Rattle.hose_store.specs.Becoming.{BeginsAtMost}
+use Rattle.hose_store.specs.steps.Becoming.{BeginsAtMost}
 use Rattle.hose_store.specs.Opening.{IsRefusedStore, IsUnchanged}
 use Rattle.hose_store.specs.Recovery.{IsHistoryOf, IsRecoveredAs, digest_of}
 use Rattle.hose_store.specs.declared.fault.StoreFault.{StoreFault}
 use Rattle.hose_store.specs.declared.fault.StoreFault.TheVariants as store
-use Rattle.hose_move.specs.Collecting.{IsReadNoFurther}
-use Rattle.hose_move.specs.Stating.{ReadsJournal, StatesAll, StatesHistory}
+use Rattle.hose_move.specs.steps.Collecting.{IsReadNoFurther}
+use Rattle.hose_move.specs.Stating.{ReadsJournal, StatesHistory}
+use Rattle.hose_move.specs.steps.Stating.{StatesAll}
 use Rattle.hose_move.specs.declared.stating.Scope.{Scope}
 use Rattle.hose_move.specs.declared.stating.Stated.{Stated}
 

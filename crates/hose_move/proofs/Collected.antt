@@ -3,20 +3,20 @@ use Rattle.std.proofs.Common.{ℕ, ◌≤◌, List, [], ◌∷◌, ◌++◌, Non
 use Rattle.std.specs.Prelude.{Ok, Err}
 use Rattle.std.proofs.lemmas.List.Elements.{All-append, All-cons, All-nil}
 use Rattle.hose_graph.specs.Network.{Network}
-use Rattle.hose_graph.specs.Ranges.{IsInRanges}
+use Rattle.hose_graph.specs.steps.Ranges.{IsInRanges}
 use Rattle.hose_graph.specs.declared.entry.Entry.{Entry}
 use Rattle.hose_graph.specs.declared.entry.Entry.TheVariants.{Admit, Release, Down, Up}
 use Rattle.hose_codec.specs.Spelling.{IsEntry}
 use Rattle.hose_disk.specs.declared.disk.Disk.{Ghosts}
-use Rattle.hose_journal.specs.Journal.{IsReady}
-use Rattle.hose_journal.specs.Reading.{OnlyRead}
+use Rattle.hose_journal.specs.steps.Journal.{IsReady}
+use Rattle.hose_journal.specs.steps.Reading.{OnlyRead}
 use Rattle.hose_journal.specs.declared.prepared.Ready.{Ready}
-use Rattle.hose_store.specs.Replaying.{HasReplayed, IsReplaying}
+use Rattle.hose_store.specs.steps.Replaying.{HasReplayed, IsReplaying}
 use Rattle.hose_store.specs.declared.fault.StoreFault.{StoreFault}
 use Rattle.hose_store.specs.declared.fault.StoreFault.TheVariants as store
 use Rattle.hose_store.specs.declared.replay.Replay.{Replay}
 use Rattle.hose_store.proofs.Begins.{begun_at_most, begun_then}
-use Rattle.hose_move.specs.Collecting.{HasPassed, HasPassedAll, IsReadNoFurther}
+use Rattle.hose_move.specs.steps.Collecting.{HasPassed, HasPassedAll, IsReadNoFurther}
 
 -- what the format has is in its ranges
 pub in_ranges : (entry : Entry) → IsEntry entry → IsInRanges entry

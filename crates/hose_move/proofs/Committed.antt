@@ -19,10 +19,10 @@ use Rattle.hose_disk.specs.Disk.{object_frame}
 use Rattle.hose_disk.specs.declared.disk.Disk.{Ghosts}
 use Rattle.hose_journal.specs.Moments.{LeavesOnly}
 use Rattle.hose_journal.proofs.Runs.{joined, weaker}
-use Rattle.hose_store.specs.Commit.{Went}
-use Rattle.hose_store.specs.Store.{HasHistory, IsAmid, KeptStore}
+use Rattle.hose_store.specs.steps.Commit.{Went}
+use Rattle.hose_store.specs.steps.Store.{HasHistory, IsAmid, KeptStore}
 use Rattle.hose_store.proofs.Histories.{amid_none}
-use Rattle.hose_move.specs.Committing.{IsMoving, TakesEntry}
+use Rattle.hose_move.specs.steps.Committing.{IsMoving, TakesEntry}
 use Rattle.hose_move.specs.Moving.{HasMovedTo, IsInMove, Moves, OnlyMoves, StandsForPart}
 use Rattle.hose_move.specs.declared.fault.MoveFault.{MoveFault}
 use Rattle.hose_move.specs.declared.fault.MoveFault.TheVariants.{Store, Differs, Unsound, Disk, Memory}

@@ -8,20 +8,21 @@ use Rattle.hose_graph.specs.declared.entry.Entry.{Entry}
 use Rattle.hose_codec.specs.Spelling.{IsSpelling, spelling}
 use Rattle.hose_codec.proofs.Alone.{same_entries}
 use Rattle.hose_disk.specs.declared.disk.Disk.{Ghosts}
-use Rattle.hose_journal.specs.Journal.{IsReady}
+use Rattle.hose_journal.specs.steps.Journal.{IsReady}
 use Rattle.hose_journal.specs.declared.prepared.Ready.{Ready}
 use Rattle.hose_journal.proofs.Runs.{started, weaker}
-use Rattle.hose_store.specs.Becoming.{IsStoreOf}
+use Rattle.hose_store.specs.steps.Becoming.{IsStoreOf}
 use Rattle.hose_store.specs.Opening.{IsAtOpening, IsRefusedStore}
-use Rattle.hose_store.specs.Replaying.{HasReplayed, IsOnlyOpened, IsReplaying}
-use Rattle.hose_store.specs.Store.{KeptStore}
+use Rattle.hose_store.specs.Replaying.{IsOnlyOpened}
+use Rattle.hose_store.specs.steps.Replaying.{HasReplayed, IsReplaying}
+use Rattle.hose_store.specs.steps.Store.{KeptStore}
 use Rattle.hose_store.specs.declared.fault.StoreFault.{StoreFault}
 use Rattle.hose_store.specs.declared.fault.StoreFault.TheVariants as store
 use Rattle.hose_store.specs.declared.replay.Replay.{Replay}
 use Rattle.hose_store.proofs.Begins.{begun_at_most, nothing_begun}
 use Rattle.hose_store.proofs.Openings.{at_opening}
 use Rattle.hose_store.proofs.Replays.{has_entries}
-use Rattle.hose_move.specs.Committing.{ComparesEntry, ComparesNext, IsMoving, IsPart}
+use Rattle.hose_move.specs.steps.Committing.{ComparesEntry, ComparesNext, IsMoving, IsPart}
 use Rattle.hose_move.specs.Moving.{IsInMove, Moves, OnlyMoves}
 use Rattle.hose_move.specs.declared.fault.MoveFault.{MoveFault}
 use Rattle.hose_move.specs.declared.fault.MoveFault.TheVariants.{Store, Differs, Unsound, Disk, Memory}

@@ -10,7 +10,8 @@ use Rattle.hose_law.specs.Book.{Book}
 use Rattle.hose_law.specs.History.{IsSound, IsSoundAt, IsSoundFrom, book_after, next_book, opening_book}
 use Rattle.hose_disk.specs.declared.disk.Disk.{Ghosts}
 use Rattle.hose_journal.specs.declared.layout.TheConstants.{DIGEST_BYTES}
-use Rattle.hose_journal.specs.Entries.{IsListOf, Item, entered, entries_format, entries_in, entries_reader, front_of, sealed}
+use Rattle.hose_journal.specs.Entries.{Item, entered, entries_format, entries_in, front_of, sealed}
+use Rattle.hose_journal.specs.steps.Entries.{IsListOf, entries_reader}
 use Rattle.hose_journal.specs.Image.{damaged, head, listed, other, records}
 use Rattle.hose_journal.proofs.OneList.{same_item}
 use Rattle.hose_journal.proofs.OneMeaning.{head_begun, read_first, to_closed}

@@ -5,7 +5,7 @@ use Rattle.std.specs.List.{range_with_len}
 use Rattle.std.proofs.lemmas.List.Elements.{All-nil}
 use Rattle.hose_graph.specs.Limits.{most_links}
 use Rattle.hose_graph.specs.Network.{Network}
-use Rattle.hose_graph.specs.Ranges.{IsInRanges}
+use Rattle.hose_graph.specs.steps.Ranges.{IsInRanges}
 use Rattle.hose_graph.specs.declared.entry.Entry.{Entry}
 use Rattle.hose_law.specs.Book.{Book}
 use Rattle.hose_law.specs.History.{book_of}
@@ -13,15 +13,16 @@ use Rattle.hose_law.specs.Service.{is_out}
 use Rattle.hose_disk.specs.declared.disk.Disk.{Ghosts}
 use Rattle.hose_journal.specs.Image.{IsUnbegun}
 use Rattle.hose_journal.specs.Moments.{KeepsCount}
-use Rattle.hose_store.specs.Becoming.{BeginsAtMost}
+use Rattle.hose_store.specs.steps.Becoming.{BeginsAtMost}
 use Rattle.hose_store.specs.Opening.{IsRefusedStore}
 use Rattle.hose_store.specs.Recovery.{IsHistoryOf}
 use Rattle.hose_store.specs.declared.fault.StoreFault.{StoreFault}
 use Rattle.hose_store.specs.declared.fault.StoreFault.TheVariants as store
 use Rattle.hose_store.specs.declared.replay.Replay.{Replay}
 use Rattle.hose_store.proofs.Replays.{has_entries}
-use Rattle.hose_move.specs.Collecting.{HasPassedAll, IsReadNoFurther}
-use Rattle.hose_move.specs.Stating.{StatesAll, StatesHistory, down_entry, live_entries, number_of}
+use Rattle.hose_move.specs.steps.Collecting.{HasPassedAll, IsReadNoFurther}
+use Rattle.hose_move.specs.Stating.{StatesHistory, down_entry, live_entries, number_of}
+use Rattle.hose_move.specs.steps.Stating.{StatesAll}
 use Rattle.hose_move.specs.declared.stating.Scope.{Scope}
 use Rattle.hose_move.specs.declared.stating.Scope.TheVariants.{All as AllEntries, Live}
 use Rattle.hose_move.specs.declared.stating.Stated.{Stated}

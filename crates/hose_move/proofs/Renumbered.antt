@@ -6,7 +6,7 @@ use Rattle.hose_graph.specs.declared.entry.Vpn.{Vpn}
 use Rattle.hose_law.specs.Book.{Book, amount_on}
 use Rattle.hose_law.specs.History.{book_after, next_book, opening_book}
 use Rattle.std.specs.List.{fold, sum_by}
-use Rattle.hose_move.specs.Renumbering.{IsRenumbered, live_book, renumbered}
+use Rattle.hose_move.specs.steps.Renumbering.{IsRenumbered, live_book, renumbered}
 use Rattle.hose_move.specs.Stating.{admission_of, down_entry, links_out}
 
 after_both : (start : Book) (xs ys : List Entry) → book_after start (xs ++ ys) ≡ book_after (book_after start xs) ys

@@ -6,7 +6,8 @@ use Rattle.std.proofs.lemmas.List.Elements.{All-append, All-cons, All-filter, Al
 use Rattle.std.proofs.lemmas.List.FromFn.{get_or-range_with_len, length-range_with_len}
 use Rattle.hose_graph.specs.Limits.{most_links}
 use Rattle.hose_graph.specs.Network.{Network}
-use Rattle.hose_graph.specs.Ranges.{AreInRanges, IsInRanges}
+use Rattle.hose_graph.specs.Ranges.{AreInRanges}
+use Rattle.hose_graph.specs.steps.Ranges.{IsInRanges}
 use Rattle.hose_graph.specs.declared.entry.Entry.{Entry}
 use Rattle.hose_graph.specs.declared.entry.Entry.TheVariants.{Admit, Release, Down, Up}
 use Rattle.hose_graph.specs.declared.entry.Vpn.{Vpn}

@@ -1,6 +1,4 @@
 pub mod Changing
-pub mod Collecting
-pub mod Committing
 pub mod Moving
-pub mod Renumbering
 pub mod Stating
+pub mod steps

@@ -1,8 +1,7 @@
 -- What a journal states for one that it is moved into: all of its entries, or what is live.
-use Rattle.std.specs.Prelude.{◌≡◌, ℕ, List, [], ◌++◌, map, filter, length, All, IfSome, Result, Ok, Err}
+use Rattle.std.specs.Prelude.{◌≡◌, ℕ, List, [], ◌++◌, map, filter, length, IfSome, Result, Ok, Err}
 use Rattle.std.specs.List.{range_with_len}
 use Rattle.hose_graph.specs.Network.{Network}
-use Rattle.hose_graph.specs.Ranges.{IsInRanges}
 use Rattle.hose_graph.specs.declared.entry.Entry.{Entry}
 use Rattle.hose_graph.specs.declared.entry.Entry.TheVariants.{Admit, Down}
 use Rattle.hose_graph.specs.declared.entry.Vpn.{Vpn}
@@ -11,11 +10,9 @@ use Rattle.hose_law.specs.History.{IsSound, book_of}
 use Rattle.hose_law.specs.Service.{is_out}
 use Rattle.hose_disk.specs.declared.disk.Disk.{Ghosts}
 use Rattle.hose_journal.specs.Moments.{KeepsCount}
-use Rattle.hose_store.specs.Becoming.{BeginsAtMost}
 use Rattle.hose_store.specs.Opening.{IsRefusedStore}
 use Rattle.hose_store.specs.Recovery.{IsHistoryOf}
 use Rattle.hose_store.specs.declared.fault.StoreFault.{StoreFault}
-use Rattle.hose_move.specs.Collecting.{IsReadNoFurther}
 use Rattle.hose_move.specs.declared.stating.Scope.{Scope}
 use Rattle.hose_move.specs.declared.stating.Scope.TheVariants.{All as AllEntries, Live}
 use Rattle.hose_move.specs.declared.stating.Stated.{Stated}
@@ -72,9 +69,3 @@ module _ {D : Type 0} (disk : Ghosts D) (was : D) where
   abbrev pub ReadsJournal : D → Network → Scope → Result Stated StoreFault → Type 0
   ReadsJournal left network scope (Ok stated) = StatesHistory left network scope stated
   ReadsJournal left network scope (Err fault) = IsRefusedStore disk was left network fault
-
-  -- What reading a journal comes to, and that nothing was changed of one that was begun before.
-  abbrev pub StatesAll : D → Network → Scope → Result Stated StoreFault → Type 0
-  StatesAll left network scope (Ok stated) = StatesHistory left network scope stated
-      × All IsInRanges stated.entries.items × BeginsAtMost disk was left network
-  StatesAll left network scope (Err fault) = IsReadNoFurther disk was network left fault

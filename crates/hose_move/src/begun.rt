@@ -3,7 +3,8 @@ ghost use Rattle.std.specs.Prelude.{◌≡◌, Ok, IfSome, IsErr, OnOk, false, t
 ghost use Rattle.hose_journal.specs.Image.{IsUnbegun};
 ghost use Rattle.hose_journal.specs.Layout.{empty_bytes, open_gate};
 ghost use Rattle.hose_journal.specs.Moments.{KeepsCount};
-ghost use Rattle.hose_journal.specs.Reading.{HasFailed, OnlyRead};
+ghost use Rattle.hose_journal.specs.Reading.{HasFailed};
+ghost use Rattle.hose_journal.specs.steps.Reading.{OnlyRead};
 
 use hose_disk::{Disk, Failed};
 

@@ -3,8 +3,8 @@ ghost use Rattle.std.specs.Prelude.{◌≡◌, ◌+◌, ◌≤◌, [], List, Ok,
 ghost use Rattle.hose_graph.specs.Network.{Network};
 ghost use Rattle.hose_graph.specs.declared.entry.Entry.{Entry};
 ghost use Rattle.hose_law.specs.History.{last_epoch};
-ghost use Rattle.hose_store.specs.Replaying.{IsReplaying};
-ghost use Rattle.hose_move.specs.Collecting.{CollectsAll, CollectsNext, HasPassed, PassesAll, PassesNext};
+ghost use Rattle.hose_store.specs.steps.Replaying.{IsReplaying};
+ghost use Rattle.hose_move.specs.steps.Collecting.{CollectsAll, CollectsNext, HasPassed, PassesAll, PassesNext};
 
 use hose_codec::decode;
 use hose_disk::Disk;

@@ -1,8 +1,8 @@
 // Entries that are committed to a store one after another, each judged by the book of those before.
 ghost use Rattle.std.specs.Prelude.{◌≤◌, All, length};
 ghost use Rattle.hose_graph.specs.Network.{Network};
-ghost use Rattle.hose_graph.specs.Ranges.{IsInRanges};
-ghost use Rattle.hose_move.specs.Committing.{IsMoving, MovesOn, TakesEntry};
+ghost use Rattle.hose_graph.specs.steps.Ranges.{IsInRanges};
+ghost use Rattle.hose_move.specs.steps.Committing.{IsMoving, MovesOn, TakesEntry};
 
 use crate::fault::MoveFault;
 use hose_book::{Books, Committed};

@@ -1,11 +1,11 @@
 // The entries of a journal, compared with those that it should have.
 ghost use Rattle.std.specs.Prelude.{◌≡◌, ◌≢◌, ◌≤◌, ◌↔◌, [], List, Ok, Some, IfOk, IsTrue, All, false, true, length, slice_get, take};
 ghost use Rattle.hose_graph.specs.Network.{Network};
-ghost use Rattle.hose_graph.specs.Ranges.{IsInRanges};
+ghost use Rattle.hose_graph.specs.steps.Ranges.{IsInRanges};
 ghost use Rattle.hose_graph.specs.declared.entry.Entry.{Entry};
 ghost use Rattle.hose_codec.specs.Spelling.{IsSpelling};
-ghost use Rattle.hose_store.specs.Replaying.{IsReplaying};
-ghost use Rattle.hose_move.specs.Committing.{Compares, ComparesEntry, ComparesNext};
+ghost use Rattle.hose_store.specs.steps.Replaying.{IsReplaying};
+ghost use Rattle.hose_move.specs.steps.Committing.{Compares, ComparesEntry, ComparesNext};
 
 use crate::fault::MoveFault;
 use hose_disk::Disk;

@@ -4,7 +4,7 @@ ghost use Rattle.hose_graph.specs.declared.entry.Entry.{Entry};
 ghost use Rattle.hose_law.specs.Book.{Book};
 ghost use Rattle.hose_law.specs.History.{IsSound};
 ghost use Rattle.hose_move.specs.Moving.{HasEnough, Moves, StandsForPart};
-ghost use Rattle.hose_move.specs.Renumbering.{IsRenumbered};
+ghost use Rattle.hose_move.specs.steps.Renumbering.{IsRenumbered};
 ghost use Rattle.hose_move.specs.declared.fault.MoveFault.{MoveFault};
 
 use hose_disk::Disk;

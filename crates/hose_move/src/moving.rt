@@ -1,9 +1,9 @@
 // Entries that are moved into a journal.
 ghost use Rattle.std.specs.Prelude.{All, [], IsTrue};
 ghost use Rattle.hose_graph.specs.Network.{Network};
-ghost use Rattle.hose_graph.specs.Ranges.{IsInRanges};
-ghost use Rattle.hose_store.specs.Replaying.{IsReplaying};
-ghost use Rattle.hose_move.specs.Committing.{IsPart};
+ghost use Rattle.hose_graph.specs.steps.Ranges.{IsInRanges};
+ghost use Rattle.hose_store.specs.steps.Replaying.{IsReplaying};
+ghost use Rattle.hose_move.specs.steps.Committing.{IsPart};
 ghost use Rattle.hose_move.specs.Moving.{Moves, OnlyMoves};
 
 use crate::committing::commit_rest;

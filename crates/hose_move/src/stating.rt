@@ -1,11 +1,12 @@
 // What an old journal states for a new one, read from its disk.
 ghost use Rattle.std.specs.Prelude.{◌≡◌, [], All, IfOk};
 ghost use Rattle.hose_graph.specs.Network.{Network};
-ghost use Rattle.hose_graph.specs.Ranges.{IsInRanges};
+ghost use Rattle.hose_graph.specs.steps.Ranges.{IsInRanges};
 ghost use Rattle.hose_journal.specs.Opening.{KeepsDisk};
 ghost use Rattle.hose_store.specs.Opening.{IsUnchanged};
-ghost use Rattle.hose_store.specs.Replaying.{IsReplaying};
-ghost use Rattle.hose_move.specs.Stating.{ReadsJournal, StatesAll};
+ghost use Rattle.hose_store.specs.steps.Replaying.{IsReplaying};
+ghost use Rattle.hose_move.specs.Stating.{ReadsJournal};
+ghost use Rattle.hose_move.specs.steps.Stating.{StatesAll};
 ghost use Rattle.hose_move.specs.declared.stating.Scope.{Scope};
 
 use crate::begun::is_begun;

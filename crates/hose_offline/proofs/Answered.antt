@@ -7,15 +7,15 @@ use Rattle.hose_graph.specs.declared.entry.Entry.{Entry}
 use Rattle.hose_law.specs.Book.{Book}
 use Rattle.hose_law.specs.History.{IsSoundAt, book_of}
 use Rattle.hose_law.proofs.Epochs.{epoch_of}
-use Rattle.hose_book.specs.GoingOn.{GoesOn, entry_more, none_yet as nothing_yet}
+use Rattle.hose_book.specs.steps.GoingOn.{GoesOn, entry_more, none_yet as nothing_yet}
 use Rattle.hose_book.specs.Ledger.{Ledger}
 use Rattle.hose_book.specs.declared.books.Committed.TheVariants as committed
 use Rattle.hose_disk.specs.declared.disk.Disk.{Ghosts}
 use Rattle.hose_journal.specs.Chain.{chain}
-use Rattle.hose_store.specs.Commit.{IsLeft, store_books}
+use Rattle.hose_store.specs.steps.Commit.{IsLeft, store_books}
 use Rattle.hose_store.specs.Recovery.{digest_of}
-use Rattle.hose_store.specs.Store.{HasHistory, KeptStore}
-use Rattle.hose_follow.specs.Offering.{AreOffered, Brings, Enters, IsDue, IsOffered, none_yet as none_offered, packet_more as offered_more}
+use Rattle.hose_store.specs.steps.Store.{HasHistory, KeptStore}
+use Rattle.hose_follow.specs.steps.Offering.{AreOffered, Brings, Enters, IsDue, IsOffered, none_yet as none_offered, packet_more as offered_more}
 use Rattle.hose_follow.specs.Packet.{Packet, packets_bytes}
 use Rattle.hose_follow.specs.declared.answers.Offered.{Offered}
 use Rattle.hose_follow.specs.declared.answers.Offered.TheVariants.{Have, Want, Differs, Memory, Unsound, Disk}

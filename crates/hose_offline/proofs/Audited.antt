@@ -14,12 +14,13 @@ use Rattle.hose_audit.specs.Audit.{audit_text}
 use Rattle.hose_book.specs.Ledger.{Ledger}
 use Rattle.hose_disk.specs.Cabinet.{object_of}
 use Rattle.hose_store.specs.Recovery.{IsHistoryOf}
-use Rattle.hose_store.specs.Store.{KeptStore}
-use Rattle.hose_offline.specs.AuditOutcome.{AuditOutcome, AuditsJournal, EndsNamed, EndsRefused, EndsTold, IsAudited, JournalIs, NamedOutcome, NamesOutcome, NoneFailed, Purpose, to_audit}
+use Rattle.hose_store.specs.steps.Store.{KeptStore}
+use Rattle.hose_offline.specs.AuditOutcome.{AuditOutcome, EndsNamed, EndsRefused, EndsTold, IsAudited, JournalIs, NamedOutcome, NamesOutcome, NoneFailed, Purpose, to_audit}
+use Rattle.hose_offline.specs.steps.AuditOutcome.{AuditsJournal}
 use Rattle.hose_offline.specs.Auditing.{HasAudited, IsNotRead, IsTextServable, PricedNames, ReadsTopology, named_text}
 use Rattle.hose_offline.specs.Ending.{IsOut}
 use Rattle.hose_offline.specs.Fault.{last_line, status_of}
-use Rattle.hose_offline.specs.Journal.{ClosesJournal, OpensJournal}
+use Rattle.hose_offline.specs.steps.Journal.{ClosesJournal, OpensJournal}
 use Rattle.hose_offline.specs.OnDisk.{CabinetFailed, JournalIsTold}
 use Rattle.hose_offline.specs.Parts.{Parts, Tellings}
 use Rattle.hose_offline.specs.Run.{IsRefusedText}

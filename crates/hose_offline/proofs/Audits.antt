@@ -1,32 +1,36 @@
 -- The text of a topology in a cabinet, and what is done with a journal after it was read.
 use Rattle.std.proofs.Common.{◌≡◌, ◌≢◌, ◌∙◌, length, ◌⊎◌, ◌↔◌, inl, inr, ℕ, ◌+◌, ◌<◌, ◌≤◌, List, [], Bool, Option, None, Some, IfSome, IsSome, IsTrue, Result, Ok, Err, refl, sym, ap, subst, arith, append-nil, ◌++◌, false}
-use Rattle.hose_io.specs.Calls.{HasGone}
+use Rattle.hose_io.specs.steps.Calls.{HasGone}
 use Rattle.hose_io.specs.Frame.{Frame, Rose}
 use Rattle.hose_io.specs.Stream.{Stream, Gives}
 use Rattle.hose_io.specs.declared.Failed.{Failed}
 use Rattle.hose_io.specs.declared.source.Source.{Ghosts as SourceGhosts}
 use Rattle.hose_io.proofs.Calling.{HasGone-keeps}
 use Rattle.hose_io.proofs.Frames.{Stays-next}
-use Rattle.hose_words.specs.Lines.{Reader}
-use Rattle.hose_words.specs.Reading.{ReadsOn, WhereTold}
+use Rattle.hose_words.specs.steps.Lines.{Reader}
+use Rattle.hose_words.specs.Reading.{WhereTold}
+use Rattle.hose_words.specs.steps.Reading.{ReadsOn}
 use Rattle.hose_words.specs.declared.lines.TheConstants.{INPUT_LIMIT}
 use Rattle.hose_words.specs.declared.lines.LineFault.{LineFault}
 use Rattle.hose_words.specs.declared.lines.LineFault.TheVariants as line
 use Rattle.hose_graph.specs.Network.{IsNetwork, Network}
 use Rattle.hose_graph.specs.declared.entry.Entry.{Entry}
-use Rattle.hose_disk.specs.Cabinet.{Has, IsTextCall, absent_after, object_of}
+use Rattle.hose_disk.specs.Cabinet.{Has, object_of}
+use Rattle.hose_disk.specs.steps.Cabinet.{IsTextCall, absent_after}
 use Rattle.hose_disk.specs.declared.cabinet.Cabinet.{Ghosts as CabinetGhosts}
 use Rattle.hose_disk.specs.declared.disk.Disk.{Ghosts as DiskGhosts}
 use Rattle.hose_journal.specs.Image.{Meaning, damaged, other}
-use Rattle.hose_topo.specs.Reading.{KeepsLineFault, StopsInTopology, fault_of}
+use Rattle.hose_topo.specs.Reading.{StopsInTopology}
+use Rattle.hose_topo.specs.steps.Reading.{KeepsLineFault, fault_of}
 use Rattle.hose_topo.specs.TopologyText.{IsTopologyText, IsWrongAt}
 use Rattle.hose_topo.specs.declared.fault.TopoFault.{TopoFault}
 use Rattle.hose_topo.specs.declared.fault.TopoFault.TheVariants as topo
 use Rattle.hose_offline.specs.Auditing.{IsLongAt, IsStarvedAt, IsTextFault, TextComesTo, ReadsText}
-use Rattle.hose_offline.specs.CabinetText.{HasAsked, OnlyTextsRead, TextState, reading_frame, stream_at, text_at, text_source, text_stream, whole_text}
-use Rattle.hose_offline.specs.Fault.{of_topology}
+use Rattle.hose_offline.specs.CabinetText.{OnlyTextsRead, stream_at, text_stream, whole_text}
+use Rattle.hose_offline.specs.steps.CabinetText.{HasAsked, TextState, reading_frame, text_at, text_source}
+use Rattle.hose_offline.specs.steps.Fault.{of_topology}
 use Rattle.hose_offline.specs.OnDisk.{CabinetFailed, CabinetWorked, HadContent, IsRefusedOnDisk, IsUnopened}
-use Rattle.hose_offline.specs.JsonRead.{IsJsonOf}
+use Rattle.hose_offline.specs.steps.JsonRead.{IsJsonOf}
 use Rattle.hose_offline.specs.Run.{HasText, TellsNoNetwork}
 use Rattle.hose_offline.specs.TopologyTold.{TellsPriced, limit_of, own_costs}
 use Rattle.hose_offline.specs.declared.json_text.TheConstants.{JSON_LIMIT}

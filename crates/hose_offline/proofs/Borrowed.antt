@@ -1,7 +1,7 @@
 -- A source behind a borrow: what is told of the borrow is told of the source.
 use Rattle.std.proofs.Common.{◌≡◌, ◌∷◌, drop, MutBor, ap}
 use Rattle.std.specs.Borrow.{GName}
-use Rattle.hose_io.specs.Borrowed.{borrowed}
+use Rattle.hose_io.specs.steps.Borrowed.{borrowed}
 use Rattle.hose_io.specs.Frame.{Frame, Rose}
 use Rattle.hose_io.specs.declared.source.Source.{Ghosts}
 

@@ -3,15 +3,16 @@ use Rattle.std.proofs.Common.{◌≡◌, ◌∙◌, ℕ, ◌+◌, ◌<◌, List,
 use Rattle.std.specs.List.Sorted.{IsPermutation}
 use Rattle.std.proofs.lemmas.List.{get_or-map, get_or-take, length-map, map-append, take_more}
 use Rattle.std.proofs.lemmas.List.Elements.{All-push}
-use Rattle.hose_graph.specs.Hose.{IsHose, MakesHose}
+use Rattle.hose_graph.specs.Hose.{IsHose}
+use Rattle.hose_graph.specs.steps.Hose.{MakesHose}
 use Rattle.hose_graph.specs.Network.{IsNetwork, Network, name_of}
 use Rattle.hose_proto.specs.Command.{AreEndsOf, AreNewEnds}
 use Rattle.hose_proto.specs.EndWords.{AreEndWords, IsEndWord, IsFirstUnknown, NamesNode, name_in, named_rate}
 use Rattle.hose_proto.specs.Places.{end_word}
-use Rattle.hose_proto.specs.Reading.{IsEndOf}
+use Rattle.hose_proto.specs.steps.Reading.{IsEndOf}
 use Rattle.hose_proto.proofs.EndWords.{name_of_end, names_its_node}
 use Rattle.hose_proto.proofs.Hoses.{hose_made, makes_hose}
-use Rattle.hose_offline.specs.ProveOutcome.{AreEndsInOrder}
+use Rattle.hose_offline.specs.steps.ProveOutcome.{AreEndsInOrder}
 
 module _ (network : Network) (is : IsNetwork network) (words : List (List ℕ)) (ends : List (ℕ × ℕ)) (spelled : AreEndsInOrder network words ends) where
   counted : length words ≡ length ends

@@ -5,10 +5,11 @@ use mathlib.Core.List.{IsPrefix}
 use Rattle.hose_words.proofs.OnReading.{WhereTold-map}
 use Rattle.hose_words.specs.Grammar.{IsFirstNotAllowed}
 use Rattle.hose_words.specs.Words.{words_of}
-use Rattle.hose_words.specs.Lines.{Shows, Reader}
+use Rattle.hose_words.specs.steps.Lines.{Shows, Reader}
 use Rattle.hose_words.specs.declared.lines.Line.{Line}
 use Rattle.hose_words.specs.declared.lines.Line.TheVariants as line
-use Rattle.hose_talk.specs.Talk.{KeepsFault, LastCut, TalksTo, TalksUpTo}
+use Rattle.hose_talk.specs.Talk.{LastCut, TalksTo, TalksUpTo}
+use Rattle.hose_talk.specs.steps.Talk.{KeepsFault}
 use Rattle.hose_talk.specs.declared.talking.TalkEnd.{TalkEnd}
 use Rattle.hose_talk.specs.declared.talking.TalkEnd.TheVariants as talk_end
 use Rattle.hose_talk.specs.declared.talking.TalkFault.{TalkFault}
@@ -18,7 +19,8 @@ use Rattle.hose_graph.specs.declared.command.Command.{Command}
 use Rattle.hose_graph.specs.declared.command.Reply.{Reply}
 use Rattle.hose_graph.specs.Network.{Network}
 use Rattle.hose_law.specs.Book.{Book}
-use Rattle.hose_law.specs.History.{EntryKind, book_of, IsDecided, IsDecidedAt, IsSound, IsSoundAt, IsSoundWith}
+use Rattle.hose_law.specs.History.{EntryKind, book_of, IsDecided, IsDecidedAt, IsSound, IsSoundAt}
+use Rattle.hose_law.specs.steps.History.{IsSoundWith}
 use Rattle.hose_law.specs.Answer.{IsStepOf}
 use Rattle.hose_law.specs.Quotes.{Held, Holdings, nothing_held, with_held}
 use Rattle.hose_law.proofs.Fronts.{prefix_push}
@@ -29,21 +31,23 @@ use Rattle.hose_law.specs.Script.{ReadLine, IsLineStep, IsScript, one_if_disk}
 use Rattle.hose_law.specs.Script.ReadLine.{Asks, IsBad, IsLong, Unread}
 use Rattle.hose_offline.specs.ScriptLine.{IsAsking, WantsMemory, script_grammar}
 use Rattle.hose_words.specs.Reading.{WhereTold}
-use Rattle.hose_words.specs.Saying.{IsAllTaken, SayLines, SaysUpTo, no_line, one_more}
+use Rattle.hose_words.specs.Saying.{IsAllTaken, SayLines, no_line, one_more}
+use Rattle.hose_words.specs.steps.Saying.{SaysUpTo}
 use Rattle.hose_proto.specs.Replies.{CutsLast}
 use Rattle.hose_proto.specs.ReplyText.{line_of, reply_text}
 use Rattle.hose_io.specs.Frame.{Frame, Rose, Stays}
 use Rattle.hose_io.proofs.Frames.{Stays-next, Stays-none, Stays-same}
-use Rattle.hose_book.specs.Commit.{IsMet, history_after}
-use Rattle.hose_book.specs.GoingOn.{GoesOn, none_yet, entry_more}
+use Rattle.hose_book.specs.steps.Commit.{IsMet, history_after}
+use Rattle.hose_book.specs.steps.GoingOn.{GoesOn, none_yet, entry_more}
 use Rattle.hose_book.specs.declared.books.Committed.{Committed}
 use Rattle.hose_book.specs.declared.books.Committed.TheVariants.{Done, Disk as Failing}
 use Rattle.hose_book.specs.declared.books.Books.{Ghosts as BooksGhosts}
-use Rattle.hose_core.specs.Holding.{State}
-use Rattle.hose_core.specs.Stepping.{FitsHistory, Goes, committed_for, committed_of, history_with}
+use Rattle.hose_core.specs.steps.Holding.{State}
+use Rattle.hose_core.specs.steps.Stepping.{FitsHistory, Goes, committed_for, committed_of, history_with}
 use Rattle.hose_offline.specs.Fault.{done_of_talk}
-use Rattle.hose_offline.specs.Talk.{talk}
-use Rattle.hose_offline.specs.Talking.{AnswersLine, HasAnswered, IsAskedBy, Says, SaysAlone, SaysNext, SaysRead, SayOneThingEach, Talks, AnswersUpTo as UpTo, TalkTellings, TellsDisks, line_more, none_said}
+use Rattle.hose_offline.specs.steps.Talk.{talk}
+use Rattle.hose_offline.specs.Talking.{IsAskedBy, Says, SaysNext, TellsDisks}
+use Rattle.hose_offline.specs.steps.Talking.{AnswersLine, HasAnswered, SaysAlone, SaysRead, SayOneThingEach, Talks, AnswersUpTo as UpTo, TalkTellings, line_more, none_said}
 
 -- what a reader shows of a line says what the line says
 pub says_shown : (network : Network) (shown : Line) (bytes : List ℕ) (said : ReadLine) → Shows shown bytes → SaysRead network shown said → Says network bytes said

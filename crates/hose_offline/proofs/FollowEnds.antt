@@ -17,7 +17,8 @@ use Rattle.hose_offline.specs.Auditing.{PricedNames, ReadsTopology}
 use Rattle.hose_offline.specs.Ending.{IsLastLine, IsOut, status_of_done}
 use Rattle.hose_offline.specs.Fault.{last_line, status_of}
 use Rattle.hose_offline.specs.FollowOutcome.{FollowOutcome, IsOfNoPackets, IsOfPackets, to_follow}
-use Rattle.hose_offline.specs.Following.{FollowsJournal, HasFollowed, following_done}
+use Rattle.hose_offline.specs.Following.{HasFollowed, following_done}
+use Rattle.hose_offline.specs.steps.Following.{FollowsJournal}
 use Rattle.hose_offline.specs.Parts.{Parts, Tellings}
 use Rattle.hose_offline.specs.ServingOnDisk.{IsNotServed, first_of}
 use Rattle.hose_offline.specs.TopologyTold.{limit_of, notation_of}

@@ -5,20 +5,20 @@ use Rattle.hose_io.specs.Stream.{Gives}
 use Rattle.hose_io.specs.declared.Failed.{Failed}
 use Rattle.hose_graph.specs.Network.{Network}
 use Rattle.hose_law.specs.History.{IsSound}
-use Rattle.hose_book.specs.GoingOn.{GoesOn}
+use Rattle.hose_book.specs.steps.GoingOn.{GoesOn}
 use Rattle.hose_disk.specs.Cabinet.{CabinetFrame}
-use Rattle.hose_store.specs.Commit.{store_books}
-use Rattle.hose_store.specs.Opening.{IsOpenedOn}
+use Rattle.hose_store.specs.steps.Commit.{store_books}
+use Rattle.hose_store.specs.steps.Opening.{IsOpenedOn}
 use Rattle.hose_store.specs.Recovery.{IsHistoryOf}
-use Rattle.hose_store.specs.Store.{KeptStore}
+use Rattle.hose_store.specs.steps.Store.{KeptStore}
 use Rattle.hose_follow.specs.Answers.{TellsDiskAnswers}
-use Rattle.hose_follow.specs.Ends.{FollowsInput}
+use Rattle.hose_follow.specs.steps.Ends.{FollowsInput}
 use Rattle.hose_follow.specs.declared.answers.Offered.{Offered}
 use Rattle.hose_follow.specs.declared.following.FollowEnd.{FollowEnd}
 use Rattle.hose_follow.specs.declared.following.FollowEnd.TheVariants.{TooLong}
 use Rattle.hose_follow.specs.declared.following.TheConstants.{INPUT_LIMIT}
 use Rattle.hose_offline.specs.Following.{ArePacketsAnswered, FollowsFrom, HasFollowed, IsBrought}
-use Rattle.hose_offline.specs.Journal.{ClosesJournal, OpensJournal}
+use Rattle.hose_offline.specs.steps.Journal.{ClosesJournal, OpensJournal}
 use Rattle.hose_offline.specs.Parts.{Parts, Tellings}
 use Rattle.hose_offline.proofs.Answered.{Leads, leads, none_answered}
 use Rattle.hose_offline.proofs.Journals.{put_back}

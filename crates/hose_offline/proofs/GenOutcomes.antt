@@ -8,7 +8,8 @@ use Rattle.hose_io.specs.declared.sink.Sink.{Ghosts as SinkGhosts}
 use Rattle.hose_io.proofs.Streams.{Grows-append}
 use Rattle.hose_offline.specs.Ending.{IsLastLine, IsOut, status_of_done}
 use Rattle.hose_offline.specs.Fault.{last_line}
-use Rattle.hose_offline.specs.GenOutcome.{EndsSummary, GenLeaves, IsSummaryCut}
+use Rattle.hose_offline.specs.GenOutcome.{EndsSummary, IsSummaryCut}
+use Rattle.hose_offline.specs.steps.GenOutcome.{GenLeaves}
 use Rattle.hose_offline.specs.declared.fault.Fault.{Fault}
 use Rattle.hose_offline.specs.declared.fault.Fault.TheVariants.{Write, Memory}
 use Rattle.hose_offline.specs.declared.generating.Sizes.{Sizes}

@@ -4,14 +4,14 @@ use Rattle.std.specs.Prelude.{⊤}
 use Rattle.hose_io.specs.declared.Failed.{Failed}
 use Rattle.hose_io.specs.declared.source.Source.{Ghosts as SourceGhosts}
 use Rattle.hose_io.specs.declared.sink.Sink.{Ghosts as SinkGhosts}
-use Rattle.hose_words.specs.Lines.{Reader}
+use Rattle.hose_words.specs.steps.Lines.{Reader}
 use Rattle.hose_graph.specs.Network.{Network}
 use Rattle.hose_graph.specs.declared.entry.Entry.{Entry}
 use Rattle.hose_graph.specs.declared.command.Reply.{Reply}
 use Rattle.hose_law.specs.History.{EntryKind, IsDecidedAt, IsSound, book_of}
 use Rattle.hose_law.specs.Script.{ReadLine}
 use Rattle.hose_audit.specs.Audit.{audit_text}
-use Rattle.hose_book.specs.GoingOn.{GoesOn}
+use Rattle.hose_book.specs.steps.GoingOn.{GoesOn}
 use Rattle.hose_book.specs.Ledger.{Ledger}
 use Rattle.hose_disk.specs.Cabinet.{CabinetFrame}
 use Rattle.hose_disk.specs.declared.cabinet.Cabinet.{Ghosts as CabinetGhosts}
@@ -21,22 +21,26 @@ use Rattle.hose_journal.specs.Moments.{LeavesOnly}
 use Rattle.hose_journal.proofs.Runs.{joined, weaker}
 use Rattle.hose_journal.specs.declared.prepared.Ready.{Ready}
 use Rattle.hose_store.specs.Beginning.{HasLeft}
-use Rattle.hose_store.specs.Commit.{Closes, store_books}
-use Rattle.hose_store.specs.Opening.{IsAtOpening, IsOpenedOn, IsRefusedStore}
+use Rattle.hose_store.specs.steps.Commit.{Closes, store_books}
+use Rattle.hose_store.specs.Opening.{IsAtOpening, IsRefusedStore}
+use Rattle.hose_store.specs.steps.Opening.{IsOpenedOn}
 use Rattle.hose_store.specs.Recovery.{IsHistoryOf, IsRecoveredAs}
-use Rattle.hose_store.specs.Store.{IsAmid, KeptStore}
+use Rattle.hose_store.specs.steps.Store.{IsAmid, KeptStore}
 use Rattle.hose_store.proofs.Standing.{closed_left, opened_stands, run_stands}
 use Rattle.hose_store.specs.declared.fault.StoreFault.{StoreFault}
 use Rattle.hose_store.specs.declared.fault.StoreFault.TheVariants as store
 use Rattle.hose_offline.specs.Auditing.{HasAudited}
 use Rattle.hose_offline.specs.Fault.{of_store}
-use Rattle.hose_offline.specs.Journal.{ClosesJournal, IsJustOpened, IsLeftWith, OpensJournal}
+use Rattle.hose_offline.specs.Journal.{IsLeftWith}
+use Rattle.hose_offline.specs.steps.Journal.{ClosesJournal, IsJustOpened, OpensJournal}
 use Rattle.hose_offline.specs.Parts.{Parts, Tellings, parts, tellings}
 use Rattle.hose_offline.specs.OnDisk.{opening_of}
-use Rattle.hose_offline.specs.Talk.{talk}
-use Rattle.hose_offline.specs.Talking.{IsAskedBy, Talks, TalkTellings, TellsDisks, talk_tellings}
-use Rattle.hose_offline.specs.TalkingOnDisk.{HasTalkedInCabinet}
-use Rattle.hose_offline.specs.ServingOnDisk.{IsNotOpened, IsNotServed, first_of}
+use Rattle.hose_offline.specs.steps.Talk.{talk}
+use Rattle.hose_offline.specs.Talking.{IsAskedBy, TellsDisks}
+use Rattle.hose_offline.specs.steps.Talking.{Talks, TalkTellings, talk_tellings}
+use Rattle.hose_offline.specs.steps.TalkingOnDisk.{HasTalkedInCabinet}
+use Rattle.hose_offline.specs.ServingOnDisk.{IsNotServed, first_of}
+use Rattle.hose_offline.specs.steps.ServingOnDisk.{IsNotOpened}
 use Rattle.hose_offline.specs.declared.fault.Fault.{Fault}
 use Rattle.hose_offline.specs.declared.fault.Fault.TheVariants.{Memory, TooLong}
 use Rattle.hose_offline.proofs.PutBack.{IsPutBack, TakenFrom, at_opening, counts, held_as, left_as, left_as_kind, not_served}

@@ -9,8 +9,8 @@ use Rattle.hose_topo_json.specs.JsonTopology.{IsJsonTopology}
 use Rattle.hose_topo_json.specs.Refused.{IsJsonFault}
 use Rattle.hose_topo_json.specs.declared.reading.JsonFault.{JsonFault}
 use Rattle.hose_topo_json.specs.declared.reading.JsonFault.TheVariants as json
-use Rattle.hose_offline.specs.Fault.{of_json}
-use Rattle.hose_offline.specs.JsonRead.{IsJsonOf}
+use Rattle.hose_offline.specs.steps.Fault.{of_json}
+use Rattle.hose_offline.specs.steps.JsonRead.{IsJsonOf}
 use Rattle.hose_offline.specs.TopologyTold.{IsRefusedAs}
 use Rattle.hose_offline.specs.declared.fault.Fault.TheVariants as fault
 use Rattle.hose_offline.specs.declared.notation.Notation.TheVariants as notation

@@ -2,12 +2,12 @@
 use Rattle.std.specs.Prelude.{IfOk, OnOk}
 use Rattle.std.proofs.Common.{◌≡◌, ◌↔◌, inl, inr, ℕ, List, [], ◌++◌, length, length-append, Option, None, Some, Result, Ok, Err, refl, ap, subst, arith}
 use Rattle.std.proofs.lemmas.List.{nil_from_length}
-use Rattle.hose_words.specs.Lines.{Reader}
+use Rattle.hose_words.specs.steps.Lines.{Reader}
 use Rattle.hose_words.specs.Reading.{WhereTold}
 use Rattle.hose_words.specs.declared.lines.LineFault.{LineFault}
 use Rattle.hose_words.specs.declared.lines.LineFault.TheVariants as line
 use Rattle.hose_words.proofs.OnReading.{WhereTold-both, WhereTold-map}
-use Rattle.hose_cert.specs.Taking.{IsAllRead, KeepsLineFault, fault_in}
+use Rattle.hose_cert.specs.steps.Taking.{IsAllRead, KeepsLineFault, fault_in}
 use Rattle.hose_cert.specs.Verdict.{IsVerdict}
 use Rattle.hose_cert.specs.declared.fault.CertFault.{CertFault}
 use Rattle.hose_cert.specs.declared.fault.CertFault.TheVariants as certificate
@@ -15,7 +15,8 @@ use Rattle.hose_io.specs.declared.source.Source.{Ghosts as SourceGhosts}
 use Rattle.hose_graph.specs.Network.{Network}
 use Rattle.hose_cert.specs.declared.Verdict.{Verdict}
 use Rattle.hose_offline.specs.Auditing.{ReadsTopology}
-use Rattle.hose_offline.specs.CheckOutcome.{CheckOutcome, EndsChecked, IsVerdictOf, JudgesInput, JudgesNamed, JudgedAs}
+use Rattle.hose_offline.specs.CheckOutcome.{CheckOutcome, EndsChecked, IsVerdictOf, JudgesNamed}
+use Rattle.hose_offline.specs.steps.CheckOutcome.{JudgesInput, JudgedAs}
 use Rattle.hose_offline.specs.Parts.{Parts, Tellings}
 use Rattle.hose_offline.specs.declared.fault.Fault.{Fault}
 use Rattle.hose_offline.proofs.Taken.{both_failed, both_then}

@@ -1,24 +1,25 @@
 -- What a run leaves, by what answering its lines comes to.
 use Rattle.std.proofs.Common.{◌≡◌, ◌∙◌, ℕ, List, [], ◌++◌, MutBor, Option, Some, None, Result, Ok, Err, inl, inr, refl, sym, ap, subst}
 use Rattle.std.specs.Prelude.{⊤}
-use Rattle.hose_io.specs.Borrowed.{borrowed}
+use Rattle.hose_io.specs.steps.Borrowed.{borrowed}
 use Rattle.hose_io.specs.declared.Failed.{Failed}
 use Rattle.hose_io.specs.declared.source.Source.{Ghosts}
 use Rattle.hose_io.specs.declared.sink.Sink.{Ghosts as SinkGhosts}
-use Rattle.hose_words.specs.Lines.{Reader}
-use Rattle.hose_words.specs.Reading.{WhereTold, ReadsOn}
+use Rattle.hose_words.specs.steps.Lines.{Reader}
+use Rattle.hose_words.specs.Reading.{WhereTold}
+use Rattle.hose_words.specs.steps.Reading.{ReadsOn}
 use Rattle.hose_graph.specs.Network.{Network, IsNetwork}
 use Rattle.hose_disk.specs.declared.cabinet.Cabinet.{Ghosts as CabinetGhosts}
 use Rattle.hose_disk.specs.declared.disk.Disk.{Ghosts as DiskGhosts}
-use Rattle.hose_store.specs.Commit.{store_books}
+use Rattle.hose_store.specs.steps.Commit.{store_books}
 use Rattle.hose_topo.specs.TopologyText.{IsTopologyText}
 use Rattle.hose_offline.specs.OnDisk.{on_disk}
 use Rattle.hose_offline.specs.Parts.{Parts, Tellings, parts, tellings}
 use Rattle.hose_offline.specs.Run.{HasNetwork, HasText, in_memory}
 use Rattle.hose_offline.specs.RunOutcome.{InputWorked, RunLeaves}
-use Rattle.hose_offline.specs.Talk.{talk}
-use Rattle.hose_offline.specs.Talking.{TalksInMemory, plain_books, talk_tellings}
-use Rattle.hose_offline.specs.TalkingOnDisk.{HasTalkedInCabinet, TalksInCabinet}
+use Rattle.hose_offline.specs.steps.Talk.{talk}
+use Rattle.hose_offline.specs.steps.Talking.{TalksInMemory, plain_books, talk_tellings}
+use Rattle.hose_offline.specs.steps.TalkingOnDisk.{HasTalkedInCabinet, TalksInCabinet}
 use Rattle.hose_offline.specs.TopologyTold.{TellsPriced}
 use Rattle.hose_offline.specs.declared.notation.Notation.TheVariants.{Lines}
 use Rattle.hose_words.proofs.OnReading.{WhereTold-map}

@@ -1,7 +1,8 @@
 -- A disk that is lent by a cabinet and comes back, and a name that is looked for among texts.
 use Rattle.std.proofs.Common.{◌≡◌, ◌≢◌, ◌∙◌, ℕ, List, Option, None, Some, IfSome, IsSome, IsTrue, Ok, Err, refl, subst}
 use Rattle.hose_io.specs.declared.Failed.{Failed}
-use Rattle.hose_disk.specs.Cabinet.{IsDiskCall, IsTextCall}
+use Rattle.hose_disk.specs.Cabinet.{IsDiskCall}
+use Rattle.hose_disk.specs.steps.Cabinet.{IsTextCall}
 use Rattle.hose_disk.specs.declared.cabinet.Cabinet.{Ghosts as CabinetGhosts}
 use Rattle.hose_disk.specs.declared.disk.Disk.{Ghosts as DiskGhosts}
 use Rattle.hose_offline.specs.Journal.{IsPutIn, IsTakenOut}

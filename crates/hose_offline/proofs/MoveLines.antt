@@ -4,7 +4,7 @@ use Rattle.std.specs.List.{range_with_len}
 use Rattle.std.proofs.lemmas.List.{take_all}
 use Rattle.std.proofs.lemmas.List.FromFn.{get_or-range_with_len, length-range_with_len}
 use Rattle.hose_io.specs.Frame.{Frame, Rose}
-use Rattle.hose_io.specs.Writing.{IsPut}
+use Rattle.hose_io.specs.steps.Writing.{IsPut}
 use Rattle.hose_io.specs.declared.Failed.{Failed}
 use Rattle.hose_io.specs.declared.sink.Sink.{Ghosts}
 use Rattle.hose_io.proofs.Frames.{Stays-next}

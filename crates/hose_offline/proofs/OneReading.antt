@@ -2,7 +2,8 @@
 use Rattle.std.proofs.Common.{◌≡◌, ◌≢◌, ◌∙◌, ◌++◌, Bor, ℕ, suc, List, [], ◌∷◌, inl, inr, refl, sym, ap, subst, arith, append_assoc, append-nil}
 use Rattle.std.specs.List.{All, before_first, after_first}
 use Rattle.hose_words.specs.Words.{words_of}
-use Rattle.hose_words.specs.Lines.{is_line_feed, Shows}
+use Rattle.hose_words.specs.Lines.{is_line_feed}
+use Rattle.hose_words.specs.steps.Lines.{Shows}
 use Rattle.hose_words.specs.declared.lines.Line.{Line}
 use Rattle.hose_words.specs.declared.lines.Line.TheVariants as line
 use Rattle.hose_words.specs.Grammar.{IsFirst, IsFirstNotAllowed}
@@ -16,7 +17,8 @@ use Rattle.hose_law.specs.Script.ReadLine.{Asks, IsBad, IsLong, Unread}
 use Rattle.hose_proto.specs.Command.{IsCommand, command_form, command_grammar}
 use Rattle.hose_offline.specs.ScriptLine.{IsAsking, script_grammar}
 use Rattle.hose_words.specs.Saying.{SayLines, no_line, one_more as one_line}
-use Rattle.hose_offline.specs.Talking.{Says, SaysNext, IsRead, SaysOneThing, SayOneThingEach, none_said, line_more}
+use Rattle.hose_offline.specs.Talking.{Says, SaysNext}
+use Rattle.hose_offline.specs.steps.Talking.{IsRead, SaysOneThing, SayOneThingEach, none_said, line_more}
 
 -- ---- one line
 

@@ -11,7 +11,8 @@ use Rattle.hose_law.proofs.Unique.{AllAnswer, script_unique}
 use Rattle.hose_offline.specs.Run.{IsRightFor}
 use Rattle.hose_proto.specs.Replies.{texts_of}
 use Rattle.hose_words.specs.Saying.{SayLines}
-use Rattle.hose_offline.specs.Talking.{IsRead, SaysNext, SayOneThingEach}
+use Rattle.hose_offline.specs.Talking.{SaysNext}
+use Rattle.hose_offline.specs.steps.Talking.{IsRead, SayOneThingEach}
 use Rattle.hose_topo.specs.TopologyText.{IsTopologyText}
 use Rattle.hose_offline.proofs.OneReading.{lines_unique}
 

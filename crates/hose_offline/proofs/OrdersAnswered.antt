@@ -7,23 +7,25 @@ use Rattle.std.proofs.lemmas.List.Sums.{sum_by_push}
 use Rattle.hose_io.proofs.Frames.{Stays-none}
 use Rattle.hose_graph.specs.declared.entry.Entry.{Entry}
 use Rattle.hose_graph.specs.declared.command.Reply.{Reply}
-use Rattle.hose_graph.specs.Naming.{AsksOf}
+use Rattle.hose_graph.specs.steps.Naming.{AsksOf}
 use Rattle.hose_graph.specs.Network.{IsNetwork, Network}
 use Rattle.hose_law.specs.Quotes.{nothing_held}
 use Rattle.hose_law.specs.Script.{ReadLine, IsForMemory}
 use Rattle.hose_law.specs.Script.ReadLine.{Asks}
 use Rattle.hose_law.proofs.Scripts.{decided_end}
 use Rattle.hose_law.proofs.Unique.{script_unique}
-use Rattle.hose_book.specs.GoingOn.{none_yet}
+use Rattle.hose_book.specs.steps.GoingOn.{none_yet}
 use Rattle.hose_book.specs.declared.books.Books.{Ghosts as BooksGhosts}
 use Rattle.hose_book.specs.declared.books.Plain.{Plain}
-use Rattle.hose_core.specs.Holding.{State}
-use Rattle.hose_core.specs.Stepping.{FitsHistory}
+use Rattle.hose_core.specs.steps.Holding.{State}
+use Rattle.hose_core.specs.steps.Stepping.{FitsHistory}
 use Rattle.hose_gen.specs.Generated.{Order}
 use Rattle.hose_offline.specs.GenOutcome.{IsSummary, network_of_sizes, script_of_sizes, summary_of_replies}
-use Rattle.hose_offline.specs.Generating.{HaveBeenAnswered, IsScriptOf, IsTallyOf, asked}
-use Rattle.hose_offline.specs.Talking.{AnswersLine, HasAnswered, plain_books}
-use Rattle.hose_offline.specs.Tally.{IsOfUpTo, admitted_cost, one_if_admitted, one_if_refused, one_if_released, tally_line, tally_of, with_reply}
+use Rattle.hose_offline.specs.Generating.{IsScriptOf, asked}
+use Rattle.hose_offline.specs.steps.Generating.{HaveBeenAnswered, IsTallyOf}
+use Rattle.hose_offline.specs.steps.Talking.{AnswersLine, HasAnswered, plain_books}
+use Rattle.hose_offline.specs.Tally.{admitted_cost, one_if_admitted, one_if_refused, one_if_released, tally_line, tally_of}
+use Rattle.hose_offline.specs.steps.Tally.{IsOfUpTo, with_reply}
 use Rattle.hose_offline.specs.declared.generating.Sizes.{Sizes}
 use Rattle.hose_offline.specs.declared.tally.Tally.{Tally}
 use Rattle.hose_offline.proofs.Running.{never_told}

@@ -4,7 +4,7 @@ use Rattle.std.proofs.lemmas.Grind.{flat_map-append}
 use Rattle.byteorder.specs.Endian.{big_bytes}
 use Rattle.byteorder.specs.Numbers.{length-bytes_high_first}
 use Rattle.hose_follow.specs.Packet.{BeginsNoPacket, IsPacket, IsPartOfPacket, Packet, packet_bytes, packets_bytes}
-use Rattle.hose_follow.specs.Splitting.{IsSplit}
+use Rattle.hose_follow.specs.steps.Splitting.{IsSplit}
 use Rattle.hose_follow.proofs.Splits.{one_split}
 
 -- a packet behind others is some bytes

@@ -10,7 +10,8 @@ use Rattle.hose_offline.specs.Ending.{IsLastLine, IsOut, status_of_done}
 use Rattle.hose_offline.specs.Fault.{last_line, status_of}
 use Rattle.hose_offline.specs.Named.{NamesNone}
 use Rattle.hose_offline.specs.Parts.{Parts, Tellings}
-use Rattle.hose_offline.specs.PriceOutcome.{AnswersBySheet, PriceLeaves, PriceOutcome, PricesInput}
+use Rattle.hose_offline.specs.PriceOutcome.{AnswersBySheet, PriceLeaves, PriceOutcome}
+use Rattle.hose_offline.specs.steps.PriceOutcome.{PricesInput}
 use Rattle.hose_offline.specs.TopologyTold.{own_costs}
 use Rattle.hose_offline.specs.declared.fault.Fault.{Fault}
 use Rattle.hose_offline.specs.declared.fault.Fault.TheVariants as fault

@@ -19,7 +19,8 @@ use Rattle.hose_store.specs.Opening.{IsAtOpening}
 use Rattle.hose_store.specs.Recovery.{IsHistoryOf, IsRecoveredAs}
 use Rattle.hose_offline.specs.Journal.{IsPutIn, IsTakenOut}
 use Rattle.hose_offline.specs.OnDisk.{HadContent, IsRefusedOnDisk, IsUnopened, opening_of}
-use Rattle.hose_offline.specs.ServingOnDisk.{IsNotOpened, IsNotServed, Refuses}
+use Rattle.hose_offline.specs.ServingOnDisk.{IsNotServed}
+use Rattle.hose_offline.specs.steps.ServingOnDisk.{IsNotOpened, Refuses}
 use Rattle.hose_offline.specs.declared.fault.Fault.{Fault}
 use Rattle.hose_offline.specs.declared.fault.Fault.TheVariants as fault
 

@@ -4,8 +4,10 @@ use Rattle.std.specs.Prelude.{⊤}
 use Rattle.std.proofs.lemmas.List.Elements.{All-cons, All-nil}
 use Rattle.hose_io.specs.Stream.{Stream, Grows}
 use Rattle.hose_io.specs.declared.source.Source.{Ghosts}
-use Rattle.hose_words.specs.Lines.{Reader, StopsAfterLines}
-use Rattle.hose_words.specs.Reading.{WhereTold, ReadsOn}
+use Rattle.hose_words.specs.Lines.{StopsAfterLines}
+use Rattle.hose_words.specs.steps.Lines.{Reader}
+use Rattle.hose_words.specs.Reading.{WhereTold}
+use Rattle.hose_words.specs.steps.Reading.{ReadsOn}
 use Rattle.hose_words.specs.declared.lines.LineFault.{LineFault}
 use Rattle.hose_words.specs.declared.lines.LineFault.TheVariants as line
 use Rattle.hose_words.proofs.OnReading.{IsAfterLines-then, WhereTold-both, WhereTold-map, WhereTold-then}
@@ -19,11 +21,11 @@ use Rattle.hose_law.proofs.Cheapest.{decided_cheapest}
 use Rattle.hose_law.proofs.Lives.{live_held, stays_live}
 use Rattle.hose_law.proofs.Sold.{sold}
 use Rattle.hose_io.specs.Frame.{Rose}
-use Rattle.hose_book.specs.GoingOn.{GoesOn}
+use Rattle.hose_book.specs.steps.GoingOn.{GoesOn}
 use Rattle.hose_book.specs.declared.books.Books.{Ghosts as BooksGhosts}
 use Rattle.hose_io.specs.declared.sink.Sink.{Ghosts as SinkGhosts}
 use Rattle.hose_offline.specs.RunOutcome.{RunLeaves}
-use Rattle.hose_offline.specs.Fault.{of_topology}
+use Rattle.hose_offline.specs.steps.Fault.{of_topology}
 use Rattle.hose_offline.specs.Parts.{Tellings, parts}
 use Rattle.hose_offline.specs.Run.{HasRun, IsCutOff, IsRun, IsRunUpTo, Keeping, TellsNoNetwork}
 use Rattle.hose_words.specs.Saying.{IsAllTaken, IsLeftOver, SayLines}
@@ -31,9 +33,11 @@ use Rattle.hose_proto.specs.Replies.{CutsLast, texts_of}
 use Rattle.hose_offline.specs.TopologyTold.{TellsPriced}
 use Rattle.hose_offline.specs.declared.notation.Notation.TheVariants.{Lines}
 use Rattle.hose_offline.specs.declared.notation.Refusal.TheVariants.{Word}
-use Rattle.hose_offline.specs.Talk.{Talk, talk}
-use Rattle.hose_offline.specs.Talking.{IsAskedBy, SayOneThingEach, Talks, TalksUntil, AnswersUpTo, TalkTellings, TellsDisks, SaysNext, talk_tellings}
-use Rattle.hose_topo.specs.Reading.{fault_of, KeepsLineFault, StopsInTopology}
+use Rattle.hose_offline.specs.steps.Talk.{Talk, talk}
+use Rattle.hose_offline.specs.Talking.{IsAskedBy, TellsDisks, SaysNext}
+use Rattle.hose_offline.specs.steps.Talking.{SayOneThingEach, Talks, TalksUntil, AnswersUpTo, TalkTellings, talk_tellings}
+use Rattle.hose_topo.specs.Reading.{StopsInTopology}
+use Rattle.hose_topo.specs.steps.Reading.{fault_of, KeepsLineFault}
 use Rattle.hose_topo.specs.TopologyText.{IsTopologyText, IsWrongAt}
 use Rattle.hose_offline.specs.declared.fault.Fault.{Fault}
 use Rattle.hose_offline.specs.declared.fault.Fault.TheVariants as fault

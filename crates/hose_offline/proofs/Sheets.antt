@@ -9,7 +9,8 @@ use Rattle.hose_graph.specs.Hose.{Endpoint}
 use Rattle.hose_graph.specs.Network.{Network}
 use Rattle.hose_price.specs.Sheet.{Sheet}
 use Rattle.hose_price.specs.declared.priced.Price.{Price}
-use Rattle.hose_offline.specs.SheetLine.{AnswersSheet, IsPricing, PricesHose, price_words, prices_words, sheet_form}
+use Rattle.hose_offline.specs.SheetLine.{AnswersSheet, IsPricing, price_words, prices_words, sheet_form}
+use Rattle.hose_offline.specs.steps.SheetLine.{PricesHose}
 use Rattle.hose_offline.specs.declared.sheet_answer.SheetAnswer.{SheetAnswer}
 use Rattle.hose_offline.specs.declared.sheet_answer.SheetAnswer.TheVariants.{Priced, NoPlan, Bad, Long, Memory}
 

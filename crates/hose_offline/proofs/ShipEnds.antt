@@ -22,7 +22,7 @@ use Rattle.hose_store.specs.Replaying.{KeepsRead}
 use Rattle.hose_store.specs.declared.fault.StoreFault.{StoreFault}
 use Rattle.hose_store.specs.declared.fault.StoreFault.TheVariants as store
 use Rattle.hose_follow.specs.Packet.{Packet, packets_bytes, packets_from}
-use Rattle.hose_follow.specs.Shipping.{Ships, ShipsUpTo}
+use Rattle.hose_follow.specs.steps.Shipping.{Ships, ShipsUpTo}
 use Rattle.hose_follow.specs.declared.shipping.ShipFault.{ShipFault}
 use Rattle.hose_follow.specs.declared.shipping.ShipFault.TheVariants.{Store, Write}
 use Rattle.hose_offline.specs.AuditOutcome.{NoneFailed}
@@ -32,7 +32,8 @@ use Rattle.hose_offline.specs.Fault.{of_store}
 use Rattle.hose_offline.specs.OnDisk.{CabinetFailed, HadContent, IsUnopened, JournalIsTold}
 use Rattle.hose_offline.specs.Parts.{Parts, Tellings}
 use Rattle.hose_offline.specs.ServingOnDisk.{IsNotServed}
-use Rattle.hose_offline.specs.ShipOutcome.{IsLeftWithoutRecord, IsReadAsBefore, ShipOutcome, ShipsJournal, ShipsPart, shipping_done, to_ship}
+use Rattle.hose_offline.specs.ShipOutcome.{IsLeftWithoutRecord, IsReadAsBefore, ShipOutcome, ShipsJournal, ShipsPart, to_ship}
+use Rattle.hose_offline.specs.steps.ShipOutcome.{shipping_done}
 use Rattle.hose_offline.specs.declared.fault.Fault.{Fault}
 use Rattle.hose_offline.specs.declared.fault.Fault.TheVariants as fault
 use Rattle.hose_offline.proofs.Audited.{named_not_1, named_read}

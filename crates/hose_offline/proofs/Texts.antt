@@ -4,11 +4,13 @@ use Rattle.std.proofs.lemmas.List.{drop-take, drop_all, length-take, take-append
 use Rattle.std.proofs.Math.Seq.{take-add, take-take, drop-drop}
 use Rattle.hose_io.specs.Stream.{Gives, IsAtEnd}
 use Rattle.hose_words.specs.declared.lines.TheConstants.{INPUT_LIMIT}
-use Rattle.hose_disk.specs.Cabinet.{Has, IsTextAt, IsTextCall, absent_after}
+use Rattle.hose_disk.specs.Cabinet.{Has}
+use Rattle.hose_disk.specs.steps.Cabinet.{IsTextAt, IsTextCall, absent_after}
 use Rattle.hose_disk.specs.declared.cabinet.Cabinet.{Ghosts}
 use Rattle.hose_io.specs.declared.Failed.{Failed}
 use Rattle.hose_io.proofs.Frames.{Stays-none, Stays-next}
-use Rattle.hose_offline.specs.CabinetText.{HasAsked, OnlyTextsRead, TextState, stream_at, text_stream}
+use Rattle.hose_offline.specs.CabinetText.{OnlyTextsRead, stream_at, text_stream}
+use Rattle.hose_offline.specs.steps.CabinetText.{HasAsked, TextState}
 
 -- nothing is left of what can be read
 pub at_limit : (from : ℕ) (tells : Bool) (found : Option (List ℕ)) → INPUT_LIMIT + 1 ≤ from → IsAtEnd (stream_at from tells found)

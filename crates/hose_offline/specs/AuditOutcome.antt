@@ -16,7 +16,7 @@ use Rattle.hose_offline.specs.Fault.{last_line, status_of}
 use Rattle.hose_offline.specs.OnDisk.{CabinetFailed, JournalIsTold}
 use Rattle.hose_offline.specs.Parts.{Parts, Tellings}
 use Rattle.hose_offline.specs.Run.{HasNetwork, IsFor, IsRefusedText}
-use Rattle.hose_offline.specs.ServingOnDisk.{IsNotServed, first_of}
+use Rattle.hose_offline.specs.ServingOnDisk.{first_of}
 use Rattle.hose_offline.specs.TopologyTold.{notation_of}
 use Rattle.hose_offline.specs.declared.fault.Fault.{Fault}
 
@@ -117,14 +117,6 @@ module _ {I O C E : Type 0} (tells : Tellings I O C E) (journal : List ℕ)
       × HasAudited tells journal before after network history closing
       × EndsTold tells.sink before.output after.output status (first_of (Ok tt) closing)
       (audit_text network (book_of 0 history))
-
-  -- What the audit of a journal comes to: it is told, or no store was opened, and the last line
-  -- tells why.
-  abbrev pub AuditsJournal : ℕ → Network → Type 0
-  AuditsJournal status network = IsAudited status network
-      ⊎ ((why : Fault) × (status ≡ status_of why)
-      × IsNotServed tells.cabinet tells.disk journal before.cabinet after.cabinet network (Err why)
-      × IsOut tells.sink before.output after.output (last_line why))
 
   -- an audit is to tell the book of the journal
   abbrev pub to_audit : Purpose

@@ -1,12 +1,11 @@
 -- What stands after `check`, by what ended it.
-use Rattle.std.specs.Prelude.{◌≡◌, ◌⊎◌, ◌↔◌, ℕ, ◌+◌, ◌<◌, ◌≤◌, List, [], ◌++◌, codes, decimal, length, Option, Result, Ok, Err}
+use Rattle.std.specs.Prelude.{◌≡◌, ◌⊎◌, ℕ, List, [], ◌++◌, codes, decimal, Option, Result, Ok, Err}
 use Rattle.hose_io.specs.Frame.{Rose}
-use Rattle.hose_io.specs.Stream.{Gives, Grows, Stream}
+use Rattle.hose_io.specs.Stream.{Grows, Stream}
 use Rattle.hose_io.specs.Writing.{GrowsInPart}
 use Rattle.hose_io.specs.declared.source.Source.{Ghosts as SourceGhosts}
 use Rattle.hose_io.specs.declared.sink.Sink.{Ghosts as SinkGhosts}
 use Rattle.hose_words.specs.Reading.{WhereTold}
-use Rattle.hose_words.specs.Limits.{input_limit}
 use Rattle.hose_graph.specs.Network.{Network}
 use Rattle.hose_cert.specs.Verdict.{AreCheapestFound, IsVerdict}
 use Rattle.hose_cert.specs.declared.Verdict.{Verdict}
@@ -58,19 +57,6 @@ module _ {I : Type 0} (source : SourceGhosts I) (input input' : I) (network : Ne
   IsNotJudged TooLong = source.frame input' ≡ source.frame input
   IsNotJudged Memory = source.frame input' ≡ source.frame input
   IsNotJudged _ = ⊥
-
-  -- what judging the input came to
-  abbrev pub JudgedAs : Result Verdict Fault → Type 0
-  JudgedAs (Ok verdict) = IsJudged verdict
-  JudgedAs (Err why) = IsNotJudged why
-
-  -- what judging the input came to, and what was taken of it
-  pub record JudgesInput (result : Result Verdict Fault) : Type 0 where
-    pub taken : List ℕ
-    pub gives : Gives (source.content input) (source.content input') taken
-    pub limit : length taken ≤ input_limit + 1
-    pub too_long : (result ≡ Err TooLong) ↔ (input_limit < length taken)
-    pub judged : JudgedAs result
 
 -- ---- the topology and the input
 

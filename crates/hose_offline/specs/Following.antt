@@ -24,7 +24,6 @@ use Rattle.hose_follow.specs.declared.following.FollowEnd.TheVariants as end
 use Rattle.hose_follow.specs.Layout.{follow_limit}
 use Rattle.hose_offline.specs.OnDisk.{HadContent, opening_of}
 use Rattle.hose_offline.specs.Parts.{Parts, Tellings}
-use Rattle.hose_offline.specs.ServingOnDisk.{IsNotServed, first_of}
 use Rattle.hose_offline.specs.declared.fault.Fault.{Fault}
 use Rattle.hose_offline.specs.declared.fault.Fault.TheVariants as fault
 
@@ -156,13 +155,3 @@ pub record HasFollowed {I O C E : Type 0} (tells : Tellings I O C E) (name : Lis
       (λ was. Has (tells.cabinet.frame after.cabinet).tells (tells.cabinet.held after.cabinet name)
       (λ left. HasLeft tells.disk (IsBrought follows.packets) (tells.disk.may_leave was)
       (opening_of tells.disk network since was) history left closing))
-
--- no packet was answered, and why; or the input was followed, and the first fault is told
-abbrev pub FollowsJournal : {I O C E : Type 0} → Tellings I O C E → List ℕ → Parts I O C
-    → Parts I O C → Network → Result ⊤ Fault → Type 0
-FollowsJournal tells name before after network result =
-    (IsNotServed tells.cabinet tells.disk name before.cabinet after.cabinet network result
-    × (after.input ≡ before.input) × (after.output ≡ before.output))
-    ⊎ ((ended : FollowEnd) × (closing : Result ⊤ Failed)
-    × HasFollowed tells name before after network ended closing
-    × (result ≡ first_of (following_done ended) closing))

@@ -1,5 +1,5 @@
 -- What stands after `gen`, by its status.
-use Rattle.std.specs.Prelude.{◌≡◌, ◌⊎◌, ℕ, List, Result, Ok, Err}
+use Rattle.std.specs.Prelude.{◌≡◌, ◌⊎◌, ℕ, List}
 use Rattle.hose_io.specs.Frame.{Rose}
 use Rattle.hose_io.specs.Stream.{Grows}
 use Rattle.hose_io.specs.Writing.{GrowsInPart}
@@ -14,8 +14,7 @@ use Rattle.hose_offline.specs.Fault.{last_line}
 use Rattle.hose_offline.specs.Generating.{IsScriptOf}
 use Rattle.hose_offline.specs.Parts.{Parts, Tellings}
 use Rattle.hose_offline.specs.Tally.{tally_line, tally_of}
-use Rattle.hose_offline.specs.declared.fault.Fault.{Fault}
-use Rattle.hose_offline.specs.declared.fault.Fault.TheVariants.{Memory, Write}
+use Rattle.hose_offline.specs.declared.fault.Fault.TheVariants.{Memory}
 use Rattle.hose_offline.specs.declared.generating.Sizes.{Sizes}
 
 -- the network of these sizes
@@ -55,13 +54,6 @@ module _ (sizes : Sizes) {O : Type 0} (sink : SinkGhosts O) (output output' : O)
   IsSummaryCut = (line : List ℕ) × IsSummary sizes line
       × GrowsInPart (sink.content output) (sink.content output') line
       × Rose (sink.frame output) (sink.frame output')
-
-  -- what `gen` leaves, before the last line that tells its fault
-  abbrev pub GenLeaves : {T : Type 0} → Result T Fault → Type 0
-  GenLeaves (Ok _) = IsSummaryOut
-  GenLeaves (Err Write) = IsSummaryCut
-  GenLeaves (Err Memory) = output' ≡ output
-  GenLeaves (Err _) = ⊥
 
   -- The summary is out; or the output failed in it; or there was no memory, and the last line says
   -- so.

@@ -1,45 +1,17 @@
 -- What comes of a generated script.
-use Rattle.std.specs.Prelude.{◌≡◌, ℕ, ◌+◌, ◌≤◌, List, [], map}
+use Rattle.std.specs.Prelude.{List, [], map}
 use Rattle.hose_graph.specs.declared.entry.Entry.{Entry}
 use Rattle.hose_graph.specs.declared.command.Reply.{Reply}
 use Rattle.hose_graph.specs.Network.{Network}
-use Rattle.hose_graph.specs.Limits.{most_links, most_nodes}
-use Rattle.hose_law.specs.History.{IsDecided, book_of}
+use Rattle.hose_law.specs.History.{IsDecided}
 use Rattle.hose_law.specs.Quotes.{Holdings, nothing_held}
 use Rattle.hose_law.specs.Script.{ReadLine, IsScript, WithoutDisk, WithoutMemory}
 use Rattle.hose_law.specs.Script.ReadLine.{Asks}
-use Rattle.hose_book.specs.declared.books.Books.{Ghosts as BooksGhosts}
-use Rattle.hose_core.specs.Holding.{State}
-use Rattle.hose_core.specs.Stepping.{FitsHistory}
 use Rattle.hose_gen.specs.Generated.{Order}
-use Rattle.hose_gen.specs.Limits.{least_nodes, most_hoses}
-use Rattle.hose_offline.specs.Talking.{AreAnswered}
-use Rattle.hose_offline.specs.Tally.{tally_of}
-use Rattle.hose_offline.specs.declared.tally.Tally.{Tally}
-
--- a network of so many nodes and links, and a script of so many hoses, can be generated
-pub record AreSizes (nodes links hoses : ℕ) : Type 0 where
-  pub enough_nodes : least_nodes ≤ nodes
-  pub few_nodes : nodes ≤ most_nodes
-  pub enough_links : nodes ≤ links + 1
-  pub few_links : links ≤ most_links
-  pub few_hoses : hoses ≤ most_hoses
 
 -- the orders as lines of a script that were read
 abbrev pub asked : List Order → List ReadLine
 asked orders = map (λ (order : Order). Asks order.0 order.1) orders
-
--- Orders were answered one after another from the empty history on, where no customer held a quote,
--- none of them for want of memory, and this is the tally of the replies; the epoch is not told yet.
-pub record HaveBeenAnswered {K R : Type 0} (books : BooksGhosts K R) (first last : State K)
-    (orders : List Order) (tally : Tally) : Type 0 where
-  pub replies : List Reply
-  pub answered : AreAnswered books (books.ledger first.books).network [] first.books last.books
-      (asked orders) replies
-  pub fits : FitsHistory books last 0 answered.history answered.left
-  pub network : (books.ledger last.books).network ≡ (books.ledger first.books).network
-  pub memory : WithoutMemory replies
-  pub is_tally : tally ≡ tally_of replies 0
 
 -- Orders on a network are a script from the empty history on, whose entries are all decided. No
 -- reply is for want of memory, and none for a failure of a disk.
@@ -50,10 +22,3 @@ pub record IsScriptOf (network : Network) (orders : List Order) (replies : List 
   pub decided : IsDecided network 0 0 history
   pub memory : WithoutMemory replies
   pub disk : WithoutDisk replies
-
--- this is the tally of the replies to orders on a network
-pub record IsTallyOf (network : Network) (orders : List Order) (tally : Tally) : Type 0 where
-  pub replies : List Reply
-  pub history : List Entry
-  pub script : IsScriptOf network orders replies history
-  pub is_tally : tally ≡ tally_of replies (book_of 0 history).epoch

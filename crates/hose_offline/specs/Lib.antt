@@ -9,7 +9,6 @@ pub mod Following
 pub mod GenOutcome
 pub mod Generating
 pub mod Journal
-pub mod JsonRead
 pub mod Limits
 pub mod MoveEnd
 pub mod MoveOutcome
@@ -25,8 +24,7 @@ pub mod ScriptLine
 pub mod ServingOnDisk
 pub mod SheetLine
 pub mod ShipOutcome
-pub mod Talk
 pub mod Talking
-pub mod TalkingOnDisk
 pub mod Tally
 pub mod TopologyTold
+pub mod steps

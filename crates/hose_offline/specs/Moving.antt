@@ -31,7 +31,6 @@ use Rattle.hose_offline.specs.declared.fault.Fault.TheVariants.{Cabinet, Write}
 use Rattle.hose_offline.specs.declared.move_end.MoveStop.{MoveStop}
 use Rattle.hose_offline.specs.declared.move_end.MoveStop.TheVariants.{Old, New, Network as Changed}
 use Rattle.hose_offline.specs.declared.move_end.Moved.{Moved}
-use Rattle.hose_offline.specs.declared.moving.Move.{Move}
 
 -- ---- what is moved
 
@@ -48,17 +47,6 @@ pub record MoveNames : Type 1 where
 abbrev pub scope_of : Bool → Scope
 scope_of true = scope.Live
 scope_of false = scope.All
-
--- what a move of the program names, at such prices
-abbrev pub names_of : (Network → Network → Type 0) → Move → MoveNames
-names_of prices of = record {
-  prices = prices;
-  scope = scope_of of.live;
-  topology = of.from.topology.now;
-  journal = of.from.journal.now;
-  new_topology = of.to.topology.now;
-  new_journal = of.to.journal.now;
-}
 
 -- what came of reading a journal that is moved, as a fault of the program
 abbrev pub read_done : Result Stated StoreFault → Result Stated Fault

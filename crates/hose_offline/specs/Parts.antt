@@ -1,12 +1,10 @@
 -- What is beside a command: what there is to read, what was written, and the files.
-use Rattle.std.specs.Prelude.{◌≡◌}
 use Rattle.hose_io.specs.Frame.{Stays}
 use Rattle.hose_io.specs.declared.source.Source.{Ghosts as SourceGhosts}
 use Rattle.hose_io.specs.declared.sink.Sink.{Ghosts as SinkGhosts}
 use Rattle.hose_disk.specs.Cabinet.{object_of}
 use Rattle.hose_disk.specs.declared.cabinet.Cabinet.{Ghosts as CabinetGhosts}
 use Rattle.hose_disk.specs.declared.disk.Disk.{Ghosts as DiskGhosts}
-use Rattle.hose_offline.specs.declared.outside.Outside.{Outside}
 
 -- the parts of what is beside a command
 pub record Parts (I O C : Type 0) : Type 0 where
@@ -38,15 +36,3 @@ pub record AllStay {I O C E : Type 0} (tells : Tellings I O C E) (before after :
   pub output : Stays (tells.sink.frame before.output) (tells.sink.frame after.output)
   pub cabinet : Stays (object_of (tells.cabinet.frame before.cabinet))
       (object_of (tells.cabinet.frame after.cabinet))
-
--- the parts that are lent to a command
-abbrev pub held : {I O C E : Type 0} → Outside I O C E → Parts I O C
-held outside = parts outside.input.now outside.output.now outside.cabinet.now
-
--- Each part is the object that it was, and lent as it was.
-pub record KeepsAll {I O C E : Type 0} (tells : Tellings I O C E) (before after : Outside I O C E) :
-    Type 0 where
-  pub stay : AllStay tells (held before) (held after)
-  pub input : after.input.ghost_name ≡ before.input.ghost_name
-  pub output : after.output.ghost_name ≡ before.output.ghost_name
-  pub cabinet : after.cabinet.ghost_name ≡ before.cabinet.ghost_name

@@ -1,9 +1,8 @@
 -- What stands after `price`, by what ended it.
-use Rattle.std.specs.Prelude.{◌≡◌, ◌⊎◌, ◌↔◌, ℕ, ◌+◌, ◌<◌, ◌≤◌, List, length, false, Option, Result, Err, slice_index_or, ⊤}
-use Rattle.hose_io.specs.Stream.{Gives, Stream}
+use Rattle.std.specs.Prelude.{◌≡◌, ◌⊎◌, ℕ, ◌<◌, List, length, false, Option, Result, Err, slice_index_or, ⊤}
+use Rattle.hose_io.specs.Stream.{Stream}
 use Rattle.hose_io.specs.declared.source.Source.{Ghosts as SourceGhosts}
 use Rattle.hose_io.specs.declared.sink.Sink.{Ghosts as SinkGhosts}
-use Rattle.hose_words.specs.Limits.{input_limit}
 use Rattle.hose_talk.specs.Talk.{TalksTo, TellsOf}
 use Rattle.hose_talk.specs.declared.talking.TalkEnd.{TalkEnd}
 use Rattle.hose_talk.specs.declared.talking.TalkFault.{TalkFault}
@@ -18,7 +17,7 @@ use Rattle.hose_offline.specs.Parts.{Parts, Tellings}
 use Rattle.hose_offline.specs.SheetLine.{AnswersNext, answer_text}
 use Rattle.hose_offline.specs.TopologyTold.{own_costs}
 use Rattle.hose_offline.specs.declared.fault.Fault.{Fault}
-use Rattle.hose_offline.specs.declared.fault.Fault.TheVariants.{Memory, TooLong}
+use Rattle.hose_offline.specs.declared.fault.Fault.TheVariants.{Memory}
 
 -- ---- the input
 
@@ -57,15 +56,6 @@ module _ {I O C E : Type 0} (tells : Tellings I O C E) (makes : Network → Shee
       × (result ≡ done_of_talk ended)
       × AnswersInput tells.source tells.sink names sheet before.input after.input before.output
       after.output ended)
-
-  -- how the lines of the input were answered, and what was taken of it
-  pub record PricesInput (before after : Parts I O C) (network : Network)
-      (result : Result ⊤ Fault) : Type 0 where
-    pub taken : List ℕ
-    pub gives : Gives (tells.source.content before.input) (tells.source.content after.input) taken
-    pub limit : length taken ≤ input_limit + 1
-    pub too_long : (result ≡ Err TooLong) ↔ (input_limit < length taken)
-    pub answers : AnswersBySheet before after network result
 
   -- The topology that was named was read, and the input answered by its network; or it was not, and
   -- why, and then nothing was taken of the input, and nothing is out. Of its text this is left.

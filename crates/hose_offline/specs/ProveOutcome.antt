@@ -1,5 +1,5 @@
 -- What stands after `prove`, by what ended it.
-use Rattle.std.specs.Prelude.{◌≡◌, ◌⊎◌, ℕ, ◌+◌, List, All, codes, map, Option, Result, Ok, Err, ⊤}
+use Rattle.std.specs.Prelude.{◌≡◌, ◌⊎◌, ℕ, ◌+◌, List, codes, Option, Result, Ok, Err, ⊤}
 use Rattle.hose_io.specs.Frame.{Rose}
 use Rattle.hose_io.specs.Stream.{Grows, Stream}
 use Rattle.hose_io.specs.Writing.{GrowsInPart}
@@ -9,8 +9,6 @@ use Rattle.hose_graph.specs.Network.{Network}
 use Rattle.hose_cert.specs.Written.{GrowsByLines, GrowsByPart, GrowsByWhole, HasNoPlan}
 use Rattle.hose_proto.specs.Command.{AreEndsOf}
 use Rattle.hose_proto.specs.EndWords.{IsFirstUnknown}
-use Rattle.hose_proto.specs.Places.{end_word}
-use Rattle.hose_proto.specs.Reading.{IsEndOf}
 use Rattle.hose_proto.specs.ReplyText.{line_of}
 use Rattle.hose_offline.specs.Auditing.{TakesText}
 use Rattle.hose_offline.specs.Ending.{IsLastLine, OutputWorked, status_of_done}
@@ -56,12 +54,6 @@ module _ {O : Type 0} (sink : SinkGhosts O) (output output' : O) (network : Netw
   PutsProof hose (Err _) = ⊥
 
 -- ---- the endpoints
-
--- the words are those of these endpoints, one after the other
-pub record AreEndsInOrder (network : Network) (words : List (List ℕ)) (ends : List Endpoint) :
-    Type 0 where
-  pub spelled : words ≡ map (end_word network) ends
-  pub are : All (IsEndOf network) ends
 
 -- the words of a hose's endpoints, of which the first is the program's word of this number
 pub record EndsFrom : Type 0 where

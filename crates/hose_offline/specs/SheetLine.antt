@@ -1,5 +1,5 @@
 -- A line of a sheet of hoses that are to be priced, and what is answered to it.
-use Rattle.std.specs.Prelude.{◌≡◌, ℕ, ◌<◌, ◌≤◌, List, [], ◌∷◌, ◌++◌, codes, decimal, get_or, length, ⊤}
+use Rattle.std.specs.Prelude.{◌≡◌, ℕ, ◌<◌, ◌≤◌, List, [], ◌∷◌, ◌++◌, codes, decimal, get_or, length}
 use Rattle.hose_words.specs.Form.{Form, grammar_of, place}
 use Rattle.hose_words.specs.Grammar.{IsFirstNotAllowed}
 use Rattle.hose_words.specs.Words.{words_of}
@@ -47,16 +47,6 @@ AnswersSheet network sheet bytes Memory = length bytes ≤ line_limit
 -- what is answered to a line rests on no line before it
 abbrev pub AnswersNext : Sheet → List SheetAnswer → List ℕ → SheetAnswer → Type 0
 AnswersNext sheet before = AnswersSheet sheet.network sheet
-
--- what is answered to a customer who asks for this hose
-abbrev pub PricesHose : Sheet → List ℕ → List Endpoint → SheetAnswer → Type 0
-PricesHose sheet customer hose (Priced other line) =
-    (other ≡ customer) × IsPriceLine sheet hose line
-PricesHose sheet customer hose (NoPlan other) =
-    (other ≡ customer) × HasNoPricedPlan sheet.network hose
-PricesHose sheet customer hose (Bad word) = ⊥
-PricesHose sheet customer hose Long = ⊥
-PricesHose sheet customer hose Memory = ⊤
 
 -- ---- how that is written
 

@@ -12,21 +12,14 @@ use Rattle.hose_store.specs.Entries.{BeginsWith}
 use Rattle.hose_store.specs.Recovery.{IsHistoryOf, digest_of}
 use Rattle.hose_store.specs.Replaying.{KeepsRead}
 use Rattle.hose_follow.specs.Packet.{packets_bytes, packets_from}
-use Rattle.hose_follow.specs.declared.shipping.ShipFault.{ShipFault}
 use Rattle.hose_offline.specs.AuditOutcome.{NamedOutcome, Purpose}
 use Rattle.hose_offline.specs.Auditing.{PricedNames}
 use Rattle.hose_offline.specs.Ending.{IsLastLine, OutputWorked, status_of_done}
-use Rattle.hose_offline.specs.Fault.{of_shipping}
 use Rattle.hose_offline.specs.OnDisk.{HadContent, IsUnopened}
 use Rattle.hose_offline.specs.Parts.{Parts, Tellings}
 use Rattle.hose_offline.specs.ServingOnDisk.{IsNotServed}
 use Rattle.hose_offline.specs.declared.fault.Fault.{Fault}
 use Rattle.hose_offline.specs.declared.fault.Fault.TheVariants.{Write}
-
--- what came of shipping, as a fault of the program
-abbrev pub shipping_done : Result ℕ ShipFault → Result ⊤ Fault
-shipping_done (Ok count) = Ok tt
-shipping_done (Err why) = Err (of_shipping why)
 
 module _ {I O C E : Type 0} (tells : Tellings I O C E) (journal : List ℕ) (from : ℕ)
     (before after : Parts I O C) where

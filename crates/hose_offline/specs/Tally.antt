@@ -1,5 +1,5 @@
 -- What the replies of a script come to together, and the line that tells it.
-use Rattle.std.specs.Prelude.{ℕ, ◌+◌, ◌*◌, ◌≤◌, ◌^◌, List, ◌++◌, codes, decimal, sum_by}
+use Rattle.std.specs.Prelude.{ℕ, List, ◌++◌, codes, decimal, sum_by}
 use Rattle.hose_graph.specs.declared.command.Reply.{Reply}
 use Rattle.hose_graph.specs.declared.command.Reply.TheVariants.{Admitted, Refused, Released}
 use Rattle.hose_offline.specs.declared.tally.Tally.{Tally}
@@ -34,22 +34,6 @@ tally_of replies epoch = record {
   epoch = epoch;
   cost = sum_by admitted_cost replies;
 }
-
--- a tally with one reply more
-abbrev pub with_reply : Tally → Reply → Tally
-with_reply tally reply = record tally {
-  admitted = tally.admitted + one_if_admitted reply;
-  refused = tally.refused + one_if_refused reply;
-  released = tally.released + one_if_released reply;
-  cost = tally.cost + admitted_cost reply;
-}
-
--- the tally is of no more replies than these
-pub record IsOfUpTo (count : ℕ) (tally : Tally) : Type 0 where
-  pub admitted : tally.admitted ≤ count
-  pub refused : tally.refused ≤ count
-  pub released : tally.released ≤ count
-  pub cost : tally.cost ≤ 2 ^ 64 * count
 
 -- a number after its word
 abbrev pub told : List ℕ → ℕ → List ℕ

@@ -6,26 +6,28 @@ ghost use Rattle.hose_io.specs.Stream.{Gives};
 ghost use Rattle.hose_law.specs.History.{IsDecidedAt, IsSound};
 ghost use Rattle.hose_law.specs.Quotes.{nothing_held};
 ghost use Rattle.hose_law.specs.Script.{ReadLine};
-ghost use Rattle.hose_words.specs.Lines.{Shows};
-ghost use Rattle.hose_words.specs.Reading.{ReadsOn};
-ghost use Rattle.hose_graph.specs.Naming.{NamesPlaces};
+ghost use Rattle.hose_words.specs.steps.Lines.{Shows};
+ghost use Rattle.hose_words.specs.steps.Reading.{ReadsOn};
+ghost use Rattle.hose_graph.specs.steps.Naming.{NamesPlaces};
 ghost use Rattle.hose_graph.specs.Network.{Network};
 ghost use Rattle.hose_graph.specs.declared.entry.Entry.{Entry};
 ghost use Rattle.hose_graph.specs.declared.command.Reply.{Reply};
 ghost use Rattle.hose_io.specs.declared.Failed.{Failed};
-ghost use Rattle.hose_book.specs.GoingOn.{GoesOn};
+ghost use Rattle.hose_book.specs.steps.GoingOn.{GoesOn};
 ghost use Rattle.hose_store.specs.Beginning.{HasLeft};
-ghost use Rattle.hose_store.specs.Commit.{Closes, store_books};
-ghost use Rattle.hose_store.specs.Store.{KeptStore};
-ghost use Rattle.hose_core.specs.Stepping.{FitsHistory};
+ghost use Rattle.hose_store.specs.steps.Commit.{Closes, store_books};
+ghost use Rattle.hose_store.specs.steps.Store.{KeptStore};
+ghost use Rattle.hose_core.specs.steps.Stepping.{FitsHistory};
 ghost use Rattle.hose_disk.specs.Cabinet.{object_of};
-ghost use Rattle.hose_offline.specs.Journal.{IsJustOpened};
+ghost use Rattle.hose_offline.specs.steps.Journal.{IsJustOpened};
 ghost use Rattle.hose_offline.specs.OnDisk.{opening_of};
-ghost use Rattle.hose_offline.specs.Parts.{KeepsAll, held, parts, tellings};
+ghost use Rattle.hose_offline.specs.Parts.{parts, tellings};
+ghost use Rattle.hose_offline.specs.steps.Parts.{KeepsAll, held};
 ghost use Rattle.hose_offline.specs.RunOutcome.{RunLeaves, RunOutcome};
-ghost use Rattle.hose_offline.specs.Talk.{talk};
-ghost use Rattle.hose_offline.specs.Talking.{AnswersLine, IsAskedBy, SaysOneThing, SaysRead, Talks, TalksInMemory, plain_books, talk_tellings};
-ghost use Rattle.hose_offline.specs.TalkingOnDisk.{TalksInCabinet};
+ghost use Rattle.hose_offline.specs.steps.Talk.{talk};
+ghost use Rattle.hose_offline.specs.Talking.{IsAskedBy};
+ghost use Rattle.hose_offline.specs.steps.Talking.{AnswersLine, SaysOneThing, SaysRead, Talks, TalksInMemory, plain_books, talk_tellings};
+ghost use Rattle.hose_offline.specs.steps.TalkingOnDisk.{TalksInCabinet};
 
 use crate::fault::{Fault, done_of_talk, end};
 use crate::input_line::read_line;
@@ -230,12 +232,12 @@ impl<K: Books + Drop, R: RowMaker> Answers for Clerk<K, R> {
     type Reply = Reply;
 
     ghost use Rattle.std.specs.Prelude.{List, ⊤, false};
-    ghost use Rattle.hose_graph.specs.Naming.{NamesPlaces};
+    ghost use Rattle.hose_graph.specs.steps.Naming.{NamesPlaces};
     ghost use Rattle.hose_graph.specs.Network.{Network};
     ghost use Rattle.hose_graph.specs.declared.entry.Entry.{Entry};
     ghost use Rattle.hose_law.specs.Script.{ReadLine};
     ghost use Rattle.hose_proto.specs.ReplyText.{line_of, reply_text};
-    ghost use Rattle.hose_offline.specs.Talking.{HasAnswered, SaysAlone};
+    ghost use Rattle.hose_offline.specs.steps.Talking.{HasAnswered, SaysAlone};
 
     ghost said = { ReadLine };
 

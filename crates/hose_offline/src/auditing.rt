@@ -2,9 +2,11 @@
 ghost use Rattle.std.specs.Prelude.{◌≡◌, ◌≢◌, IsSome, IsTrue, None};
 ghost use Rattle.hose_io.specs.Frame.{Stays};
 ghost use Rattle.hose_audit.specs.Audit.{audit_text};
-ghost use Rattle.hose_offline.specs.AuditOutcome.{AuditOutcome, AuditsJournal, EndsTold};
+ghost use Rattle.hose_offline.specs.AuditOutcome.{AuditOutcome, EndsTold};
+ghost use Rattle.hose_offline.specs.steps.AuditOutcome.{AuditsJournal};
 ghost use Rattle.hose_offline.specs.Auditing.{ReadsText, ReadsTopology, priced_names};
-ghost use Rattle.hose_offline.specs.Parts.{KeepsAll, held, tellings};
+ghost use Rattle.hose_offline.specs.Parts.{tellings};
+ghost use Rattle.hose_offline.specs.steps.Parts.{KeepsAll, held};
 ghost use Rattle.hose_offline.specs.TopologyTold.{own_costs};
 
 use crate::cabinet_text::CabinetText;

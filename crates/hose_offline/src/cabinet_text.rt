@@ -23,7 +23,7 @@ pub struct CabinetText<'a, C: Cabinet> {
 impl<'a, C: Cabinet> Model for CabinetText<'a, C> {
     ghost use Rattle.std.specs.Prelude.{◌≤◌, ◌+◌, IsSome, IsTrue};
     ghost use Rattle.hose_words.specs.declared.lines.TheConstants.{INPUT_LIMIT};
-    ghost use Rattle.hose_offline.specs.CabinetText.{TextState};
+    ghost use Rattle.hose_offline.specs.steps.CabinetText.{TextState};
 
     ghost Value = { TextState C };
 
@@ -64,7 +64,7 @@ impl<'a, C: Cabinet> CabinetText<'a, C> {
 }
 
 impl<'a, C: Cabinet> Source for CabinetText<'a, C> {
-    ghost use Rattle.hose_offline.specs.CabinetText.{HasAsked, reading_frame, text_at};
+    ghost use Rattle.hose_offline.specs.steps.CabinetText.{HasAsked, reading_frame, text_at};
 
     ghost frame = { λ text. reading_frame C.Cabinet text };
 

@@ -2,9 +2,12 @@
 ghost use Rattle.std.specs.Prelude.{◌≡◌, ◌≢◌, ◌↔◌, ◌+◌, ◌<◌, ◌≤◌, [], Err, IfOk, None};
 ghost use Rattle.hose_io.specs.Frame.{Rose, Stays};
 ghost use Rattle.hose_cert.specs.Verdict.{AreCheapestFound, IsVerdict};
-ghost use Rattle.hose_words.specs.Reading.{ReadsOn, WhereTold};
-ghost use Rattle.hose_offline.specs.CheckOutcome.{CheckOutcome, EndsVerdict, JudgesInput, JudgesNamed};
-ghost use Rattle.hose_offline.specs.Parts.{KeepsAll, held, tellings};
+ghost use Rattle.hose_words.specs.Reading.{WhereTold};
+ghost use Rattle.hose_words.specs.steps.Reading.{ReadsOn};
+ghost use Rattle.hose_offline.specs.CheckOutcome.{CheckOutcome, EndsVerdict, JudgesNamed};
+ghost use Rattle.hose_offline.specs.steps.CheckOutcome.{JudgesInput};
+ghost use Rattle.hose_offline.specs.Parts.{tellings};
+ghost use Rattle.hose_offline.specs.steps.Parts.{KeepsAll, held};
 
 use crate::auditing::read_topology;
 use crate::fault::{Fault, end, put_numbered};

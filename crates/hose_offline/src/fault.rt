@@ -2,12 +2,13 @@
 ghost use Rattle.std.specs.Prelude.{◌≡◌, ◌++◌, [], decimal};
 ghost use Rattle.hex.specs.Hex.{encode_lower};
 ghost use Rattle.hose_io.specs.Frame.{Stays};
-ghost use Rattle.hose_io.specs.Gather.{IsAdded};
-ghost use Rattle.hose_io.specs.Writing.{IsPut};
+ghost use Rattle.hose_io.specs.steps.Gather.{IsAdded};
+ghost use Rattle.hose_io.specs.steps.Writing.{IsPut};
 ghost use Rattle.hose_proto.specs.ReplyText.{line_of};
 ghost use Rattle.hose_offline.specs.declared.fault.Fault.TheVariants.{Memory, Read, Write};
 ghost use Rattle.hose_offline.specs.Ending.{IsLastLine, status_of_done};
-ghost use Rattle.hose_offline.specs.Fault.{done_of_talk, status_of, last_line, of_certificate, of_json, of_proof, of_shipping, of_store, of_topology, refusal_words};
+ghost use Rattle.hose_offline.specs.Fault.{done_of_talk, status_of, last_line, of_store, refusal_words};
+ghost use Rattle.hose_offline.specs.steps.Fault.{of_certificate, of_json, of_proof, of_shipping, of_topology};
 
 use crate::notation::Refusal;
 use hose_cert::{CertFault, ProveFault};

@@ -2,13 +2,15 @@
 ghost use Rattle.std.specs.Prelude.{◌≡◌, ◌≢◌, List, None};
 ghost use Rattle.hose_graph.specs.Network.{Network};
 ghost use Rattle.hose_law.specs.History.{IsSoundAt};
-ghost use Rattle.hose_store.specs.Store.{KeptStore};
+ghost use Rattle.hose_store.specs.steps.Store.{KeptStore};
 ghost use Rattle.hose_follow.specs.Packet.{Packet};
 ghost use Rattle.hose_offline.specs.Auditing.{priced_names};
 ghost use Rattle.hose_offline.specs.FollowOutcome.{FollowOutcome};
-ghost use Rattle.hose_offline.specs.Following.{FollowsJournal, IsBrought, following_done};
-ghost use Rattle.hose_offline.specs.Journal.{IsJustOpened};
-ghost use Rattle.hose_offline.specs.Parts.{KeepsAll, held, tellings};
+ghost use Rattle.hose_offline.specs.Following.{IsBrought, following_done};
+ghost use Rattle.hose_offline.specs.steps.Following.{FollowsJournal};
+ghost use Rattle.hose_offline.specs.steps.Journal.{IsJustOpened};
+ghost use Rattle.hose_offline.specs.Parts.{tellings};
+ghost use Rattle.hose_offline.specs.steps.Parts.{KeepsAll, held};
 
 use crate::auditing::{Names, read_topology};
 use crate::fault::{Fault, end};

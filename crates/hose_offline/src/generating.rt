@@ -2,16 +2,18 @@
 ghost use Rattle.std.specs.Prelude.{◌≡◌, ◌≢◌, ◌↔◌, ◌+◌, ◌<◌, ◌^◌, ℕ, [], IfErr, IfOk, IsTrue, OnOk};
 ghost use Rattle.std.specs.List.{All};
 ghost use Rattle.hose_io.specs.Frame.{Stays};
-ghost use Rattle.hose_graph.specs.Naming.{AsksOf};
+ghost use Rattle.hose_graph.specs.steps.Naming.{AsksOf};
 ghost use Rattle.hose_law.specs.Quotes.{nothing_held};
 ghost use Rattle.hose_law.specs.Script.{IsForMemory};
 ghost use Rattle.hose_law.specs.Script.ReadLine.{Asks};
-ghost use Rattle.hose_core.specs.Stepping.{FitsHistory};
-ghost use Rattle.hose_offline.specs.GenOutcome.{GenLeaves, GenOutcome};
-ghost use Rattle.hose_offline.specs.Generating.{AreSizes, HaveBeenAnswered, IsTallyOf};
-ghost use Rattle.hose_offline.specs.Parts.{KeepsAll, held, tellings};
-ghost use Rattle.hose_offline.specs.Talking.{AnswersLine, plain_books};
-ghost use Rattle.hose_offline.specs.Tally.{IsOfUpTo, with_reply};
+ghost use Rattle.hose_core.specs.steps.Stepping.{FitsHistory};
+ghost use Rattle.hose_offline.specs.GenOutcome.{GenOutcome};
+ghost use Rattle.hose_offline.specs.steps.GenOutcome.{GenLeaves};
+ghost use Rattle.hose_offline.specs.steps.Generating.{AreSizes, HaveBeenAnswered, IsTallyOf};
+ghost use Rattle.hose_offline.specs.Parts.{tellings};
+ghost use Rattle.hose_offline.specs.steps.Parts.{KeepsAll, held};
+ghost use Rattle.hose_offline.specs.steps.Talking.{AnswersLine, plain_books};
+ghost use Rattle.hose_offline.specs.steps.Tally.{IsOfUpTo, with_reply};
 
 use crate::fault::{Fault, end};
 use crate::outside::Outside;

@@ -4,9 +4,9 @@ ghost use Rattle.hose_words.specs.Form.{grammar_of};
 ghost use Rattle.hose_words.specs.Grammar.{IsFirstNotAllowed};
 ghost use Rattle.hose_words.specs.Words.{words_of};
 ghost use Rattle.hose_graph.specs.Hose.{Endpoint};
-ghost use Rattle.hose_graph.specs.Naming.{AsksOf};
+ghost use Rattle.hose_graph.specs.steps.Naming.{AsksOf};
 ghost use Rattle.hose_offline.specs.ScriptLine.{IsAsking, WantsMemory, script_grammar};
-ghost use Rattle.hose_offline.specs.Talking.{SaysOneThing};
+ghost use Rattle.hose_offline.specs.steps.Talking.{SaysOneThing};
 ghost use Rattle.hose_offline.specs.SheetLine.{IsPricing, sheet_form};
 
 use hose_graph::{Command, Hose, Name, Topology};

@@ -2,8 +2,9 @@
 ghost use Rattle.std.specs.Prelude.{◌≡◌, IfErr, IfOk, IsSome, Err, None, OnErr, OnOk, Some};
 ghost use Rattle.hose_io.specs.Frame.{Stays};
 ghost use Rattle.hose_disk.specs.Cabinet.{object_of};
-ghost use Rattle.hose_offline.specs.Journal.{ClosesJournal, IsJustOpened, OpensJournal};
-ghost use Rattle.hose_offline.specs.ServingOnDisk.{IsNotOpened, IsNotServed, first_of};
+ghost use Rattle.hose_offline.specs.steps.Journal.{ClosesJournal, IsJustOpened, OpensJournal};
+ghost use Rattle.hose_offline.specs.ServingOnDisk.{IsNotServed, first_of};
+ghost use Rattle.hose_offline.specs.steps.ServingOnDisk.{IsNotOpened};
 
 use crate::fault::Fault;
 use hose_book::Book;

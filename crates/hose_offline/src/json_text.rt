@@ -1,9 +1,9 @@
 // A topology in JSON that is read of a source.
 ghost use Rattle.std.specs.Prelude.{◌≡◌, ◌≢◌, ◌↔◌, ◌+◌, ◌<◌, ◌≤◌, ℕ, List, Err, IfErr, IfOk, OnOk, length};
-ghost use Rattle.hose_io.specs.Calls.{HasGone};
+ghost use Rattle.hose_io.specs.steps.Calls.{HasGone};
 ghost use Rattle.hose_io.specs.Frame.{Rose, Stays};
 ghost use Rattle.hose_io.specs.Stream.{Gives, IsAtEnd};
-ghost use Rattle.hose_offline.specs.JsonRead.{IsJsonOf, IsPieceFault};
+ghost use Rattle.hose_offline.specs.steps.JsonRead.{IsJsonOf, IsPieceFault};
 
 use crate::fault::Fault;
 use hose_graph::Topology;

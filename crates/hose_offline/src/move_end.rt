@@ -1,8 +1,8 @@
 // How a move ends: why it ended early, or what it brought, and how both are told.
 ghost use Rattle.std.specs.Prelude.{◌≡◌, ◌++◌, ◌<◌, Ok, codes, length};
 ghost use Rattle.hose_io.specs.Frame.{Stays};
-ghost use Rattle.hose_io.specs.Gather.{IsAdded};
-ghost use Rattle.hose_io.specs.Writing.{IsPut};
+ghost use Rattle.hose_io.specs.steps.Gather.{IsAdded};
+ghost use Rattle.hose_io.specs.steps.Writing.{IsPut};
 ghost use Rattle.hose_offline.specs.Fault.{last_line};
 ghost use Rattle.hose_offline.specs.MoveEnd.{EndsMoved, change_line, moved_done, moved_line, number_line, number_lines, stop_line, stop_status};
 ghost use Rattle.hose_offline.specs.declared.fault.Fault.TheVariants.{Write};

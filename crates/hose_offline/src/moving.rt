@@ -1,11 +1,13 @@
 // Moving: what a journal of one network holds, written into a journal of another one.
 ghost use Rattle.std.specs.Prelude.{◌≡◌, ◌≢◌, All, IfOk, None};
-ghost use Rattle.hose_graph.specs.Ranges.{IsInRanges};
+ghost use Rattle.hose_graph.specs.steps.Ranges.{IsInRanges};
 ghost use Rattle.hose_io.specs.Frame.{Stays};
 ghost use Rattle.hose_disk.specs.Cabinet.{object_of};
 ghost use Rattle.hose_offline.specs.MoveOutcome.{MoveOutcome};
-ghost use Rattle.hose_offline.specs.Moving.{Enters, MovesFrom, MovesNew, MovesOn, MovesStated, ReadsOld, ReadsThere, names_of, read_done, scope_of};
-ghost use Rattle.hose_offline.specs.Parts.{KeepsAll, held, tellings};
+ghost use Rattle.hose_offline.specs.Moving.{Enters, MovesFrom, MovesNew, MovesOn, MovesStated, ReadsOld, ReadsThere, read_done, scope_of};
+ghost use Rattle.hose_offline.specs.steps.Moving.{names_of};
+ghost use Rattle.hose_offline.specs.Parts.{tellings};
+ghost use Rattle.hose_offline.specs.steps.Parts.{KeepsAll, held};
 
 use crate::auditing::{Names, read_topology};
 use crate::fault::Fault;

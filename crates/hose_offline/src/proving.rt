@@ -3,11 +3,13 @@ ghost use Rattle.std.specs.Prelude.{◌≡◌, ◌≤◌, ◌^◌, IfErr, IfOk, 
 ghost use Rattle.std.specs.String.{string_bytes};
 ghost use Rattle.hose_io.specs.Frame.{Stays};
 ghost use Rattle.hose_graph.specs.Network.{IsNetwork};
-ghost use Rattle.hose_law.specs.Plan.{AreNodes};
+ghost use Rattle.hose_law.specs.steps.Plan.{AreNodes};
 ghost use Rattle.hose_proto.specs.Command.{AreEndsOf};
 ghost use Rattle.hose_proto.specs.EndWords.{AreEndWords};
-ghost use Rattle.hose_offline.specs.Parts.{KeepsAll, held, tellings};
-ghost use Rattle.hose_offline.specs.ProveOutcome.{AreEndsInOrder, IsNoHose, ProveOutcome, ProvesWords, PutsProof, ends_from};
+ghost use Rattle.hose_offline.specs.Parts.{tellings};
+ghost use Rattle.hose_offline.specs.steps.Parts.{KeepsAll, held};
+ghost use Rattle.hose_offline.specs.ProveOutcome.{IsNoHose, ProveOutcome, ProvesWords, PutsProof, ends_from};
+ghost use Rattle.hose_offline.specs.steps.ProveOutcome.{AreEndsInOrder};
 
 use crate::auditing::read_topology;
 use crate::fault::{Fault, end};

@@ -2,8 +2,10 @@
 ghost use Rattle.std.specs.Prelude.{◌≡◌, ◌≢◌, None};
 ghost use Rattle.hose_offline.specs.Auditing.{priced_names};
 ghost use Rattle.hose_offline.specs.OnDisk.{IsUnopened};
-ghost use Rattle.hose_offline.specs.Parts.{KeepsAll, held, tellings};
-ghost use Rattle.hose_offline.specs.ShipOutcome.{ShipOutcome, ShipsJournal, shipping_done};
+ghost use Rattle.hose_offline.specs.Parts.{tellings};
+ghost use Rattle.hose_offline.specs.steps.Parts.{KeepsAll, held};
+ghost use Rattle.hose_offline.specs.ShipOutcome.{ShipOutcome, ShipsJournal};
+ghost use Rattle.hose_offline.specs.steps.ShipOutcome.{shipping_done};
 
 use crate::auditing::{Names, read_topology};
 use crate::fault::{Fault, end};

@@ -1,8 +1,9 @@
 // What the replies of a script come to together.
 ghost use Rattle.std.specs.Prelude.{◌≡◌, ◌+◌, ◌<◌, ◌^◌, ℕ, [], codes};
-ghost use Rattle.hose_io.specs.Gather.{IsAdded};
-ghost use Rattle.hose_io.specs.Writing.{IsPut};
-ghost use Rattle.hose_offline.specs.Tally.{IsOfUpTo, admitted_cost, one_if_admitted, one_if_refused, one_if_released, tally_line, tally_of, told, with_reply};
+ghost use Rattle.hose_io.specs.steps.Gather.{IsAdded};
+ghost use Rattle.hose_io.specs.steps.Writing.{IsPut};
+ghost use Rattle.hose_offline.specs.Tally.{admitted_cost, one_if_admitted, one_if_refused, one_if_released, tally_line, tally_of, told};
+ghost use Rattle.hose_offline.specs.steps.Tally.{IsOfUpTo, with_reply};
 
 use hose_graph::Reply;
 use hose_io::{Failed, Gather, Sink};

@@ -6,7 +6,7 @@ use Rattle.std.proofs.lemmas.List.{get_or_append_left, get_or_push}
 use Rattle.std.proofs.lemmas.Option.{get_or_from_slice_get, slice_get_read, slice_get_within}
 use Rattle.hose_graph.specs.Network.{Network}
 use Rattle.hose_graph.specs.Row.{Distances}
-use Rattle.hose_paths.specs.Rows.{AreFirstRows, AreRows, IsRowOf}
+use Rattle.hose_paths.specs.steps.Rows.{AreFirstRows, AreRows, IsRowOf}
 
 -- what holds of each element and of one more
 pub each_more : (P : ℕ → Distances → Type 0) (rows : List Distances) (new : Distances)

@@ -1,6 +1,6 @@
 // Rows that are made one after another, ahead of being asked for.
 ghost use Rattle.std.specs.Prelude.{◌≡◌, ◌↔◌, ◌≤◌, [], IfOk, IfSome, IsTrue, length};
-ghost use Rattle.hose_paths.specs.Rows.{AreRows};
+ghost use Rattle.hose_paths.specs.steps.Rows.{AreRows};
 
 use crate::RowMaker;
 use crate::heap::HeapRows;
@@ -22,8 +22,8 @@ pub(crate) struct RowsAhead {
 
 impl Model for RowsAhead {
     ghost use Rattle.std.specs.Prelude.{◌≡◌, length};
-    ghost use Rattle.hose_paths.specs.Kept.{KeptRows};
-    ghost use Rattle.hose_paths.specs.Rows.{AreFirstRows};
+    ghost use Rattle.hose_paths.specs.steps.Kept.{KeptRows};
+    ghost use Rattle.hose_paths.specs.steps.Rows.{AreFirstRows};
 
     ghost Value = { KeptRows };
 

@@ -1,6 +1,6 @@
 // The lowering of a node's entry along a link.
 ghost use Rattle.std.specs.Prelude.{◌≡◌, ◌⊎◌, ℕ, ◌+◌, ◌^◌, ◌<◌, IfNone, IfSome, Some, length};
-ghost use Rattle.hose_paths.specs.Table.{entry, CannotLower, LowersTo};
+ghost use Rattle.hose_paths.specs.steps.Table.{entry, CannotLower, LowersTo};
 
 // Lowers a node's entry to that of another and the cost, where that is less, and tells what it is
 // then.

@@ -3,13 +3,13 @@
 ghost use Rattle.std.specs.Prelude.{◌≡◌, ◌≢◌, ◌⊎◌, ℕ, ◌+◌, ◌*◌, ◌/◌, ◌%◌, ◌^◌, ◌<◌, ◌≤◌, ◌↔◌, None, Some, IfOk, IsTrue, OnOk, length, slice_get};
 ghost use Rattle.std.specs.BinaryHeap.{heap_items, heap_len};
 ghost use Rattle.hose_graph.specs.Network.{IsNetwork};
-ghost use Rattle.hose_graph.specs.Row.{HasBoundedDistances};
+ghost use Rattle.hose_graph.specs.steps.Row.{HasBoundedDistances};
 ghost use Rattle.hose_law.specs.Row.{IsRow};
-ghost use Rattle.hose_paths.specs.Rows.{HasDistances};
+ghost use Rattle.hose_paths.specs.steps.Rows.{HasDistances};
 ghost use Rattle.hose_law.specs.Walk.{Joins};
-ghost use Rattle.hose_paths.specs.Table.{entry, IsFound, IsBounded, CannotLower, IsSettled, Lowers, left_to_fall};
-ghost use Rattle.hose_paths.specs.Chain.{AreChains, Meets};
-ghost use Rattle.hose_paths.specs.Queue.{IsQueued, IsSettledBut, Relaxes, key_of};
+ghost use Rattle.hose_paths.specs.steps.Table.{entry, IsFound, IsBounded, CannotLower, IsSettled, Lowers, left_to_fall};
+ghost use Rattle.hose_paths.specs.steps.Chain.{AreChains, Meets};
+ghost use Rattle.hose_paths.specs.steps.Queue.{IsQueued, IsSettledBut, Relaxes, key_of};
 
 use crate::MadeRow;
 use crate::chains::Chains;

@@ -19,9 +19,9 @@
 #![tactic(auto)]
 
 ghost use Rattle.std.specs.Prelude.{◌≡◌, ◌<◌, IfOk, IfSome, length};
-ghost use Rattle.hose_graph.specs.Row.{HasBoundedDistances};
+ghost use Rattle.hose_graph.specs.steps.Row.{HasBoundedDistances};
 ghost use Rattle.hose_law.specs.Row.{IsRow};
-ghost use Rattle.hose_paths.specs.Rows.{AreRows};
+ghost use Rattle.hose_paths.specs.steps.Rows.{AreRows};
 
 mod ahead;
 mod chains;

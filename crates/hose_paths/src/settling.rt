@@ -1,9 +1,9 @@
 // The maker of rows, whichever way its table of distances settles.
 ghost use Rattle.std.specs.Prelude.{◌≡◌, ◌≢◌, ◌<◌, ℕ, Bool, IfOk, List, None, OnOk, Some, length};
 ghost use Rattle.hose_graph.specs.Network.{IsNetwork};
-ghost use Rattle.hose_graph.specs.Row.{HasBoundedDistances};
-ghost use Rattle.hose_paths.specs.Rows.{HasDistances};
-ghost use Rattle.hose_paths.specs.Table.{entry, IsBounded, IsFound, IsSettled};
+ghost use Rattle.hose_graph.specs.steps.Row.{HasBoundedDistances};
+ghost use Rattle.hose_paths.specs.steps.Rows.{HasDistances};
+ghost use Rattle.hose_paths.specs.steps.Table.{entry, IsBounded, IsFound, IsSettled};
 
 use crate::tight::with_tight_links;
 use crate::{MadeRow, RowMaker};

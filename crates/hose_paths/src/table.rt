@@ -1,8 +1,8 @@
 // Rows that are kept.
 ghost use Rattle.std.specs.Prelude.{◌≡◌, ◌<◌, ◌↔◌, IfOk, IfSome, IsTrue, length};
-ghost use Rattle.hose_graph.specs.Row.{HasBoundedDistances};
+ghost use Rattle.hose_graph.specs.steps.Row.{HasBoundedDistances};
 ghost use Rattle.hose_law.specs.Row.{IsRow};
-ghost use Rattle.hose_paths.specs.Rows.{AreRows, IsRowOf};
+ghost use Rattle.hose_paths.specs.steps.Rows.{AreRows, IsRowOf};
 
 use crate::ahead::RowsAhead;
 use crate::heap::HeapRows;
@@ -23,8 +23,8 @@ pub struct RowTable {
 }
 
 impl Model for RowTable {
-    ghost use Rattle.hose_paths.specs.Kept.{KeptRows};
-    ghost use Rattle.hose_paths.specs.Rows.{AreRows};
+    ghost use Rattle.hose_paths.specs.steps.Kept.{KeptRows};
+    ghost use Rattle.hose_paths.specs.steps.Rows.{AreRows};
 
     ghost Value = { KeptRows };
 

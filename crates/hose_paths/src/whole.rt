@@ -1,7 +1,7 @@
 // All links of a topology, and the rows of all its nodes.
 ghost use Rattle.std.specs.Prelude.{◌≡◌, IfOk, length};
 ghost use Rattle.hose_law.specs.Walk.{all_links};
-ghost use Rattle.hose_paths.specs.Rows.{AreRows};
+ghost use Rattle.hose_paths.specs.steps.Rows.{AreRows};
 
 use crate::chains::Chains;
 use crate::heap::row_along;

@@ -15,9 +15,9 @@ use Rattle.hose_law.proofs.CanonicalPlans.{canonical_unique, plan_reserves}
 use Rattle.hose_law.proofs.Cheapest.{canonical_cheapest}
 use Rattle.hose_law.proofs.PlanWeight.{plan_weight}
 use Rattle.hose_plan.specs.declared.decision.Grounds.{Grounds}
-use Rattle.hose_plan.specs.Planning.{AreGroundsOf, allowed_links}
-use Rattle.hose_plan.specs.Rooting.{IsPlanOver}
-use Rattle.hose_tree.specs.Amounts.{AreOnLinks}
+use Rattle.hose_plan.specs.steps.Planning.{AreGroundsOf, allowed_links}
+use Rattle.hose_plan.specs.steps.Rooting.{IsPlanOver}
+use Rattle.hose_tree.specs.steps.Amounts.{AreOnLinks}
 
 -- the lowest endpoint is the first
 pub lowest_is_first : (hose : List (ℕ × ℕ)) → (get_or hose 0 (0, 0)).0 ≡ lowest_end hose

@@ -17,10 +17,10 @@ use Rattle.hose_law.specs.Room.{Room, first_links, free_rates, half_rate, room_o
 use Rattle.hose_law.specs.Tree.{links_of}
 use Rattle.hose_law.specs.Walk.{IsIn}
 use Rattle.hose_law.proofs.CanonicalPlans.{canonical_unique, planned_sound, same_planned}
-use Rattle.hose_tree.specs.Amounts.{AreOnLinks}
+use Rattle.hose_tree.specs.steps.Amounts.{AreOnLinks}
 use Rattle.hose_plan.specs.declared.decision.Grounds.{Grounds}
-use Rattle.hose_plan.specs.Planning.{TellsBooks, TellsRooms, AreGroundsOf, AreMade, HoldBySafe, IsSafeStill, room_beside}
-use Rattle.hose_plan.specs.Rooting.{IsPlanOver}
+use Rattle.hose_plan.specs.steps.Planning.{TellsBooks, TellsRooms, AreGroundsOf, AreMade, HoldBySafe, IsSafeStill, room_beside}
+use Rattle.hose_plan.specs.steps.Rooting.{IsPlanOver}
 use Rattle.hose_plan.proofs.Deciding.{none_fits}
 
 -- ---- what grounds speak of

@@ -7,11 +7,11 @@ use Rattle.std.proofs.lemmas.List.Elements.{at_from_Contains}
 use Rattle.hose_graph.specs.Network.{Network}
 use Rattle.hose_law.specs.Decision.{AreGrounds}
 use Rattle.hose_law.specs.Room.{free_rates}
-use Rattle.hose_law.specs.Tracks.{IsNamedSince}
+use Rattle.hose_law.specs.steps.Tracks.{IsNamedSince}
 use Rattle.hose_law.specs.Walk.{capacity_of}
 use Rattle.hose_law.proofs.Rooms.{free_rates-at}
 use Rattle.hose_plan.specs.declared.decision.Grounds.{Grounds}
-use Rattle.hose_plan.specs.Planning.{AreMade, AreMadeSince, AreServedSince, IsSafeStill, IsServedStill, room_beside}
+use Rattle.hose_plan.specs.steps.Planning.{AreMade, AreMadeSince, AreServedSince, IsSafeStill, IsServedStill, room_beside}
 use Rattle.hose_plan.proofs.EqualGrounds.{safe_at, service_is}
 
 -- truth values that cannot differ are equal

@@ -6,18 +6,19 @@ use Rattle.std.proofs.lemmas.List.{get_or_past}
 use Rattle.std.proofs.lemmas.List.Elements.{All-push}
 use Rattle.std.proofs.lemmas.Option.{MatchOption-at_none, none-some}
 use Rattle.hose_graph.specs.Network.{Network, IsNetwork}
-use Rattle.hose_graph.specs.Row.{Distances, HasBoundedDistances, distance_of}
+use Rattle.hose_graph.specs.Row.{Distances, distance_of}
+use Rattle.hose_graph.specs.steps.Row.{HasBoundedDistances}
 use Rattle.hose_law.specs.CanonicalPlan.{IsRoot, IsWeight}
-use Rattle.hose_law.specs.Plan.{AreNodes}
+use Rattle.hose_law.specs.steps.Plan.{AreNodes}
 use Rattle.hose_law.specs.Row.{IsRow}
 use Rattle.hose_law.specs.Walk.{IsDistance, Reaches}
 use Rattle.hose_law.proofs.Rows.{row_has_distance}
 use Rattle.hose_law.proofs.Walks.{reaches_back, reaches_on}
-use Rattle.hose_paths.specs.Rows.{HasDistances}
-use Rattle.hose_root.specs.Choice.{weight_at, IsLowestLeast}
-use Rattle.hose_root.specs.Weight.{LeavesOut}
+use Rattle.hose_paths.specs.steps.Rows.{HasDistances}
+use Rattle.hose_root.specs.steps.Choice.{weight_at, IsLowestLeast}
+use Rattle.hose_root.specs.steps.Weight.{LeavesOut}
 use Rattle.hose_law.proofs.Weights.{weight_unique}
-use Rattle.hose_plan.specs.Rooting.{AreDistancesOver, AreWeights, IsBestRoot}
+use Rattle.hose_plan.specs.steps.Rooting.{AreDistancesOver, AreWeights, IsBestRoot}
 
 module _ (network : Network) (set : List Bool) (hose : List (ℕ × ℕ)) (weights : List (Option ℕ)) (are : AreWeights network set hose weights) where
   -- a node that has a weight has it at its place

@@ -5,14 +5,15 @@ use Rattle.std.proofs.lemmas.List.{get_or-replicate, get_or_default, length-repl
 use Rattle.std.proofs.lemmas.Nat.{mul-le}
 use Rattle.hose_graph.specs.Network.{Network}
 use Rattle.hose_graph.specs.declared.limits.TheConstants.{MOST_DISTANCE, MOST_RATE}
-use Rattle.hose_graph.specs.Row.{Distances, HasBoundedDistances, IsWithinReach, distance_of}
+use Rattle.hose_graph.specs.Row.{Distances, distance_of}
+use Rattle.hose_graph.specs.steps.Row.{HasBoundedDistances, IsWithinReach}
 use Rattle.hose_law.specs.CanonicalPlan.{IsWeight}
 use Rattle.hose_law.specs.Walk.{IsDistance, Reaches}
 use Rattle.hose_law.proofs.Distances.{distance_back}
 use Rattle.hose_law.proofs.Walks.{reaches_back}
-use Rattle.hose_paths.specs.Rows.{HasDistances}
-use Rattle.hose_root.specs.Choice.{weight_at}
-use Rattle.hose_plan.specs.Rooting.{AreWeights, AreLight, heavier, most_share}
+use Rattle.hose_paths.specs.steps.Rows.{HasDistances}
+use Rattle.hose_root.specs.steps.Choice.{weight_at}
+use Rattle.hose_plan.specs.steps.Rooting.{AreWeights, AreLight, heavier, most_share}
 
 module _ (network : Network) (set : List Bool) where
   -- an endpoint more, after the others, weighs its rate times its distance

@@ -3,10 +3,10 @@ ghost use Rattle.std.specs.Prelude.{◌≡◌, ◌<◌, ◌≤◌, length, All, 
 ghost use Rattle.hose_graph.specs.Amounts.{amount_of};
 ghost use Rattle.hose_graph.specs.Hose.{IsHose};
 ghost use Rattle.hose_graph.specs.Network.{IsNetwork};
-ghost use Rattle.hose_law.specs.Plan.{AreNodes};
+ghost use Rattle.hose_law.specs.steps.Plan.{AreNodes};
 ghost use Rattle.hose_law.specs.Row.{IsRow};
-ghost use Rattle.hose_plan.specs.Rooting.{IsBestRoot, IsPlanOver};
-ghost use Rattle.hose_tree.specs.Amounts.{AreOnLinks};
+ghost use Rattle.hose_plan.specs.steps.Rooting.{IsBestRoot, IsPlanOver};
+ghost use Rattle.hose_tree.specs.steps.Amounts.{AreOnLinks};
 
 use crate::root::{best_root, best_root_of_kept, root_row};
 use hose_graph::{Amounts, Hose, MOST_AMOUNT, MOST_TREE_LINKS, Row, Topology};

@@ -3,11 +3,11 @@ ghost use Rattle.std.specs.Prelude.{◌≡◌, ◌↔◌, IfOk, IfSome, IsSomeAn
 ghost use Rattle.hose_graph.specs.Hose.{IsHose};
 ghost use Rattle.hose_graph.specs.Network.{IsNetwork};
 ghost use Rattle.hose_law.specs.Decision.{Fits};
-ghost use Rattle.hose_law.specs.Plan.{AreNodes};
+ghost use Rattle.hose_law.specs.steps.Plan.{AreNodes};
 ghost use Rattle.hose_law.specs.Room.{Room, free_rates, safe_links};
-ghost use Rattle.hose_plan.specs.Planning.{AreGroundsOf, IsCheapestDecision, IsDecision, IsSoundDecision, NamesNodes, allowed_links, room_beside};
-ghost use Rattle.hose_plan.specs.Rooting.{IsPlanOver};
-ghost use Rattle.hose_tree.specs.Amounts.{AreCarried, AreOnLinks};
+ghost use Rattle.hose_plan.specs.steps.Planning.{AreGroundsOf, IsCheapestDecision, IsDecision, IsSoundDecision, NamesNodes, allowed_links, room_beside};
+ghost use Rattle.hose_plan.specs.steps.Rooting.{IsPlanOver};
+ghost use Rattle.hose_tree.specs.steps.Amounts.{AreCarried, AreOnLinks};
 
 use crate::canonical::plan;
 use hose_graph::{Amounts, Hose, NodeList, Topology};

@@ -3,8 +3,8 @@ ghost use Rattle.std.specs.Prelude.{◌≡◌, ◌<◌, ◌↔◌, List, IfSome,
 ghost use Rattle.hose_graph.specs.Hose.{Endpoint};
 ghost use Rattle.hose_law.specs.Decision.{Fits};
 ghost use Rattle.hose_law.specs.Room.{Room, free_rates, half_rate, safe_links};
-ghost use Rattle.hose_plan.specs.Planning.{AreGroundsOf, AreMade, HoldBySafe, IsSafeStill, TellsBooks, TellsRooms, room_beside};
-ghost use Rattle.hose_tree.specs.Amounts.{AreCarried, AreOnLinks};
+ghost use Rattle.hose_plan.specs.steps.Planning.{AreGroundsOf, AreMade, HoldBySafe, IsSafeStill, TellsBooks, TellsRooms, room_beside};
+ghost use Rattle.hose_tree.specs.steps.Amounts.{AreCarried, AreOnLinks};
 
 use crate::decision::{Grounds, first_fits};
 use hose_graph::Topology;

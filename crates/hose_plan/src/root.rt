@@ -2,14 +2,15 @@
 ghost use Rattle.std.specs.Prelude.{◌≡◌, ℕ, ◌+◌, ◌-◌, ◌*◌, ◌<◌, ◌≤◌, ◌^◌, ◌↔◌, length, All, IfOk, IfSome, IsTrue, OnOk};
 ghost use Rattle.hose_graph.specs.Hose.{IsHose};
 ghost use Rattle.hose_graph.specs.Network.{IsNetwork};
-ghost use Rattle.hose_graph.specs.Row.{HasBoundedDistances, IsWithinReach, distance_of};
-ghost use Rattle.hose_law.specs.Plan.{AreNodes};
+ghost use Rattle.hose_graph.specs.Row.{distance_of};
+ghost use Rattle.hose_graph.specs.steps.Row.{HasBoundedDistances, IsWithinReach};
+ghost use Rattle.hose_law.specs.steps.Plan.{AreNodes};
 ghost use Rattle.hose_law.specs.Row.{IsRow};
-ghost use Rattle.hose_paths.specs.Chain.{AreChains};
-ghost use Rattle.hose_paths.specs.Rows.{AreRows, HasDistances};
-ghost use Rattle.hose_plan.specs.Rooting.{AreLight, AreDistancesOver, AreWeights, IsBestRoot, heavier, most_share};
-ghost use Rattle.hose_root.specs.Choice.{weight_at};
-ghost use Rattle.hose_root.specs.Weight.{LeavesOut};
+ghost use Rattle.hose_paths.specs.steps.Chain.{AreChains};
+ghost use Rattle.hose_paths.specs.steps.Rows.{AreRows, HasDistances};
+ghost use Rattle.hose_plan.specs.steps.Rooting.{AreLight, AreDistancesOver, AreWeights, IsBestRoot, heavier, most_share};
+ghost use Rattle.hose_root.specs.steps.Choice.{weight_at};
+ghost use Rattle.hose_root.specs.steps.Weight.{LeavesOut};
 
 use hose_graph::{Endpoint, Hose, MOST_ENDS, MOST_NODES, MOST_RATE, Row, Topology};
 use hose_links::LinkSet;

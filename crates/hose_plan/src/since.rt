@@ -2,9 +2,9 @@
 ghost use Rattle.std.specs.Prelude.{◌≡◌, ◌↔◌, ℕ, ◌<◌, List, IsTrue, length};
 ghost use Rattle.hose_graph.specs.Hose.{Endpoint};
 ghost use Rattle.hose_law.specs.Room.{half_rate, safe_links};
-ghost use Rattle.hose_law.specs.Tracks.{IsNamedSince};
-ghost use Rattle.hose_plan.specs.Planning.{AreMadeSince, AreServedSince, IsSafeStill, TellsBooks, TellsRooms, room_beside};
-ghost use Rattle.hose_tree.specs.Amounts.{AreCarried};
+ghost use Rattle.hose_law.specs.steps.Tracks.{IsNamedSince};
+ghost use Rattle.hose_plan.specs.steps.Planning.{AreMadeSince, AreServedSince, IsSafeStill, TellsBooks, TellsRooms, room_beside};
+ghost use Rattle.hose_tree.specs.steps.Amounts.{AreCarried};
 
 use crate::decision::Grounds;
 use crate::holding::{are_safe, fits_as_before, is_safe_as_before};

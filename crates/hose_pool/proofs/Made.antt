@@ -5,8 +5,8 @@ use Rattle.std.proofs.lemmas.List.{length-map}
 use Rattle.std.proofs.lemmas.Option.{get_or_from_slice_get, slice_get-map, slice_get_within}
 use Rattle.hose_graph.specs.Network.{Network}
 use Rattle.hose_graph.specs.Row.{Distances}
-use Rattle.hose_paths.specs.Rows.{AreRows}
-use Rattle.hose_pool.specs.Rows.{IsMadeRow}
+use Rattle.hose_paths.specs.steps.Rows.{AreRows}
+use Rattle.hose_pool.specs.steps.Rows.{IsMadeRow}
 
 pub rows_made : (network : Network) (links : List Bool) (made : List (Option Distances)) (rows : List Distances) → map Some rows ≡ made → length made ≡ length network.nodes
     → ((root : ℕ) (none : Option Distances) → root < length made → IsMadeRow network links root (slice_index_or made root none)) → AreRows network links rows

@@ -1,6 +1,6 @@
 // A maker of rows that asks several workers at once.
 ghost use Rattle.std.specs.Prelude.{◌≡◌, ◌≤◌, IfOk, length};
-ghost use Rattle.hose_pool.specs.Shareable.{IsShared};
+ghost use Rattle.hose_pool.specs.steps.Shareable.{IsShared};
 ghost use Rattle.hose_pool.specs.declared.rows.TheConstants.{MOST_WORKERS};
 
 use crate::rows::all_rows;

@@ -2,8 +2,8 @@
 ghost use Rattle.std.specs.Prelude.{◌≡◌, ◌<◌, ◌≤◌, ℕ, IfOk, Option, Some, length, map, slice_index_or};
 ghost use Rattle.hose_graph.specs.Row.{Distances};
 ghost use Rattle.hose_law.specs.Walk.{all_links};
-ghost use Rattle.hose_paths.specs.Rows.{AreRows};
-ghost use Rattle.hose_pool.specs.Rows.{IsMadeRow};
+ghost use Rattle.hose_paths.specs.steps.Rows.{AreRows};
+ghost use Rattle.hose_pool.specs.steps.Rows.{IsMadeRow};
 ghost use Rattle.hose_pool.specs.Limits.{most_workers};
 
 use hose_graph::{Row, Topology};

@@ -3,7 +3,7 @@ use Rattle.std.proofs.Common.{◌≡◌, ◌∙◌, ℕ, ◌+◌, ◌<◌, Bool,
 use Rattle.std.proofs.lemmas.List.{map-append, take_more}
 use Rattle.hose_graph.specs.Network.{Network}
 use Rattle.hose_law.specs.Walk.{all_links}
-use Rattle.hose_paths.specs.Kept.{KeptRows}
+use Rattle.hose_paths.specs.steps.Kept.{KeptRows}
 use Rattle.hose_price.specs.declared.sheet.Column.{Column}
 use Rattle.hose_price.specs.Sheet.{Sheet}
 

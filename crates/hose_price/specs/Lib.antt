@@ -1,4 +1,4 @@
-pub mod Kept
 pub mod Limits
 pub mod Pricing
 pub mod Sheet
+pub mod steps

@@ -1,5 +1,5 @@
 -- What a hose costs under each tariff, with the bounds of the cost.
-use Rattle.std.specs.Prelude.{◌≡◌, ℕ, ◌+◌, ◌*◌, ◌<◌, ◌≤◌, max, List, Option, MatchOption, length, slice_index_or, sum_by}
+use Rattle.std.specs.Prelude.{◌≡◌, ℕ, ◌+◌, ◌*◌, ◌<◌, ◌≤◌, max, List, length, slice_index_or, sum_by}
 use Rattle.hose_graph.specs.Amounts.{ReservedLink, amount_of}
 use Rattle.hose_graph.specs.Hose.{Endpoint}
 use Rattle.hose_graph.specs.Network.{Network}
@@ -80,8 +80,3 @@ pub record ArePrices (sheet : Sheet) (hose : List Endpoint) (prices : List Price
 pub record IsPriceLine (sheet : Sheet) (hose : List Endpoint) (line : PriceLine) : Type 0 where
   pub prices : ArePrices sheet hose line.prices
   pub best : IsFirstLeast line.prices line.best
-
--- the hose has this line; or there is no plan of it
-abbrev pub IsLineOf : Sheet → List Endpoint → Option PriceLine → Type 0
-IsLineOf sheet hose found =
-    MatchOption found (HasNoPricedPlan sheet.network hose) (IsPriceLine sheet hose)

@@ -1,9 +1,10 @@
 // What a hose costs under each tariff.
 ghost use Rattle.std.specs.Prelude.{◌≡◌, ◌<◌, length, IfOk, MatchOption, slice_index_or};
 ghost use Rattle.hose_graph.specs.Network.{Network};
-ghost use Rattle.hose_law.specs.Plan.{AreNodes};
+ghost use Rattle.hose_law.specs.steps.Plan.{AreNodes};
 ghost use Rattle.hose_law.specs.Walk.{all_links};
-ghost use Rattle.hose_price.specs.Pricing.{AreBounds, HasNoPricedPlan, IsLineOf, IsPriceOf};
+ghost use Rattle.hose_price.specs.Pricing.{AreBounds, HasNoPricedPlan, IsPriceOf};
+ghost use Rattle.hose_price.specs.steps.Pricing.{IsLineOf};
 
 use crate::bounds::{Bounds, total};
 use crate::priced::{Price, Priced};

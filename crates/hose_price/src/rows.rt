@@ -1,6 +1,6 @@
 // The rows that a table of prices is read from.
 ghost use Rattle.std.specs.Prelude.{◌≡◌, ℕ, ◌+◌, ◌<◌, length, IfOk, slice_index_or};
-ghost use Rattle.hose_price.specs.Kept.{AreTablesOf};
+ghost use Rattle.hose_price.specs.steps.Kept.{AreTablesOf};
 
 use crate::sheet::PriceSheet;
 use hose_graph::{Row, Topology};

@@ -13,7 +13,7 @@ use Rattle.std.proofs.lemmas.Slice.Eq.{bytes_eq-Decides}
 use Rattle.hose_words.specs.Form.{Fits64}
 use Rattle.hose_graph.specs.Network.{Network, IsNetwork, name_of}
 use Rattle.hose_proto.specs.Places.{end_word}
-use Rattle.hose_proto.specs.Reading.{IsEndOf}
+use Rattle.hose_proto.specs.steps.Reading.{IsEndOf}
 use Rattle.hose_proto.specs.Fields.{pair_word}
 use Rattle.hose_proto.proofs.Colons.{end_cut, no_colon, no_colon_decimal, pair_cut}
 

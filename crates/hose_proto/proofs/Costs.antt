@@ -1,9 +1,9 @@
 -- The front of replies that tell a number, a cost and an epoch, and the word after it.
 use Rattle.std.proofs.Common.{ℕ, List, [], ◌∷◌, ◌++◌, refl}
-use Rattle.hose_words.specs.Cursor.{Position, TookAll, IsWrong}
+use Rattle.hose_words.specs.steps.Cursor.{Position, TookAll, IsWrong}
 use Rattle.hose_words.specs.Form.{Form, Fits64, anything, this}
 use Rattle.hose_words.proofs.Forms.{wrong_both, wrong_nowhere, wrong_past, wrong_same}
-use Rattle.hose_proto.specs.Reading.{cost_form, cost_words}
+use Rattle.hose_proto.specs.steps.Reading.{cost_form, cost_words}
 
 -- what is wrong at the front is so whatever may stand after it
 pub cost_wrong : (next : List ℕ) {form : Form} {old : Position} {number : ℕ} → IsWrong (cost_form (this next anything)) old number → IsWrong (cost_form (this next form)) old number

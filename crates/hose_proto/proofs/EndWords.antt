@@ -11,7 +11,8 @@ use Rattle.hose_words.proofs.Listing.{MakesList}
 use Rattle.hose_words.proofs.Passing.{All-front, IsClosed}
 use Rattle.hose_graph.specs.Name.{IsName}
 use Rattle.hose_graph.specs.Network.{Network, IsNetwork, IsNodeOf, name_of}
-use Rattle.hose_proto.specs.EndWords.{AreNewEndWords, IsEndWord, IsNewEndWord, name_in, named_rate}
+use Rattle.hose_proto.specs.EndWords.{AreNewEndWords, IsEndWord, name_in, named_rate}
+use Rattle.hose_proto.specs.steps.EndWords.{IsNewEndWord}
 use Rattle.hose_proto.specs.Places.{end_word}
 use Rattle.hose_proto.proofs.Back.{front_is, is_colon, no_colon_passes}
 use Rattle.hose_proto.proofs.Colons.{end_cut, no_colon, same_parts}

@@ -14,7 +14,8 @@ use Rattle.hose_graph.specs.Name.{is_name_byte}
 use Rattle.hose_graph.specs.Network.{Network, IsNetwork, IsLink, name_of}
 use Rattle.hose_graph.specs.declared.limits.TheConstants.{LEAST_ENDS}
 use Rattle.hose_graph.specs.declared.topology.Link.{Link}
-use Rattle.hose_proto.specs.Fields.{Fields, no_more, a_word, a_number, a_link, a_link_told, a_missing, a_service, the_amounts, the_nodes, the_ends, the_numbers, Values, words_told, AreSound, AreAmounts, AreEnds, AreNumbers, form_of, missing_word, pair_word, words_of_link}
+use Rattle.hose_proto.specs.Fields.{Fields, no_more, a_word, a_number, a_link, a_link_told, a_missing, a_service, the_amounts, the_nodes, the_ends, the_numbers, Values, words_told, missing_word, pair_word, words_of_link}
+use Rattle.hose_proto.specs.steps.Fields.{AreSound, AreAmounts, AreEnds, AreNumbers, form_of}
 use Rattle.hose_proto.specs.Places.{IsHoseOf, end_word}
 use Rattle.hose_proto.specs.declared.head.Missing.{Missing}
 use Rattle.hose_proto.specs.declared.head.Missing.TheVariants as missing

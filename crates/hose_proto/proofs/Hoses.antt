@@ -9,13 +9,14 @@ use Rattle.std.proofs.lemmas.List.Kept.{AllPairs-from_increasing}
 use Rattle.std.proofs.lemmas.List.Sorted.{All-permutation, Contains-permutation, IsPermutation-map, IsPermutation-sym, IsPermutation-trans, length_permutation}
 use Rattle.std.proofs.lemmas.Map.Keys.{IsDistinct-from_apart, IsDistinct-IsPermutation, apart_from_distinct}
 use Rattle.hose_graph.specs.Ascending.{IsAscending, firsts}
-use Rattle.hose_graph.specs.Hose.{HasDistinctNodes, IsEnd, IsHose, MakesHose}
+use Rattle.hose_graph.specs.Hose.{HasDistinctNodes, IsEnd, IsHose}
+use Rattle.hose_graph.specs.steps.Hose.{MakesHose}
 use Rattle.hose_graph.specs.Network.{Network, IsNodeOf}
 use Rattle.hose_graph.specs.declared.limits.TheConstants.{LEAST_ENDS}
 use Rattle.hose_graph.proofs.Ordered.{pairs_unique}
 use Rattle.hose_proto.specs.Command.{AreNewEnds}
 use Rattle.hose_proto.specs.Places.{IsHoseOf}
-use Rattle.hose_proto.specs.Fields.{AreEnds}
+use Rattle.hose_proto.specs.steps.Fields.{AreEnds}
 
 -- endpoints in order are at distinct nodes
 pub distinct_in_order : (ends : List (ℕ × ℕ)) → IsAscending ends → HasDistinctNodes ends

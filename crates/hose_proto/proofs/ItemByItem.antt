@@ -1,11 +1,11 @@
 -- Lists of a line, read item by item to its end.
 use Rattle.std.proofs.Common.{◌≡◌, ℕ, ◌+◌, ◌<◌, ◌≤◌, List, [], ◌∷◌, ◌++◌, Option, None, Some, length, map, inl, inr, refl, sym, ap, subst, arith}
 use Rattle.std.proofs.lemmas.List.{map-append, length-map}
-use Rattle.hose_words.specs.Cursor.{Position, Took, IsWrong}
+use Rattle.hose_words.specs.steps.Cursor.{Position, Took, IsWrong}
 use Rattle.hose_words.specs.Form.{TellsItems, list, grammar_of}
 use Rattle.hose_words.specs.Grammar.{IsFirst, IsFirstNotAllowed}
 use Rattle.hose_words.proofs.Listing.{Listing, MakesList, listing_more, one_item_more, wrong_after}
-use Rattle.hose_proto.specs.Reading.{AreSoFar, EndsList, TellsMore, TellsNext}
+use Rattle.hose_proto.specs.steps.Reading.{AreSoFar, EndsList, TellsMore, TellsNext}
 
 -- where there is an item, the items may stand in a list
 pub some_fine : {A : Type 0} (fine : List A → Type 0) {items : List A} → AreSoFar fine items → 1 ≤ length items → fine items

@@ -18,9 +18,10 @@ use Rattle.hose_graph.specs.Hose.{IsEnd}
 use Rattle.hose_graph.specs.Network.{Network, IsNetwork, IsLinkOf, IsNodeOf, name_of}
 use Rattle.hose_graph.proofs.NodesByName.{same_node}
 use Rattle.hose_proto.specs.Command.{AreNewEnds}
-use Rattle.hose_proto.specs.Fields.{AreAmounts, AreEnds, AreNumbers, IsSide, pair_word}
+use Rattle.hose_proto.specs.Fields.{pair_word}
+use Rattle.hose_proto.specs.steps.Fields.{AreAmounts, AreEnds, AreNumbers, IsSide}
 use Rattle.hose_proto.specs.Places.{end_word}
-use Rattle.hose_proto.specs.Reading.{AreSoFar, IsEndOf, IsNewEnd, IsNextEnd, IsNextNode, IsNextNumber, IsNextPair}
+use Rattle.hose_proto.specs.steps.Reading.{AreSoFar, IsEndOf, IsNewEnd, IsNextEnd, IsNextNode, IsNextNumber, IsNextPair}
 use Rattle.hose_proto.proofs.Colons.{end_cut, no_colon, no_colon_decimal, pair_cut, same_parts}
 use Rattle.hose_proto.proofs.Rising.{All-last, firsts_front, rising_front}
 

@@ -10,7 +10,7 @@ use Rattle.hose_graph.specs.declared.command.Command.{Command}
 use Rattle.hose_graph.specs.declared.command.Command.TheVariants.{Admit, AdmitAfter, Quote, Take, Release, Show, Vpns, Link, Down, Up}
 use Rattle.std.proofs.lemmas.List.Sorted.{length_permutation}
 use Rattle.hose_proto.specs.Command.{AreEndsOf, IsCommand, command_form, command_grammar, ends_form}
-use Rattle.hose_graph.specs.Naming.{AsksOf}
+use Rattle.hose_graph.specs.steps.Naming.{AsksOf}
 use Rattle.hose_proto.specs.declared.fault.ReadFault.{ReadFault}
 use Rattle.hose_proto.specs.declared.fault.ReadFault.TheVariants as fault
 use Rattle.hose_proto.specs.declared.verb.Verb.{Verb}

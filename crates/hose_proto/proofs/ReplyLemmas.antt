@@ -1,19 +1,20 @@
 -- Words tell one reply at most, and those of a reply's text tell it; then none of them is wrong.
 use Rattle.std.proofs.Common.{◌≡◌, ◌⊎◌, ◌∙◌, ℕ, true, List, [], Result, Ok, Err, IfOk, IfErr, get_or, drop, inl, inr, refl, sym, ap, subst}
 use Rattle.std.proofs.lemmas.Result.{IfErr-at_err}
-use Rattle.hose_words.specs.Cursor.{Position}
+use Rattle.hose_words.specs.steps.Cursor.{Position}
 use Rattle.hose_words.specs.Grammar.{IsFirstNotAllowed}
 use Rattle.hose_words.specs.Words.{words_of}
 use Rattle.hose_words.proofs.Forms.{wrong_at_start}
 use Rattle.hose_words.proofs.Passing.{pass_branch}
 use Rattle.hose_words.proofs.Spaced.{words_of-line}
-use Rattle.hose_graph.specs.Naming.{NamesPlaces}
+use Rattle.hose_graph.specs.steps.Naming.{NamesPlaces}
 use Rattle.hose_graph.specs.Network.{Network, IsNetwork}
 use Rattle.hose_graph.specs.declared.command.Reply.{Reply}
 use Rattle.hose_graph.specs.declared.command.Reply.TheVariants.{Welcome, Admitted, Quoted, Refused, Stale, Released, NoVpn, NoQuote, TooMany, Shown, Vpns, Newest, LinkState, Down, Up, Already, Denied, Full, Spent, Disk, Memory, Bad, Long, Bye}
 use Rattle.hose_proto.specs.Fields.{Values, a_word}
-use Rattle.hose_proto.specs.Reading.{IsFaultOf}
-use Rattle.hose_proto.specs.ReplyLines.{IsOfKind, IsReply, head_fields, head_word, line_told, reply_form, reply_grammar, reply_words}
+use Rattle.hose_proto.specs.steps.Reading.{IsFaultOf}
+use Rattle.hose_proto.specs.ReplyLines.{head_fields, head_word, line_told, reply_words}
+use Rattle.hose_proto.specs.steps.ReplyLines.{IsOfKind, IsReply, reply_form, reply_grammar}
 use Rattle.hose_proto.specs.ReplyText.{reply_text}
 use Rattle.hose_proto.specs.declared.fault.ReadFault.{ReadFault}
 use Rattle.hose_proto.specs.declared.fault.ReadFault.TheVariants as fault

@@ -3,7 +3,7 @@ use Rattle.std.proofs.Common.{◌≡◌, ℕ, List, ◌∷◌, ◌++◌, [], Opt
 use Rattle.std.specs.List.{flat_map}
 use Rattle.std.proofs.lemmas.Grind.{flat_map-append}
 use Rattle.std.proofs.lemmas.List.Folds.{flat_map-map}
-use Rattle.hose_io.specs.Gather.{Gathered, IsAdded}
+use Rattle.hose_io.specs.steps.Gather.{Gathered, IsAdded}
 use Rattle.hose_io.specs.declared.sink.Sink.{Ghosts}
 use Rattle.hose_io.proofs.Gathering.{IsAdded-next}
 use Rattle.hose_graph.specs.Network.{Network}

@@ -9,7 +9,8 @@ use Rattle.hose_words.proofs.Forms.{AreApart, apart_by}
 use Rattle.hose_words.proofs.Keywords.{choice_of}
 use Rattle.hose_graph.specs.Network.{Network, IsNetwork, IsLinkOf}
 use Rattle.hose_proto.specs.Command.{verb_word}
-use Rattle.hose_proto.specs.Fields.{missing_word, service_word}
+use Rattle.hose_proto.specs.Fields.{missing_word}
+use Rattle.hose_proto.specs.steps.Fields.{service_word}
 use Rattle.hose_proto.specs.ReplyLines.{head_word}
 use Rattle.hose_proto.specs.declared.head.Head.{Head}
 use Rattle.hose_proto.specs.declared.head.Head.TheVariants as head

@@ -1,5 +1,5 @@
 -- Endpoints as words by their form alone, whatever nodes there are.
-use Rattle.std.specs.Prelude.{◌≡◌, ◌≢◌, ℕ, ◌<◌, ◌≤◌, ◌==◌, List, [], ◌++◌, All, AllPairs, Any, codes, decimal, get_or, length}
+use Rattle.std.specs.Prelude.{◌≡◌, ◌≢◌, ℕ, ◌<◌, ◌≤◌, ◌==◌, List, [], ◌++◌, All, AllPairs, codes, decimal, get_or, length}
 use Rattle.std.specs.List.{before_first}
 use Rattle.hose_words.specs.Form.{Form, list}
 use Rattle.hose_graph.specs.Limit.{IsUpTo}
@@ -19,12 +19,6 @@ name_in word = before_first (λ byte. byte == 58) word
 abbrev pub IsEndWord : List ℕ → Type 0
 IsEndWord word = (name : List ℕ) × (rate : ℕ) × (word ≡ named_rate name rate) × IsName name
     × IsUpTo most_rate rate
-
--- a word may come after others, as one more endpoint of a hose: no earlier word has its name
-pub record IsNewEndWord (words : List (List ℕ)) (word : List ℕ) : Type 0 where
-  pub is_end : IsEndWord word
-  pub is_new : ¬ Any (λ earlier. name_in earlier ≡ name_in word) words
-  pub room : length words < most_ends
 
 -- words of the endpoints of a hose that may have more of them
 pub record AreNewEndWords (words : List (List ℕ)) : Type 0 where

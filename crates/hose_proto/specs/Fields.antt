@@ -1,19 +1,13 @@
 -- Lines as data: the fields that may stand from some word of a line on, and what is so of each:
 -- what it tells, the words that tell it, when these are sound, and their grammar.
-use Rattle.std.specs.Prelude.{ℕ, Bool, true, false, ◌≤◌, List, [], ◌∷◌, ◌++◌, ⊤, All, Option, None, Some, length, map, codes, decimal, slice_get}
-use Rattle.std.specs.List.Sorted.{IsStrictlyIncreasing}
-use Rattle.hose_words.specs.Form.{Form, Fits64, Each, finish, branch, list, until, number, this, these}
+use Rattle.std.specs.Prelude.{ℕ, Bool, true, false, List, [], ◌∷◌, ◌++◌, ⊤, Option, None, Some, map, codes, decimal, slice_get}
 use Rattle.hose_graph.specs.Amounts.{ReservedLink, amount_of, link_of}
-use Rattle.hose_graph.specs.Ascending.{IsAscending}
-use Rattle.hose_graph.specs.Hose.{IsEnd, Endpoint, node_of}
-use Rattle.hose_graph.specs.Limits.{least_ends, most_ends}
-use Rattle.hose_graph.specs.Network.{Network, name_of, IsLinkOf, IsNodeOf}
+use Rattle.hose_graph.specs.Hose.{Endpoint}
+use Rattle.hose_graph.specs.Network.{Network, name_of}
 use Rattle.hose_graph.specs.declared.topology.Link.{Link}
-use Rattle.hose_proto.specs.Places.{IsHoseOf, end_word}
+use Rattle.hose_proto.specs.Places.{end_word}
 use Rattle.hose_proto.specs.declared.head.Missing.{Missing}
 use Rattle.hose_proto.specs.declared.head.Missing.TheVariants as missing
-use Rattle.hose_proto.specs.declared.head.Service.{Service}
-use Rattle.hose_proto.specs.declared.head.Service.TheVariants as service
 
 -- ---- the words of fields
 
@@ -32,38 +26,6 @@ words_of_link network (Some link) =
 abbrev pub missing_word : Missing → List ℕ
 missing_word missing.Vpn = codes "vpn"
 missing_word missing.Quote = codes "quote"
-
--- the word after a link's load, which tells whether the link is out of service
-abbrev pub service_word : Service → List ℕ
-service_word service.Out = codes "out"
-service_word service.At = codes "at"
-
--- ---- lists that can be read
-
--- amounts on links of the network, one at least, in ascending order of links
-pub record AreAmounts (network : Network) (amounts : List ReservedLink) : Type 0 where
-  pub some : 1 ≤ length amounts
-  pub ascending : IsAscending amounts
-  pub links : All (λ pair. IsLinkOf network (link_of pair)) amounts
-  pub numbers : All (λ pair. Fits64 (amount_of pair)) amounts
-
--- nodes of the network, one at least, in ascending order
-pub record IsSide (network : Network) (side : List ℕ) : Type 0 where
-  pub some : 1 ≤ length side
-  pub ascending : IsStrictlyIncreasing side
-  pub nodes : All (IsNodeOf network) side
-
--- endpoints of a hose that may have more of them: nodes in ascending order
-pub record AreEnds (network : Network) (ends : List Endpoint) : Type 0 where
-  pub few : length ends ≤ most_ends
-  pub within : All IsEnd ends
-  pub ascending : IsAscending ends
-  pub nodes : All (λ end. IsNodeOf network (node_of end)) ends
-
--- numbers that 64 bits hold, in ascending order
-pub record AreNumbers (numbers : List ℕ) : Type 0 where
-  pub ascending : IsStrictlyIncreasing numbers
-  pub fit : All Fits64 numbers
 
 -- ---- fields
 
@@ -128,59 +90,3 @@ words_told network (the_ends fields) (hose, values) =
     map (end_word network) hose ++ codes "links" ∷ words_told network fields values
 words_told network (the_numbers fields) (numbers, values) =
     map decimal numbers ++ codes "at" ∷ words_told network fields values
-
--- numbers that are told fit 64 bits, and places are those of the network
-abbrev pub AreSound : Network → (fields : Fields) → Values fields → Type 0
-AreSound network no_more values = ⊤
-AreSound network (a_word known fields) values = AreSound network fields values
-AreSound network (a_number fields) (value, values) = Fits64 value × AreSound network fields values
-AreSound network (a_link fields) (link, values) =
-    IsLinkOf network link × AreSound network fields values
-AreSound network (a_link_told fields) (link, values) =
-    IsLinkOf network link × AreSound network fields values
-AreSound network (a_missing fields) (kind, values) = AreSound network fields values
-AreSound network (a_service fields) (out, values) = AreSound network fields values
-AreSound network the_amounts amounts = AreAmounts network amounts
-AreSound network the_nodes side = IsSide network side
-AreSound network (the_ends fields) (hose, values) =
-    IsHoseOf network hose × AreSound network fields values
-AreSound network (the_numbers fields) (numbers, values) =
-    AreNumbers numbers × AreSound network fields values
-
--- what may stand after the word that tells whether a link is out of service
-abbrev pub after_service : Form → Service → Form
-after_service form service.Out = this (codes "at") form
-after_service form service.At = form
-
--- the grammar of fields
-abbrev pub form_of : Network → Fields → Form
-form_of network no_more = finish
-form_of network (a_word known fields) = this known (form_of network fields)
-form_of network (a_number fields) = number (form_of network fields)
-form_of network (a_link fields) = branch (IsLinkOf network) decimal (λ _. form_of network fields)
-form_of network (a_link_told fields) =
-    branch (IsLinkOf network) decimal (λ link.
-    these (words_of_link network (slice_get network.links link)) (form_of network fields))
-form_of network (a_missing fields) = branch Each missing_word (λ _. form_of network fields)
-form_of network (a_service fields) =
-    branch Each service_word (after_service (form_of network fields))
-form_of network the_amounts = list pair_word (AreAmounts network) 1
-form_of network the_nodes = list (name_of network) (IsSide network) 1
-form_of network (the_ends fields) =
-    until (end_word network) (AreEnds network) least_ends (codes "links") (form_of network fields)
-form_of network (the_numbers fields) =
-    until decimal AreNumbers 0 (codes "at") (form_of network fields)
-
--- fields that have lists, which take memory to read
-abbrev pub HaveLists : Fields → Type 0
-HaveLists no_more = ⊥
-HaveLists (a_word known fields) = HaveLists fields
-HaveLists (a_number fields) = HaveLists fields
-HaveLists (a_link fields) = HaveLists fields
-HaveLists (a_link_told fields) = HaveLists fields
-HaveLists (a_missing fields) = HaveLists fields
-HaveLists (a_service fields) = HaveLists fields
-HaveLists the_amounts = ⊤
-HaveLists the_nodes = ⊤
-HaveLists (the_ends fields) = ⊤
-HaveLists (the_numbers fields) = ⊤

@@ -2,7 +2,7 @@ pub mod Command
 pub mod EndWords
 pub mod Fields
 pub mod Places
-pub mod Reading
 pub mod Replies
 pub mod ReplyLines
 pub mod ReplyText
+pub mod steps

@@ -1,21 +1,16 @@
 -- The texts of replies.
-use Rattle.std.specs.Prelude.{◌≢◌, ℕ, Bool, List, [], ◌∷◌, ◌++◌, Option, None, Some, codes, decimal}
+use Rattle.std.specs.Prelude.{ℕ, List, [], ◌∷◌, ◌++◌, Option, None, Some, codes, decimal}
 use Rattle.std.specs.List.{flat_map}
 use Rattle.hose_graph.specs.Amounts.{ReservedLink, amount_of, link_of}
 use Rattle.hose_graph.specs.Hose.{Endpoint, node_of, rate_of}
 use Rattle.hose_graph.specs.Network.{Network, name_of}
 use Rattle.hose_graph.specs.declared.topology.Link.{Link}
 use Rattle.hose_graph.specs.declared.command.Reply.{Reply}
-use Rattle.hose_graph.specs.declared.command.Reply.TheVariants.{Admitted, Quoted, Refused, Shown, Vpns, LinkState}
 use Rattle.hose_proto.specs.ReplyLines.{reply_words}
 
 -- a link and its amount
 abbrev pub pair_text : ReservedLink → List ℕ
 pair_text pair = codes " " ++ decimal (link_of pair) ++ codes ":" ++ decimal (amount_of pair)
-
--- a number of a list
-abbrev pub number_text : ℕ → List ℕ
-number_text number = codes " " ++ decimal number
 
 -- the name of a node
 abbrev pub node_text : Network → ℕ → List ℕ
@@ -44,18 +39,6 @@ joined (word ∷ words) = word ++ spaced words
 -- the text of a reply
 abbrev pub reply_text : Network → Reply → List ℕ
 reply_text network reply = joined (reply_words network reply)
-
--- the text of a reply has neither lists nor names
-pub record IsShort (reply : Reply) : Type 0 where
-  pub not_admitted : (id cost at : ℕ) (amounts : List ReservedLink)
-      → reply ≢ Admitted id cost at amounts
-  pub not_quoted : (quote cost at : ℕ) (amounts : List ReservedLink)
-      → reply ≢ Quoted quote cost at amounts
-  pub not_refused : (at : ℕ) (side : List ℕ) → reply ≢ Refused at side
-  pub not_shown : (id cost at : ℕ) (hose : List Endpoint) (amounts : List ReservedLink)
-      → reply ≢ Shown id cost at hose amounts
-  pub not_vpns : (at : ℕ) (ids : List ℕ) → reply ≢ Vpns at ids
-  pub not_state : (link load : ℕ) (out : Bool) (at : ℕ) → reply ≢ LinkState link load out at
 
 -- a line of output: a text and a line feed
 abbrev pub line_of : List ℕ → List ℕ

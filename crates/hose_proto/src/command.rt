@@ -1,6 +1,6 @@
 // Commands read from words.
 ghost use Rattle.std.specs.Prelude.{◌≡◌, ◌⊎◌, ℕ, List, ◌+◌, ◌≤◌, ◌↔◌, [], ◌∷◌, codes, decimal, length, drop, Ok, Err, IfOk, IfErr, IsTrue, Any};
-ghost use Rattle.hose_words.specs.Cursor.{IsWrong};
+ghost use Rattle.hose_words.specs.steps.Cursor.{IsWrong};
 ghost use Rattle.hose_words.specs.Form.{IsChoice, grammar_of};
 ghost use Rattle.hose_words.specs.Grammar.{IsFirst, IsFirstNotAllowed};
 ghost use Rattle.hose_words.specs.Words.{words_of};
@@ -9,8 +9,8 @@ ghost use Rattle.hose_graph.specs.Network.{IsNetwork, IsLinkOf};
 ghost use Rattle.hose_graph.specs.declared.command.Command.{Command};
 ghost use Rattle.hose_proto.specs.Command.{AreEndsOf, AreNewEnds, IsId, IsCommand, TakesMemory, command_form, command_grammar, ends_form, known_ends_form, verb_form, sole_id_form, sole_link_form, verb_word};
 ghost use Rattle.hose_proto.specs.Places.{end_word};
-ghost use Rattle.hose_proto.specs.Reading.{IsFaultOf, IsNewEnd, TellsNext};
-ghost use Rattle.hose_graph.specs.Naming.{AsksOf};
+ghost use Rattle.hose_proto.specs.steps.Reading.{IsFaultOf, IsNewEnd, TellsNext};
+ghost use Rattle.hose_graph.specs.steps.Naming.{AsksOf};
 
 use crate::fault::ReadFault;
 use crate::lists::{Items, read_items};

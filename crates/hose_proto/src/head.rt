@@ -1,5 +1,6 @@
 // The words that tell which reply a line is.
-ghost use Rattle.hose_proto.specs.Fields.{missing_word, service_word};
+ghost use Rattle.hose_proto.specs.Fields.{missing_word};
+ghost use Rattle.hose_proto.specs.steps.Fields.{service_word};
 ghost use Rattle.hose_proto.specs.ReplyLines.{head_word};
 
 use crate::choices::{HasWord, with_word};

@@ -1,10 +1,11 @@
 // Lists read from words, item by item to the end of the line or to a word that ends them.
 ghost use Rattle.std.specs.Prelude.{◌≡◌, ◌≢◌, ◌↔◌, ℕ, ◌≤◌, List, [], ◌∷◌, ◌++◌, All, length, map, IfOk, OnOk, IfErr, IfSome, IfNone, IsTrue};
-ghost use Rattle.hose_words.specs.Cursor.{IsWrong, Took};
+ghost use Rattle.hose_words.specs.steps.Cursor.{IsWrong, Took};
 ghost use Rattle.hose_words.specs.Form.{list, until};
 ghost use Rattle.hose_graph.specs.Network.{Network, IsNetwork};
-ghost use Rattle.hose_proto.specs.Fields.{Fields, form_of};
-ghost use Rattle.hose_proto.specs.Reading.{AreSoFar, EndsList, IsFaultOf, MissesUntil, TellsMore};
+ghost use Rattle.hose_proto.specs.Fields.{Fields};
+ghost use Rattle.hose_proto.specs.steps.Fields.{form_of};
+ghost use Rattle.hose_proto.specs.steps.Reading.{AreSoFar, EndsList, IsFaultOf, MissesUntil, TellsMore};
 
 use crate::fault::ReadFault;
 use hose_graph::Topology;

@@ -1,7 +1,7 @@
 // The texts of nodes, links, endpoints and amounts, which replies and audits share.
 ghost use Rattle.std.specs.Prelude.{All, Some};
 ghost use Rattle.std.specs.List.{flat_map};
-ghost use Rattle.hose_io.specs.Gather.{IsAdded};
+ghost use Rattle.hose_io.specs.steps.Gather.{IsAdded};
 ghost use Rattle.hose_graph.specs.Hose.{node_of};
 ghost use Rattle.hose_graph.specs.Network.{IsNodeOf};
 ghost use Rattle.hose_proto.specs.ReplyText.{end_text, link_text, node_text, pair_text};

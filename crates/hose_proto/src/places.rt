@@ -1,6 +1,6 @@
 // Words that name something of a network, and the parts of words.
 ghost use Rattle.std.specs.Prelude.{◌≡◌, ◌++◌, ◌∷◌, ℕ, decimal, Contains, IfOk, IfErr, IfSome, IfNone, Some};
-ghost use Rattle.hose_words.specs.Cursor.{Took, Misses};
+ghost use Rattle.hose_words.specs.steps.Cursor.{Took, Misses};
 ghost use Rattle.hose_words.specs.Form.{Fits64, IsChoice};
 ghost use Rattle.hose_graph.specs.Hose.{Endpoint};
 ghost use Rattle.hose_graph.specs.Limit.{IsUpTo};
@@ -9,7 +9,7 @@ ghost use Rattle.hose_graph.specs.Network.{IsNetwork, IsLinkOf};
 ghost use Rattle.hose_graph.specs.declared.limits.TheConstants.{MOST_RATE};
 ghost use Rattle.hose_proto.specs.EndWords.{IsEndWord, name_in, named_rate};
 ghost use Rattle.hose_proto.specs.Places.{end_word};
-ghost use Rattle.hose_proto.specs.Reading.{IsEndOf};
+ghost use Rattle.hose_proto.specs.steps.Reading.{IsEndOf};
 
 use hose_graph::{Endpoint, MOST_RATE, Name, Topology};
 use hose_words::{Cursor, WrongWord, number};

@@ -1,14 +1,15 @@
 // The lists of replies, read from words.
 ghost use Rattle.std.specs.Prelude.{◌≡◌, ◌↔◌, ℕ, ◌++◌, [], ◌∷◌, codes, decimal, map, IfOk, OnOk, IfErr, IfSome, IfNone, IsTrue};
 ghost use Rattle.std.specs.List.Sorted.{IsStrictlyIncreasing};
-ghost use Rattle.hose_words.specs.Cursor.{IsWrong};
+ghost use Rattle.hose_words.specs.steps.Cursor.{IsWrong};
 ghost use Rattle.hose_graph.specs.Amounts.{ReservedLink};
 ghost use Rattle.hose_graph.specs.Hose.{Endpoint};
 ghost use Rattle.hose_graph.specs.Ascending.{IsAscending, firsts};
 ghost use Rattle.hose_graph.specs.Network.{IsNetwork, name_of};
 ghost use Rattle.hose_proto.specs.Places.{IsHoseOf, end_word};
-ghost use Rattle.hose_proto.specs.Reading.{IsFaultOf, IsNextEnd, IsNextNode, IsNextNumber, IsNextPair, TellsNext};
-ghost use Rattle.hose_proto.specs.Fields.{AreAmounts, AreEnds, AreNumbers, IsSide, Fields, form_of, pair_word, the_amounts, the_ends, the_nodes, the_numbers};
+ghost use Rattle.hose_proto.specs.steps.Reading.{IsFaultOf, IsNextEnd, IsNextNode, IsNextNumber, IsNextPair, TellsNext};
+ghost use Rattle.hose_proto.specs.Fields.{Fields, pair_word, the_amounts, the_ends, the_nodes, the_numbers};
+ghost use Rattle.hose_proto.specs.steps.Fields.{AreAmounts, AreEnds, AreNumbers, IsSide, form_of};
 
 use crate::fault::ReadFault;
 use crate::lists::{Items, read_items, read_until};

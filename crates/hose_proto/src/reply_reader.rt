@@ -1,15 +1,18 @@
 // Replies read from words.
 ghost use Rattle.std.specs.Prelude.{◌≡◌, ◌⊎◌, ℕ, ◌<◌, ◌++◌, [], ◌∷◌, codes, decimal, length, slice_get, IfOk, OnOk, IfErr, Ok, Err};
-ghost use Rattle.hose_words.specs.Cursor.{Took, TookAll, Misses, IsWrong};
-ghost use Rattle.hose_words.specs.Form.{Fits64, IsChoice, Each, anything, branch, finish, number, these, this};
+ghost use Rattle.hose_words.specs.steps.Cursor.{Took, TookAll, Misses, IsWrong};
+ghost use Rattle.hose_words.specs.Form.{Fits64, IsChoice, Each, anything, branch, finish, number, this};
+ghost use Rattle.hose_words.specs.steps.Form.{these};
 ghost use Rattle.hose_words.specs.Grammar.{IsFirst, IsFirstNotAllowed};
 ghost use Rattle.hose_words.specs.Words.{words_of};
 ghost use Rattle.hose_graph.specs.Network.{Network, IsLinkOf, IsNetwork, name_of};
 ghost use Rattle.hose_graph.specs.declared.command.Reply.{Reply};
-ghost use Rattle.hose_proto.specs.Fields.{a_link, a_number, a_service, a_word, form_of, missing_word, no_more, the_amounts, words_of_link, words_told};
-ghost use Rattle.hose_proto.specs.Reading.{IsFaultOf, at_form, cost_form, cost_words, id_form};
-ghost use Rattle.hose_proto.specs.ReplyLines.{HasLists, IsPriced, IsReply, a_cost, an_epoch, head_form, head_word, reply_form, reply_grammar};
-ghost use Rattle.hose_graph.specs.Naming.{NamesPlaces};
+ghost use Rattle.hose_proto.specs.Fields.{a_link, a_number, a_service, a_word, missing_word, no_more, the_amounts, words_of_link, words_told};
+ghost use Rattle.hose_proto.specs.steps.Fields.{form_of};
+ghost use Rattle.hose_proto.specs.steps.Reading.{IsFaultOf, at_form, cost_form, cost_words, id_form};
+ghost use Rattle.hose_proto.specs.ReplyLines.{a_cost, an_epoch, head_word};
+ghost use Rattle.hose_proto.specs.steps.ReplyLines.{HasLists, IsPriced, IsReply, head_form, reply_form, reply_grammar};
+ghost use Rattle.hose_graph.specs.steps.Naming.{NamesPlaces};
 ghost use Rattle.hose_proto.specs.declared.head.Head.TheVariants.{Link, Refused, Vpn, Vpns};
 
 use crate::fault::ReadFault;

@@ -2,15 +2,16 @@
 ghost use Rattle.std.specs.List.{flat_map};
 ghost use Rattle.std.specs.Prelude.{◌≡◌, ◌≤◌, ◌++◌, ◌∷◌, [], All, OnOk, codes, decimal, length, map};
 ghost use Rattle.hose_io.specs.Count.{one_more};
-ghost use Rattle.hose_io.specs.Gather.{IsAdded};
-ghost use Rattle.hose_io.specs.Writing.{IsPut};
+ghost use Rattle.hose_io.specs.steps.Gather.{IsAdded};
+ghost use Rattle.hose_io.specs.steps.Writing.{IsPut};
 ghost use Rattle.hose_graph.specs.Hose.{node_of};
 ghost use Rattle.hose_graph.specs.Network.{Network, IsLinkOf, IsNodeOf};
 ghost use Rattle.hose_graph.specs.declared.command.Reply.TheVariants.{LinkState, Refused, Shown, Vpns};
 ghost use Rattle.hose_proto.specs.Fields.{a_number, a_service, no_more, pair_word, words_told};
-ghost use Rattle.hose_proto.specs.ReplyLines.{IsOfKind, IsReply};
-ghost use Rattle.hose_proto.specs.ReplyText.{IsShort, line_of, node_text, number_text, reply_text, spaced};
-ghost use Rattle.hose_graph.specs.Naming.{NamesPlaces};
+ghost use Rattle.hose_proto.specs.steps.ReplyLines.{IsOfKind, IsReply};
+ghost use Rattle.hose_proto.specs.ReplyText.{line_of, node_text, reply_text, spaced};
+ghost use Rattle.hose_proto.specs.steps.ReplyText.{IsShort, number_text};
+ghost use Rattle.hose_graph.specs.steps.Naming.{NamesPlaces};
 ghost use Rattle.hose_words.specs.Words.{words_of};
 
 use crate::pieces::{add_ends, add_link, add_node, add_pairs};

@@ -4,7 +4,7 @@ use Rattle.std.specs.Option.{IfSome, MatchOption}
 use Rattle.std.proofs.lemmas.Bool.{cases_eq, cases_lt}
 use Rattle.std.proofs.lemmas.List.{get_or_past}
 use Rattle.std.proofs.lemmas.Option.{none-some, same_Some}
-use Rattle.hose_root.specs.Choice.{weight_at, IsLowestLeast}
+use Rattle.hose_root.specs.steps.Choice.{weight_at, IsLowestLeast}
 
 -- a place below this has the weight, none of them has a lesser one, and no earlier one has the same
 pub record IsBestBelow (weights : List (Option ℕ)) (n place weight : ℕ) : Type 0 where

@@ -8,12 +8,13 @@ use Rattle.std.proofs.lemmas.Nat.{mul-le}
 use Rattle.std.proofs.lemmas.Option.{MatchOption-at_some, MatchOption-at_none, none-some}
 use Rattle.hose_graph.specs.Hose.{IsEnd}
 use Rattle.hose_graph.specs.Network.{Network}
-use Rattle.hose_graph.specs.Row.{Distances, HasBoundedDistances, IsWithinReach, distance_of}
+use Rattle.hose_graph.specs.Row.{Distances, distance_of}
+use Rattle.hose_graph.specs.steps.Row.{HasBoundedDistances, IsWithinReach}
 use Rattle.hose_graph.specs.declared.limits.TheConstants.{MOST_DISTANCE, MOST_RATE}
 use Rattle.hose_law.specs.Row.{IsRow}
 use Rattle.hose_law.specs.Walk.{IsDistance, Reaches}
 use Rattle.hose_law.specs.CanonicalPlan.{IsWeight}
-use Rattle.hose_root.specs.Weight.{LeavesOut, weight_of}
+use Rattle.hose_root.specs.steps.Weight.{LeavesOut, weight_of}
 
 -- a node's distance is bounded where those of the row are
 bounded_at : (row : Distances) → HasBoundedDistances row → (v distance : ℕ) → distance_of row v ≡ Some distance → distance ≤ MOST_DISTANCE

@@ -11,11 +11,12 @@
 ghost use Rattle.std.specs.Prelude.{◌≡◌, ℕ, ◌<◌, ◌≤◌, ◌↔◌, Bool, List, None, All, IfSome, IsNone, IsTrue, MatchOption, length};
 ghost use Rattle.hose_graph.specs.Hose.{node_of};
 ghost use Rattle.hose_graph.specs.Network.{Network};
-ghost use Rattle.hose_graph.specs.Row.{HasBoundedDistances, distance_of};
+ghost use Rattle.hose_graph.specs.Row.{distance_of};
+ghost use Rattle.hose_graph.specs.steps.Row.{HasBoundedDistances};
 ghost use Rattle.hose_law.specs.CanonicalPlan.{IsWeight};
 ghost use Rattle.hose_law.specs.Row.{IsRow};
-ghost use Rattle.hose_root.specs.Choice.{IsLowestLeast};
-ghost use Rattle.hose_root.specs.Weight.{LeavesOut, weight_of};
+ghost use Rattle.hose_root.specs.steps.Choice.{IsLowestLeast};
+ghost use Rattle.hose_root.specs.steps.Weight.{LeavesOut, weight_of};
 
 use hose_graph::{Hose, MOST_NODES, Row};
 

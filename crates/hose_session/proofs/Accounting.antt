@@ -14,8 +14,10 @@ use Rattle.hose_law.specs.Script.{disks_in}
 use Rattle.hose_law.proofs.Fronts.{prefix_length, prefix_same}
 use Rattle.hose_turn.specs.Known.{Known}
 use Rattle.hose_turn.specs.declared.view.Origin.{Origin}
-use Rattle.hose_session.specs.Accounts.{AccountFor, AreServedAlong, none_served, one_served, ComeTo, IsServedAlong}
-use Rattle.hose_session.specs.Session.{IsSession, ServesSession}
+use Rattle.hose_session.specs.Accounts.{AccountFor, AreServedAlong, none_served, one_served, IsServedAlong}
+use Rattle.hose_session.specs.steps.Accounts.{ComeTo}
+use Rattle.hose_session.specs.Session.{IsSession}
+use Rattle.hose_session.specs.steps.Session.{ServesSession}
 use Rattle.hose_session.specs.SessionLines.{SaysAfter}
 use Rattle.hose_talk.specs.Talk.{Telling, TellsOf}
 use Rattle.hose_law.specs.Transcript.{SessionLine}

@@ -15,7 +15,8 @@ use Rattle.hose_law.specs.Transcript.{SessionLine, Stage}
 use Rattle.hose_law.specs.Transcript.SessionLine.{Greets, Asks, Leaves, IsBad, IsLong, Unread}
 use Rattle.hose_law.proofs.Transcripts.{transcript_longer}
 use Rattle.hose_turn.specs.Known.{Known}
-use Rattle.hose_session.specs.Session.{AnswersUpTo, IsGreeted, IsSession, ServesAlong}
+use Rattle.hose_session.specs.Session.{AnswersUpTo, IsSession}
+use Rattle.hose_session.specs.steps.Session.{IsGreeted, ServesAlong}
 use Rattle.hose_talk.specs.Talk.{Telling, TellsOf}
 use Rattle.hose_session.specs.SessionLines.{SaysAfter, SaysFirst, greeting_grammar}
 use Rattle.hose_session.specs.declared.ending.SessionEnd.{SessionEnd}

@@ -22,12 +22,13 @@ use Rattle.hose_law.proofs.Scripts.{disks_push}
 use Rattle.hose_law.proofs.Transcripts.{transcript_longer}
 use Rattle.hose_proto.specs.Replies.{CutsLast}
 use Rattle.hose_proto.specs.ReplyText.{line_of, reply_text}
-use Rattle.hose_shared.specs.Along.{HasEntryAt}
-use Rattle.hose_shared.specs.Sharing.{IsSamePass}
+use Rattle.hose_shared.specs.steps.Along.{HasEntryAt}
+use Rattle.hose_shared.specs.steps.Sharing.{IsSamePass}
 use Rattle.hose_turn.specs.Known.{Known}
-use Rattle.hose_session.specs.Ending.{end_after, over_at}
-use Rattle.hose_session.specs.Exchanges.{AnswersAt, ComesAlong, GoesAlong, IsAt, IsExchange, IsPhaseAt, SaysAt, ShownSays}
-use Rattle.hose_session.specs.Session.{AnswersUpTo, IsServing, IsSession, IsWaiting, MayGoOn, ServesSession, WasLeft, WasRefused}
+use Rattle.hose_session.specs.steps.Ending.{end_after, over_at}
+use Rattle.hose_session.specs.steps.Exchanges.{AnswersAt, ComesAlong, GoesAlong, IsAt, IsExchange, IsPhaseAt, SaysAt, ShownSays}
+use Rattle.hose_session.specs.Session.{AnswersUpTo, IsServing, IsSession, IsWaiting, MayGoOn, WasLeft, WasRefused}
+use Rattle.hose_session.specs.steps.Session.{ServesSession}
 use Rattle.hose_session.specs.SessionLines.{SaysAfter}
 use Rattle.hose_session.specs.declared.client.Client.{Client}
 use Rattle.hose_session.specs.declared.client.Phase.{Phase}

@@ -1,7 +1,7 @@
 -- Exchanges along a pass.
 use Rattle.std.proofs.Common.{◌≡◌, inl, inr, ℕ, ◌+◌, ◌<◌, ◌≤◌, List, [], length, take, Option, refl, sym, ap, subst, arith, append-nil, Bor, ◌∙◌}
 use Rattle.std.proofs.lemmas.List.Elements.{All-nil}
-use Rattle.hose_words.specs.Lines.{Shows}
+use Rattle.hose_words.specs.steps.Lines.{Shows}
 use Rattle.hose_words.specs.declared.lines.TheConstants.{LINE_LIMIT}
 use Rattle.hose_words.specs.declared.lines.Line.{Line}
 use Rattle.hose_words.specs.declared.lines.Line.TheVariants.{Text}
@@ -10,7 +10,7 @@ use Rattle.hose_graph.specs.declared.command.Command.{Command}
 use Rattle.hose_graph.specs.declared.command.Reply.{Reply}
 use Rattle.hose_graph.specs.declared.command.Reply.TheVariants.{Welcome, Memory, Bad, Long, Bye}
 use Rattle.hose_book.specs.declared.books.Committed.TheVariants.{Disk as Failing}
-use Rattle.hose_law.specs.Answer.{ChangesHeld}
+use Rattle.hose_law.specs.steps.Answer.{ChangesHeld}
 use Rattle.hose_law.specs.Quotes.{Held, none_held}
 use Rattle.hose_law.specs.ReplyKind.{ReplyKind, failures_of, kind_of}
 use Rattle.hose_law.specs.ReplyKind.ReplyKind.{ByTheBook, ForDisk, ForMemory, ForNoCommand}
@@ -21,14 +21,14 @@ use Rattle.hose_law.specs.Transcript.Stage.{Left, Serving, Waiting}
 use Rattle.hose_law.specs.Transcript.Stage.{Refused as StageRefused}
 use Rattle.hose_law.proofs.Fronts.{prefix_length}
 use Rattle.hose_law.proofs.Steps.{step_keeps}
-use Rattle.hose_core.specs.Holding.{AreHeld}
-use Rattle.hose_core.specs.Stepping.{committed_for, committed_of}
+use Rattle.hose_core.specs.steps.Holding.{AreHeld}
+use Rattle.hose_core.specs.steps.Stepping.{committed_for, committed_of}
 use Rattle.hose_core.specs.declared.quotes.Quote.{Quote}
 use Rattle.hose_core.proofs.HeldQuotes.{held_on}
-use Rattle.hose_shared.specs.Along.{HasEntryAt, StepsAlong, StepsHolding}
-use Rattle.hose_shared.specs.Sharing.{HasSeenMore, IsSamePass}
+use Rattle.hose_shared.specs.steps.Along.{HasEntryAt, StepsAlong, StepsHolding}
+use Rattle.hose_shared.specs.steps.Sharing.{HasSeenMore, IsSamePass}
 use Rattle.hose_turn.specs.Known.{Known}
-use Rattle.hose_session.specs.Exchanges.{AnswersAt, IsExchange, ServesClientOn, ShownSays}
+use Rattle.hose_session.specs.steps.Exchanges.{AnswersAt, IsExchange, ServesClientOn, ShownSays}
 use Rattle.hose_session.specs.SessionLines.{SaysFirst, SaysLater}
 use Rattle.hose_session.specs.declared.client.Client.{Client}
 use Rattle.hose_session.specs.declared.client.Phase.TheVariants as phase

@@ -1,8 +1,6 @@
 -- Connections that ended, and the pass along which they were served.
 use Rattle.std.specs.Prelude.{◌≡◌, ◌↔◌, ℕ, ◌+◌, ◌<◌, ◌≤◌, List, [], ◌∷◌, ◌++◌, length, Some}
 use Rattle.hose_io.specs.Connections.{Connection}
-use Rattle.hose_io.specs.declared.source.Source.{Ghosts as SourceGhosts}
-use Rattle.hose_io.specs.declared.sink.Sink.{Ghosts as SinkGhosts}
 use Rattle.hose_words.specs.Limits.{input_limit}
 use Rattle.hose_graph.specs.Network.{Network}
 use Rattle.hose_graph.specs.declared.entry.Entry.{Entry}
@@ -14,24 +12,6 @@ use Rattle.hose_session.specs.Session.{IsSession}
 use Rattle.hose_session.specs.SessionLines.{SaysAfter}
 use Rattle.hose_session.specs.declared.ending.SessionEnd.{SessionEnd}
 use Rattle.hose_session.specs.declared.ending.SessionEnd.TheVariants.{TooLong}
-
--- what these streams, at the start and at the end of a session, come to as a connection
-pub record ComeTo {S O : Type 0} (source : SourceGhosts S) (sink : SinkGhosts O)
-    (input input' : S) (output output' : O) (connection : Connection) : Type 0 where
-  pub fresh : source.content input ≡ Some (record {
-    taken = [];
-    left = connection.taken ++ connection.left;
-  })
-  pub served : source.content input' ≡ Some (record {
-    taken = connection.taken;
-    left = connection.left;
-  })
-  pub empty : sink.content output ≡ Some []
-  pub given : sink.content output' ≡ Some connection.given
-  pub unread : (source.frame input).faults ≡ 0
-  pub reading : (source.frame input').faults ≡ connection.reading
-  pub unwritten : (sink.frame output).faults ≡ 0
-  pub writing : (sink.frame output').faults ≡ connection.writing
 
 -- The connection is that of a session along a history, from this place or a later one, with these
 -- replies and these places of its own entries.

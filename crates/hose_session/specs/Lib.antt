@@ -1,5 +1,4 @@
 pub mod Accounts
-pub mod Ending
-pub mod Exchanges
 pub mod Session
 pub mod SessionLines
+pub mod steps

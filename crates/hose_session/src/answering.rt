@@ -1,15 +1,15 @@
 // What is answered to a customer.
 ghost use Rattle.std.specs.Prelude.{◌≡◌, false};
-ghost use Rattle.hose_graph.specs.Naming.{AsksOf, NamesPlaces};
-ghost use Rattle.hose_io.specs.Writing.{IsPut};
+ghost use Rattle.hose_graph.specs.steps.Naming.{AsksOf, NamesPlaces};
+ghost use Rattle.hose_io.specs.steps.Writing.{IsPut};
 ghost use Rattle.hose_law.specs.Quotes.{Held};
 ghost use Rattle.hose_law.specs.Transcript.{SessionLine, Stage};
 ghost use Rattle.hose_law.specs.Transcript.Stage.{Serving, Waiting};
-ghost use Rattle.hose_core.specs.Holding.{AreHeld};
+ghost use Rattle.hose_core.specs.steps.Holding.{AreHeld};
 ghost use Rattle.hose_proto.specs.ReplyText.{line_of, reply_text};
-ghost use Rattle.hose_shared.specs.Sharing.{IsPassOf};
-ghost use Rattle.hose_session.specs.Ending.{over_at};
-ghost use Rattle.hose_session.specs.Exchanges.{AnswersAt, IsAt, ServesClientOn};
+ghost use Rattle.hose_shared.specs.steps.Sharing.{IsPassOf};
+ghost use Rattle.hose_session.specs.steps.Ending.{over_at};
+ghost use Rattle.hose_session.specs.steps.Exchanges.{AnswersAt, IsAt, ServesClientOn};
 
 use crate::client::{Client, Phase, Progress};
 use crate::reading::{greeting_of, is_bye, read_asked};

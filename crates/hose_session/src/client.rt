@@ -1,7 +1,7 @@
 // The customer of a session, and how far the session is.
 ghost use Rattle.std.specs.Prelude.{◌≡◌};
 ghost use Rattle.hose_law.specs.Quotes.{none_held};
-ghost use Rattle.hose_session.specs.Ending.{end_after, over_at};
+ghost use Rattle.hose_session.specs.steps.Ending.{end_after, over_at};
 
 use crate::ending::SessionEnd;
 use hose_core::Quotes;

@@ -3,10 +3,10 @@ ghost use Rattle.std.specs.Prelude.{◌≡◌, ◌↔◌, ℕ, [], Err, IfErr, I
 ghost use Rattle.hose_words.specs.Grammar.{IsFirst, IsFirstNotAllowed};
 ghost use Rattle.hose_words.specs.Form.{IsChoice};
 ghost use Rattle.hose_words.specs.Words.{words_of};
-ghost use Rattle.hose_graph.specs.Naming.{AsksOf};
+ghost use Rattle.hose_graph.specs.steps.Naming.{AsksOf};
 ghost use Rattle.hose_proto.specs.Command.{IsCommand, TakesMemory, command_grammar, verb_word};
 ghost use Rattle.hose_session.specs.SessionLines.{IsBye, IsGreeting, greeting_grammar};
-ghost use Rattle.hose_session.specs.Exchanges.{IsGreetedBy};
+ghost use Rattle.hose_session.specs.steps.Exchanges.{IsGreetedBy};
 
 use hose_graph::{Command, Name, Reply, Topology};
 use hose_proto::{ReadFault, read_command, read_name};

@@ -2,8 +2,8 @@
 ghost use Rattle.std.specs.Prelude.{◌≡◌, ◌≢◌, ◌⊎◌, ◌↔◌, ◌+◌, ◌<◌, ◌≤◌, ℕ, List, None, Some, length};
 ghost use Rattle.hose_io.specs.Frame.{Rose, Stays};
 ghost use Rattle.hose_io.specs.Stream.{Gives};
-ghost use Rattle.hose_shared.specs.Sharing.{IsPassOf};
-ghost use Rattle.hose_session.specs.Session.{IsGreeted, ServesSession};
+ghost use Rattle.hose_shared.specs.steps.Sharing.{IsPassOf};
+ghost use Rattle.hose_session.specs.steps.Session.{IsGreeted, ServesSession};
 ghost use Rattle.hose_session.specs.declared.client.Phase.TheVariants.{Waiting};
 
 use crate::answering::Session;
@@ -91,12 +91,12 @@ impl<'a, W: Wait, D: Disk, B: Begun<D>, G: Gate, R: RowMaker> Answers
     type Reply = Reply;
 
     ghost use Rattle.std.specs.Prelude.{IfSome, MatchOption};
-    ghost use Rattle.hose_graph.specs.Naming.{NamesPlaces};
+    ghost use Rattle.hose_graph.specs.steps.Naming.{NamesPlaces};
     ghost use Rattle.hose_graph.specs.Network.{Network};
     ghost use Rattle.hose_law.specs.Transcript.{SessionLine};
     ghost use Rattle.hose_proto.specs.ReplyText.{line_of, reply_text};
     ghost use Rattle.hose_turn.specs.Known.{Known};
-    ghost use Rattle.hose_session.specs.Exchanges.{CanBeServed, ComesAlong, is_over};
+    ghost use Rattle.hose_session.specs.steps.Exchanges.{CanBeServed, ComesAlong, is_over};
     ghost use Rattle.hose_session.specs.SessionLines.{SaysAfter};
 
     ghost said = { SessionLine };

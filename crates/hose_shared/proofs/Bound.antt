@@ -2,7 +2,7 @@
 use Rattle.std.proofs.Common.{◌≡◌, ℕ, Bool, List, ◌++◌, Option, None, Some, MatchResult, Result, Ok, Err, length, inl, inr, refl, sym, ap, subst, ◌∙◌, append-nil}
 use Rattle.std.specs.Prelude.{MatchOption}
 use Rattle.hose_graph.specs.Hose.{Endpoint}
-use Rattle.hose_graph.specs.Naming.{NamesPlaces}
+use Rattle.hose_graph.specs.steps.Naming.{NamesPlaces}
 use Rattle.hose_graph.specs.Network.{Network}
 use Rattle.hose_graph.specs.declared.command.Command.{Command}
 use Rattle.hose_graph.specs.declared.command.Command.TheVariants as command
@@ -15,18 +15,18 @@ use Rattle.hose_law.specs.History.{book_of}
 use Rattle.hose_law.specs.Quotes.{Held, none_held}
 use Rattle.hose_law.specs.Room.{first_links}
 use Rattle.hose_book.specs.declared.books.Committed.TheVariants.{Done}
-use Rattle.hose_core.specs.Bound.{HasNewest, admission_of}
-use Rattle.hose_core.specs.Planning.{AdmitsAtOnce, IsNotPlanned, IsPlannedFor}
-use Rattle.hose_core.specs.Stepping.{committed_of}
+use Rattle.hose_core.specs.steps.Bound.{HasNewest, admission_of}
+use Rattle.hose_core.specs.steps.Planning.{AdmitsAtOnce, IsNotPlanned, IsPlannedFor}
+use Rattle.hose_core.specs.steps.Stepping.{committed_of}
 use Rattle.hose_core.specs.declared.quotes.Quote.{Quote}
 use Rattle.hose_core.proofs.Decided.{not_admitted_done, not_admitted_names, not_admitted_step}
 use Rattle.hose_disk.specs.declared.disk.Disk.{Ghosts}
-use Rattle.hose_store.specs.Commit.{store_books}
-use Rattle.hose_store.specs.Store.{KeptStore}
+use Rattle.hose_store.specs.steps.Commit.{store_books}
+use Rattle.hose_store.specs.steps.Store.{KeptStore}
 use Rattle.hose_turn.specs.Known.{Known}
-use Rattle.hose_shared.specs.Along.{IsNotTried}
-use Rattle.hose_shared.specs.Sharing.{HasSeenMore}
-use Rattle.hose_shared.specs.Turns.{AnswersTurn, BeginsTurn, StepsAt, place_of}
+use Rattle.hose_shared.specs.steps.Along.{IsNotTried}
+use Rattle.hose_shared.specs.steps.Sharing.{HasSeenMore}
+use Rattle.hose_shared.specs.steps.Turns.{AnswersTurn, BeginsTurn, StepsAt, place_of}
 use Rattle.hose_shared.proofs.Entries.{admit_turn}
 use Rattle.hose_shared.proofs.Turned.{none_joined, reads_turn}
 

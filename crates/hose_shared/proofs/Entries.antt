@@ -19,28 +19,29 @@ use Rattle.hose_law.specs.Answer.{IsAdmitAnswer, IsAfterAnswer, IsAnswer, IsOper
 use Rattle.hose_law.specs.Book.{Book}
 use Rattle.hose_law.specs.Decision.{HasFirstFit, HaveEqualGrounds, IsPlanned}
 use Rattle.hose_law.specs.History.{book_of}
-use Rattle.hose_law.specs.Plan.{AreNodes, plan_cost}
+use Rattle.hose_law.specs.Plan.{plan_cost}
+use Rattle.hose_law.specs.steps.Plan.{AreNodes}
 use Rattle.hose_law.specs.Quotes.{Held, HeldQuote, at_number, free_number, with_number}
 use Rattle.hose_law.specs.ReplyKind.{ReplyKind, kind_of}
 use Rattle.hose_law.specs.ReplyKind.ReplyKind.{ByTheBook, ForDisk, ForMemory, ForNoCommand}
 use Rattle.hose_law.specs.Room.{first_links, room_of, safe_links}
-use Rattle.hose_law.specs.Service.{service_entry}
+use Rattle.hose_law.specs.steps.Service.{service_entry}
 use Rattle.hose_book.specs.declared.books.Committed.{Committed}
 use Rattle.hose_book.specs.declared.books.Committed.TheVariants.{Done, Disk}
-use Rattle.hose_core.specs.Bound.{admission_of}
-use Rattle.hose_core.specs.Holding.{AreHeld, IsMadeAt, IsQuoteOf}
-use Rattle.hose_core.specs.Planning.{AdmitsAtOnce, EntersPlan, HasTold, IsNotPlanned, IsPlannedFor}
-use Rattle.hose_core.specs.Serving.{service_command}
-use Rattle.hose_core.specs.Stepping.{HasStepped, HaveAnswered, StepsAtEach, TellsPlan, committed_for, committed_of}
+use Rattle.hose_core.specs.steps.Bound.{admission_of}
+use Rattle.hose_core.specs.steps.Holding.{AreHeld, IsMadeAt, IsQuoteOf}
+use Rattle.hose_core.specs.steps.Planning.{AdmitsAtOnce, EntersPlan, HasTold, IsNotPlanned, IsPlannedFor}
+use Rattle.hose_core.specs.steps.Serving.{service_command}
+use Rattle.hose_core.specs.steps.Stepping.{HasStepped, HaveAnswered, StepsAtEach, TellsPlan, committed_for, committed_of}
 use Rattle.hose_core.specs.declared.quotes.Quote.{Quote}
-use Rattle.hose_plan.specs.Planning.{allowed_links}
+use Rattle.hose_plan.specs.steps.Planning.{allowed_links}
 use Rattle.hose_disk.specs.declared.disk.Disk.{Ghosts}
-use Rattle.hose_store.specs.Commit.{store_books}
-use Rattle.hose_store.specs.Store.{KeptStore}
+use Rattle.hose_store.specs.steps.Commit.{store_books}
+use Rattle.hose_store.specs.steps.Store.{KeptStore}
 use Rattle.hose_turn.specs.Known.{Known}
-use Rattle.hose_shared.specs.Along.{StepsAlong, StepsHolding}
-use Rattle.hose_shared.specs.Sharing.{HasSeenMore}
-use Rattle.hose_shared.specs.Turns.{AnswersTurn, BeginsTurn, joined_of}
+use Rattle.hose_shared.specs.steps.Along.{StepsAlong, StepsHolding}
+use Rattle.hose_shared.specs.steps.Sharing.{HasSeenMore}
+use Rattle.hose_shared.specs.steps.Turns.{AnswersTurn, BeginsTurn, joined_of}
 use Rattle.hose_law.proofs.Fronts.{prefix_same}
 use Rattle.hose_law.proofs.Steps.{step_cases}
 use Rattle.hose_law.proofs.Epochs.{epoch_of}

@@ -17,14 +17,16 @@ use Rattle.hose_law.specs.History.{IsDecidedAt, book_of}
 use Rattle.hose_law.specs.Quotes.{Held}
 use Rattle.hose_law.proofs.Fronts.{front_of, prefix_length, prefix_on, prefix_same}
 use Rattle.hose_law.proofs.Transcripts.{front_longer}
-use Rattle.hose_book.specs.Commit.{IsMet}
+use Rattle.hose_book.specs.steps.Commit.{IsMet}
 use Rattle.hose_book.specs.declared.books.Committed.{Committed}
 use Rattle.hose_book.specs.declared.books.Committed.TheVariants.{Done, Disk}
-use Rattle.hose_turn.specs.Faults.{end_of_count, rise}
-use Rattle.hose_turn.specs.Known.{HasOwnPlaces, Known}
-use Rattle.hose_shared.specs.Along.{HasEntryAt, IsCheapestEntry, StepsAlong}
-use Rattle.hose_shared.specs.Sharing.{HasSeenMore, IsSamePass}
-use Rattle.hose_shared.specs.Turns.{StepsAt, place_of}
+use Rattle.hose_turn.specs.Faults.{end_of_count}
+use Rattle.hose_turn.specs.steps.Faults.{rise}
+use Rattle.hose_turn.specs.Known.{Known}
+use Rattle.hose_turn.specs.steps.Known.{HasOwnPlaces}
+use Rattle.hose_shared.specs.steps.Along.{HasEntryAt, IsCheapestEntry, StepsAlong}
+use Rattle.hose_shared.specs.steps.Sharing.{HasSeenMore, IsSamePass}
+use Rattle.hose_shared.specs.steps.Turns.{StepsAt, place_of}
 
 -- ---- beginnings
 

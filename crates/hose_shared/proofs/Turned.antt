@@ -13,23 +13,24 @@ use Rattle.hose_law.specs.History.{IsDecidedAt, book_of}
 use Rattle.hose_law.specs.Quotes.{Held}
 use Rattle.hose_law.specs.Tracks.{Tracks}
 use Rattle.hose_law.proofs.Cheapest.{canonical_cheapest}
-use Rattle.hose_book.specs.Commit.{IsMet}
-use Rattle.hose_book.specs.GoingOn.{GoesOn, entry_more}
+use Rattle.hose_book.specs.steps.Commit.{IsMet}
+use Rattle.hose_book.specs.steps.GoingOn.{GoesOn, entry_more}
 use Rattle.hose_book.specs.Ledger.{Ledger}
 use Rattle.hose_book.specs.declared.books.Committed.{Committed}
 use Rattle.hose_book.specs.declared.books.Committed.TheVariants.{Done, Disk}
-use Rattle.hose_core.specs.Stepping.{Goes, HasStepped, StepsAtEach, committed_of, history_with}
+use Rattle.hose_core.specs.steps.Stepping.{Goes, HasStepped, StepsAtEach, committed_of, history_with}
 use Rattle.hose_core.proofs.Leading.{decided as entry_decided, leads as step_leads}
 use Rattle.hose_disk.specs.Disk.{object_frame}
 use Rattle.hose_disk.specs.declared.disk.Disk.{Ghosts}
-use Rattle.hose_store.specs.Commit.{Went, store_books}
-use Rattle.hose_store.specs.Store.{KeptStore}
+use Rattle.hose_store.specs.steps.Commit.{Went, store_books}
+use Rattle.hose_store.specs.steps.Store.{KeptStore}
 use Rattle.hose_turn.specs.declared.view.Origin.{Origin}
-use Rattle.hose_turn.specs.Faults.{rise}
-use Rattle.hose_turn.specs.Known.{HasOwnPlaces, Known}
-use Rattle.hose_shared.specs.Along.{IsCheapestEntry}
-use Rattle.hose_shared.specs.Keeping.{StandsShared}
-use Rattle.hose_shared.specs.Turns.{AnswersTurn, BeginsTurn, StepsAt, faults_in, joined_of, place_of, with_joined}
+use Rattle.hose_turn.specs.steps.Faults.{rise}
+use Rattle.hose_turn.specs.Known.{Known}
+use Rattle.hose_turn.specs.steps.Known.{HasOwnPlaces}
+use Rattle.hose_shared.specs.steps.Along.{IsCheapestEntry}
+use Rattle.hose_shared.specs.steps.Keeping.{StandsShared}
+use Rattle.hose_shared.specs.steps.Turns.{AnswersTurn, BeginsTurn, StepsAt, faults_in, joined_of, place_of, with_joined}
 use Rattle.hose_law.proofs.Fronts.{prefix_same}
 use Rattle.hose_law.proofs.Epochs.{epoch_of}
 use Rattle.hose_shared.proofs.Passes.{failed_rise, met_above, prefix_joined}

@@ -1,13 +1,13 @@
 // Admissions.
-ghost use Rattle.hose_graph.specs.Naming.{NamesPlaces};
+ghost use Rattle.hose_graph.specs.steps.Naming.{NamesPlaces};
 ghost use Rattle.hose_graph.specs.declared.command.Command.{Command};
 ghost use Rattle.hose_law.specs.History.{book_of};
-ghost use Rattle.hose_law.specs.Plan.{AreNodes};
+ghost use Rattle.hose_law.specs.steps.Plan.{AreNodes};
 ghost use Rattle.hose_law.specs.Quotes.{Held as HeldQuotes};
-ghost use Rattle.hose_core.specs.Bound.{admission_of};
-ghost use Rattle.hose_core.specs.Holding.{IsMadeAt};
-ghost use Rattle.hose_shared.specs.Along.{IsTried, StepsAlong};
-ghost use Rattle.hose_shared.specs.Sharing.{IsPassOf};
+ghost use Rattle.hose_core.specs.steps.Bound.{admission_of};
+ghost use Rattle.hose_core.specs.steps.Holding.{IsMadeAt};
+ghost use Rattle.hose_shared.specs.steps.Along.{IsTried, StepsAlong};
+ghost use Rattle.hose_shared.specs.steps.Sharing.{IsPassOf};
 
 use crate::caller::Caller;
 use crate::kept::Begun;

@@ -5,12 +5,12 @@ ghost use Rattle.hose_graph.specs.declared.command.Reply.{Reply};
 ghost use Rattle.hose_graph.specs.declared.entry.Entry.{Entry};
 ghost use Rattle.hose_law.specs.Answer.{with_entry};
 ghost use Rattle.hose_law.specs.Quotes.{Held as HeldQuotes};
-ghost use Rattle.hose_turn.specs.Faults.{rise};
-ghost use Rattle.hose_turn.specs.Held.{floor_of, holder, value_of};
-ghost use Rattle.hose_turn.specs.Known.{HasOwnPlaces};
-ghost use Rattle.hose_shared.specs.Keeping.{StandsShared};
-ghost use Rattle.hose_shared.specs.Sharing.{HasSeenMore, IsPassOf};
-ghost use Rattle.hose_shared.specs.Turns.{AnswersTurn, BeginsTurn, StepsAt, faults_in, with_joined};
+ghost use Rattle.hose_turn.specs.steps.Faults.{rise};
+ghost use Rattle.hose_turn.specs.steps.Held.{floor_of, holder, value_of};
+ghost use Rattle.hose_turn.specs.steps.Known.{HasOwnPlaces};
+ghost use Rattle.hose_shared.specs.steps.Keeping.{StandsShared};
+ghost use Rattle.hose_shared.specs.steps.Sharing.{HasSeenMore, IsPassOf};
+ghost use Rattle.hose_shared.specs.steps.Turns.{AnswersTurn, BeginsTurn, StepsAt, faults_in, with_joined};
 
 use crate::kept::{Begun, Kept};
 use crate::shared::Shared;

@@ -1,7 +1,7 @@
 // The value under the lock.
 ghost use Rattle.std.specs.Prelude.{List, ⊤};
 ghost use Rattle.hose_graph.specs.declared.entry.Entry.{Entry};
-ghost use Rattle.hose_store.specs.Store.{KeptStore};
+ghost use Rattle.hose_store.specs.steps.Store.{KeptStore};
 
 use hose_book::Books;
 use hose_disk::Disk;
@@ -36,7 +36,7 @@ pub struct Kept<D: Disk, B: Begun<D>> {
 
 impl<D: Disk, B: Begun<D>> HoldsHistory for Kept<D, B> {
     ghost use Rattle.hose_disk.specs.Disk.{DiskFrame};
-    ghost use Rattle.hose_shared.specs.Keeping.{StandsShared};
+    ghost use Rattle.hose_shared.specs.steps.Keeping.{StandsShared};
 
     ghost stands = { λ origin history kept.
         StandsShared D.Disk B.begins origin history kept.store };

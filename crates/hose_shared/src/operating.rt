@@ -1,10 +1,10 @@
 // Orders of the operator.
-ghost use Rattle.hose_graph.specs.Naming.{NamesPlaces};
+ghost use Rattle.hose_graph.specs.steps.Naming.{NamesPlaces};
 ghost use Rattle.hose_graph.specs.Network.{IsLinkOf};
 ghost use Rattle.hose_law.specs.Quotes.{Held as HeldQuotes};
-ghost use Rattle.hose_core.specs.Serving.{service_command};
-ghost use Rattle.hose_shared.specs.Along.{StepsAlong};
-ghost use Rattle.hose_shared.specs.Sharing.{IsPassOf};
+ghost use Rattle.hose_core.specs.steps.Serving.{service_command};
+ghost use Rattle.hose_shared.specs.steps.Along.{StepsAlong};
+ghost use Rattle.hose_shared.specs.steps.Sharing.{IsPassOf};
 
 use crate::caller::Caller;
 use crate::kept::Begun;

@@ -2,13 +2,13 @@
 ghost use Rattle.std.specs.Prelude.{◌≡◌, MatchOption, MatchResult, length};
 ghost use Rattle.hose_law.specs.Book.{loads_of};
 ghost use Rattle.hose_law.specs.History.{book_of};
-ghost use Rattle.hose_law.specs.Plan.{AreNodes};
+ghost use Rattle.hose_law.specs.steps.Plan.{AreNodes};
 ghost use Rattle.hose_law.specs.Room.{first_links};
-ghost use Rattle.hose_tree.specs.Amounts.{AreCarried};
-ghost use Rattle.hose_core.specs.Bound.{HasNewest, TellsNewest};
-ghost use Rattle.hose_core.specs.Planning.{IsPlannedFor};
-ghost use Rattle.hose_shared.specs.Along.{IsNotTried};
-ghost use Rattle.hose_shared.specs.Sharing.{HasSeenMore, IsPassOf};
+ghost use Rattle.hose_tree.specs.steps.Amounts.{AreCarried};
+ghost use Rattle.hose_core.specs.steps.Bound.{HasNewest, TellsNewest};
+ghost use Rattle.hose_core.specs.steps.Planning.{IsPlannedFor};
+ghost use Rattle.hose_shared.specs.steps.Along.{IsNotTried};
+ghost use Rattle.hose_shared.specs.steps.Sharing.{HasSeenMore, IsPassOf};
 
 use crate::caller::Caller;
 use crate::kept::Begun;

@@ -1,12 +1,12 @@
 // Quotes.
 ghost use Rattle.std.specs.Prelude.{List, ℕ};
-ghost use Rattle.hose_graph.specs.Naming.{NamesPlaces};
+ghost use Rattle.hose_graph.specs.steps.Naming.{NamesPlaces};
 ghost use Rattle.hose_graph.specs.declared.command.Command.{Command};
-ghost use Rattle.hose_law.specs.Plan.{AreNodes};
+ghost use Rattle.hose_law.specs.steps.Plan.{AreNodes};
 ghost use Rattle.hose_law.specs.Quotes.{Held as HeldQuotes};
-ghost use Rattle.hose_core.specs.Holding.{AreHeld};
-ghost use Rattle.hose_shared.specs.Along.{StepsHolding};
-ghost use Rattle.hose_shared.specs.Sharing.{IsPassOf};
+ghost use Rattle.hose_core.specs.steps.Holding.{AreHeld};
+ghost use Rattle.hose_shared.specs.steps.Along.{StepsHolding};
+ghost use Rattle.hose_shared.specs.steps.Sharing.{IsPassOf};
 
 use crate::caller::Caller;
 use crate::kept::Begun;

@@ -6,11 +6,11 @@ ghost use Rattle.hose_graph.specs.declared.entry.Entry.{Entry};
 ghost use Rattle.hose_law.specs.Tracks.{Tracks};
 ghost use Rattle.hose_book.specs.Ledger.{HasBookOf};
 ghost use Rattle.hose_turn.specs.Faults.{end_of_count};
-ghost use Rattle.hose_turn.specs.Known.{first_known, HasOwnPlaces};
-ghost use Rattle.hose_turn.specs.Places.{AreApart};
-ghost use Rattle.hose_shared.specs.Closing.{HasShared};
-ghost use Rattle.hose_shared.specs.Keeping.{StandsShared};
-ghost use Rattle.hose_shared.specs.Sharing.{HasSeenMore, IsPassOf};
+ghost use Rattle.hose_turn.specs.steps.Known.{first_known, HasOwnPlaces};
+ghost use Rattle.hose_turn.specs.steps.Places.{AreApart};
+ghost use Rattle.hose_shared.specs.steps.Closing.{HasShared};
+ghost use Rattle.hose_shared.specs.steps.Keeping.{StandsShared};
+ghost use Rattle.hose_shared.specs.steps.Sharing.{HasSeenMore, IsPassOf};
 
 use crate::kept::{Begun, Kept};
 use hose_book::Books;
@@ -33,7 +33,7 @@ pub struct Shared<D: Disk, B: Begun<D>> {
 
 impl<D: Disk, B: Begun<D>> Model for Shared<D, B> {
     ghost use Rattle.hose_graph.specs.Network.{IsNetwork};
-    ghost use Rattle.hose_shared.specs.Sharing.{SharedBook};
+    ghost use Rattle.hose_shared.specs.steps.Sharing.{SharedBook};
 
     ghost Value = { SharedBook };
 

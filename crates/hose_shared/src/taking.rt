@@ -1,15 +1,15 @@
 // Taking what was quoted.
 ghost use Rattle.std.specs.Prelude.{◌≡◌, ◌≢◌, ◌<◌, ◌≤◌, List, Option, Some, ℕ, length};
-ghost use Rattle.hose_graph.specs.Naming.{NamesPlaces};
+ghost use Rattle.hose_graph.specs.steps.Naming.{NamesPlaces};
 ghost use Rattle.hose_graph.specs.declared.command.Command.{Command};
 ghost use Rattle.hose_graph.specs.declared.command.Reply.{Reply};
 ghost use Rattle.hose_law.specs.Quotes.{Held as HeldQuotes, HeldQuote, at_number};
-ghost use Rattle.hose_store.specs.Commit.{store_books};
-ghost use Rattle.hose_core.specs.Claiming.{IsClaimOf};
-ghost use Rattle.hose_core.specs.Holding.{AreHeld, IsQuoteOf};
-ghost use Rattle.hose_shared.specs.Along.{StepsHolding};
-ghost use Rattle.hose_shared.specs.Sharing.{IsPassOf};
-ghost use Rattle.hose_shared.specs.Turns.{StepsInTurn};
+ghost use Rattle.hose_store.specs.steps.Commit.{store_books};
+ghost use Rattle.hose_core.specs.steps.Claiming.{IsClaimOf};
+ghost use Rattle.hose_core.specs.steps.Holding.{AreHeld, IsQuoteOf};
+ghost use Rattle.hose_shared.specs.steps.Along.{StepsHolding};
+ghost use Rattle.hose_shared.specs.steps.Sharing.{IsPassOf};
+ghost use Rattle.hose_shared.specs.steps.Turns.{StepsInTurn};
 
 use crate::caller::Caller;
 use crate::kept::Begun;

@@ -7,15 +7,16 @@ use Rattle.hose_graph.specs.declared.entry.Entry.{Entry}
 use Rattle.hose_book.specs.Ledger.{Ledger}
 use Rattle.hose_disk.specs.Disk.{object_frame}
 use Rattle.hose_disk.specs.declared.disk.Disk.{Ghosts}
-use Rattle.hose_journal.specs.Entries.{IsListOf}
+use Rattle.hose_journal.specs.steps.Entries.{IsListOf}
 use Rattle.hose_journal.specs.Moments.{KeepsCount, LeavesOnly}
 use Rattle.hose_journal.specs.Opening.{KeepsDisk}
 use Rattle.hose_journal.specs.Reading.{HasFailed}
-use Rattle.hose_store.specs.Becoming.{IsStoreOf}
-use Rattle.hose_store.specs.Opening.{HasGiven}
+use Rattle.hose_store.specs.steps.Becoming.{IsStoreOf}
+use Rattle.hose_store.specs.steps.Opening.{HasGiven}
 use Rattle.hose_store.specs.Recovery.{digest_of}
-use Rattle.hose_store.specs.Replaying.{IsOnlyOpened, IsReplaying}
-use Rattle.hose_store.specs.Store.{HasHistory, KeptStore}
+use Rattle.hose_store.specs.Replaying.{IsOnlyOpened}
+use Rattle.hose_store.specs.steps.Replaying.{IsReplaying}
+use Rattle.hose_store.specs.steps.Store.{HasHistory, KeptStore}
 use Rattle.hose_store.specs.declared.replay.Replay.{Replay}
 use Rattle.hose_store.proofs.Openings.{sealing_run}
 use Rattle.hose_store.proofs.Replays.{keeps_later}

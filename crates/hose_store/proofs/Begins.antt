@@ -3,12 +3,12 @@ use Rattle.std.proofs.Common.{◌≤◌, ℕ, List, inl, refl, arith}
 use Rattle.hose_graph.specs.Network.{Network}
 use Rattle.hose_graph.specs.declared.entry.Entry.{Entry}
 use Rattle.hose_disk.specs.declared.disk.Disk.{Ghosts}
-use Rattle.hose_journal.specs.Opening.{IsOpened}
-use Rattle.hose_journal.specs.Reading.{OnlyRead}
+use Rattle.hose_journal.specs.steps.Opening.{IsOpened}
+use Rattle.hose_journal.specs.steps.Reading.{OnlyRead}
 use Rattle.hose_journal.proofs.Runs.{started}
-use Rattle.hose_store.specs.Becoming.{BeginsAtMost}
+use Rattle.hose_store.specs.steps.Becoming.{BeginsAtMost}
 use Rattle.hose_store.specs.Recovery.{digest_of}
-use Rattle.hose_store.specs.Replaying.{IsReplaying}
+use Rattle.hose_store.specs.steps.Replaying.{IsReplaying}
 use Rattle.hose_store.specs.declared.replay.Replay.{Replay}
 use Rattle.hose_store.proofs.Openings.{opened_then}
 use Rattle.hose_store.proofs.Readings.{only_next}

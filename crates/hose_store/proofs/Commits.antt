@@ -3,23 +3,24 @@ use Rattle.std.proofs.Common.{◌≡◌, ◌⊎◌, inl, inr, ◌<◌, List, [],
 use Rattle.hose_graph.specs.declared.entry.Entry.{Entry}
 use Rattle.hose_graph.specs.declared.limits.TheConstants.{MOST_EPOCH}
 use Rattle.hose_law.specs.Book.{Book}
-use Rattle.hose_law.specs.History.{book_of, opening_book, next_book, IsSound, IsSoundAt, IsSoundWith}
+use Rattle.hose_law.specs.History.{book_of, opening_book, next_book, IsSound, IsSoundAt}
+use Rattle.hose_law.specs.steps.History.{IsSoundWith}
 use Rattle.hose_law.proofs.Scripts.{book_after_push}
 use Rattle.hose_law.specs.Tracks.{Tracks}
-use Rattle.hose_book.specs.Ledger.{TracksOn, next_ledger}
+use Rattle.hose_book.specs.steps.Ledger.{TracksOn, next_ledger}
 use Rattle.hose_book.specs.declared.books.Committed.{Committed}
 use Rattle.hose_book.specs.declared.books.Committed.TheVariants.{Done, Disk}
 use Rattle.hose_disk.specs.declared.disk.Disk.{Ghosts}
-use Rattle.hose_journal.specs.Entries.{IsListOf}
-use Rattle.hose_journal.specs.Journal.{Account, Stands, IsReady, with_doubt, account_with, IsListAmid}
+use Rattle.hose_journal.specs.steps.Entries.{IsListOf}
+use Rattle.hose_journal.specs.steps.Journal.{Account, Stands, IsReady, with_doubt, account_with, IsListAmid}
 use Rattle.hose_journal.specs.Moments.{Images, LeavesOnly, TellsAsBefore}
 use Rattle.hose_journal.specs.declared.journal.Journal.{Journal}
 use Rattle.hose_journal.specs.declared.prepared.Ready.{Ready}
 use Rattle.hose_journal.proofs.Accounts.{stands_amid}
 use Rattle.hose_journal.proofs.Runs.{weaker}
-use Rattle.hose_store.specs.Commit.{Went, IsLeft}
+use Rattle.hose_store.specs.steps.Commit.{Went, IsLeft}
 use Rattle.hose_store.specs.Recovery.{IsHistoryOf}
-use Rattle.hose_store.specs.Store.{KeptStore, HasHistory, IsAmid, account_of}
+use Rattle.hose_store.specs.steps.Store.{KeptStore, HasHistory, IsAmid, account_of}
 use Rattle.hose_store.proofs.Histories.{few_entries, sound_with, history_of_list, history_amid}
 
 module _ {D : Type 0} (disk : Ghosts D) where

@@ -5,16 +5,18 @@ use Rattle.hose_graph.specs.Network.{Network}
 use Rattle.hose_graph.specs.declared.entry.Entry.{Entry}
 use Rattle.hose_graph.specs.declared.entry.Entry.TheVariants.{Admit, Release, Down, Up}
 use Rattle.hose_law.specs.Book.{Book}
-use Rattle.hose_law.specs.History.{book_of, opening_book, next_book, last_epoch, IsSound, IsSoundAt, IsSoundFrom, IsSoundWith}
+use Rattle.hose_law.specs.History.{book_of, opening_book, next_book, last_epoch, IsSound, IsSoundAt, IsSoundFrom}
+use Rattle.hose_law.specs.steps.History.{IsSoundWith}
 use Rattle.hose_law.proofs.Epochs.{epoch_after}
 use Rattle.hose_law.proofs.LiveIds.{next_epoch}
 use Rattle.hose_law.proofs.Scripts.{book_after_push, sound_push}
 use Rattle.hose_topo.specs.Canonical.{canonical_text}
-use Rattle.hose_journal.specs.Entries.{AreAllowed, IsListOf}
-use Rattle.hose_journal.specs.Journal.{IsListWith, IsListAmid}
+use Rattle.hose_journal.specs.steps.Entries.{AreAllowed, IsListOf}
+use Rattle.hose_journal.specs.steps.Journal.{IsListWith, IsListAmid}
 use Rattle.hose_journal.proofs.Narrow.{narrowed, widened}
 use Rattle.hose_store.specs.Recovery.{digest_of, IsHistoryOf, IsSoundAfter}
-use Rattle.hose_store.specs.Store.{account_of, IsAmid, IsHistoryWith}
+use Rattle.hose_store.specs.Store.{IsHistoryWith}
+use Rattle.hose_store.specs.steps.Store.{account_of, IsAmid}
 
 -- the digest of a network
 pub is_digest : (network : Network) (digest : List ℕ) → digest ≡ sha256 (canonical_text network) → digest ≡ digest_of network

@@ -12,22 +12,24 @@ use Rattle.hose_journal.specs.declared.fault.JournalFault.{JournalFault}
 use Rattle.hose_journal.specs.declared.fault.JournalFault.TheVariants as journal
 use Rattle.hose_journal.specs.declared.journal.Journal.{Journal}
 use Rattle.hose_journal.specs.declared.reading.Reading.{Reading}
-use Rattle.hose_journal.specs.Entries.{IsListOf}
+use Rattle.hose_journal.specs.steps.Entries.{IsListOf}
 use Rattle.hose_journal.specs.Image.{IsOther, IsUnbegun, damaged, listed}
-use Rattle.hose_journal.specs.Journal.{Stands}
+use Rattle.hose_journal.specs.steps.Journal.{Stands}
 use Rattle.hose_journal.specs.Moments.{LeavesOnly}
-use Rattle.hose_journal.specs.Opening.{HasNoHead, IsOpened, KeepsDisk, KeepsList, IsRefusedJournal as IsRefusedThere}
-use Rattle.hose_journal.specs.Reading.{OnlyRead}
+use Rattle.hose_journal.specs.Opening.{KeepsDisk}
+use Rattle.hose_journal.specs.steps.Opening.{HasNoHead, IsOpened, KeepsList, IsRefusedJournal as IsRefusedThere}
+use Rattle.hose_journal.specs.steps.Reading.{OnlyRead}
 use Rattle.hose_journal.proofs.OneList.{one_list}
 use Rattle.hose_journal.proofs.OneMeaning.{head_begun}
 use Rattle.hose_journal.proofs.Readings.{read_list}
 use Rattle.hose_journal.proofs.Runs.{started, joined, weaker, now_too}
 use Rattle.hose_store.specs.declared.fault.StoreFault.{StoreFault}
 use Rattle.hose_store.specs.declared.fault.StoreFault.TheVariants as store
-use Rattle.hose_store.specs.Faults.{store_fault}
-use Rattle.hose_store.specs.Opening.{HasGiven, IsAtOpening, IsOpenedOn, IsRefusedStore, IsStopped, IsUnchanged}
+use Rattle.hose_store.specs.steps.Faults.{store_fault}
+use Rattle.hose_store.specs.Opening.{IsAtOpening, IsRefusedStore, IsUnchanged}
+use Rattle.hose_store.specs.steps.Opening.{HasGiven, IsOpenedOn, IsStopped}
 use Rattle.hose_store.specs.Recovery.{digest_of, IsHistoryOf, IsRecoveredAs}
-use Rattle.hose_store.specs.Store.{HasHistory, account_of}
+use Rattle.hose_store.specs.steps.Store.{HasHistory, account_of}
 use Rattle.hose_store.proofs.Commits.{has_history}
 use Rattle.hose_store.proofs.Histories.{amid_none, history_of_list, sound_items}
 use Rattle.hose_store.proofs.Readings.{told_each}

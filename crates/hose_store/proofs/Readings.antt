@@ -3,14 +3,15 @@ use Rattle.std.proofs.Common.{◌≡◌, inr, ℕ, ◌≤◌, List, [], ◌∷�
 use Rattle.std.specs.Prelude.{Ok, Err}
 use Rattle.hose_io.proofs.Frames.{Stays-none, Stays-next, Rose-later}
 use Rattle.hose_graph.specs.Network.{Network}
-use Rattle.hose_graph.specs.Ranges.{IsInRanges}
+use Rattle.hose_graph.specs.steps.Ranges.{IsInRanges}
 use Rattle.hose_graph.specs.declared.entry.Entry.{Entry}
 use Rattle.hose_graph.specs.declared.entry.Entry.TheVariants.{Admit, Release, Down, Up}
 use Rattle.hose_law.specs.Book.{Book}
 use Rattle.hose_law.specs.History.{opening_book, next_book, IsSoundAt}
 use Rattle.hose_law.proofs.Scripts.{book_after_push}
 use Rattle.hose_law.specs.Tracks.{Tracks}
-use Rattle.hose_book.specs.Ledger.{Ledger, TracksOn, opening_ledger}
+use Rattle.hose_book.specs.Ledger.{Ledger}
+use Rattle.hose_book.specs.steps.Ledger.{TracksOn, opening_ledger}
 use Rattle.hose_disk.specs.Disk.{object_frame}
 use Rattle.hose_disk.specs.declared.disk.Disk.{Ghosts}
 use Rattle.hose_journal.specs.declared.layout.TheConstants.{DIGEST_BYTES}
@@ -18,17 +19,19 @@ use Rattle.hose_journal.specs.declared.fault.JournalFault.{JournalFault}
 use Rattle.hose_journal.specs.declared.fault.JournalFault.TheVariants as journal
 use Rattle.hose_journal.specs.declared.reading.Reading.{Reading}
 use Rattle.hose_codec.specs.Spelling.{IsEntry}
-use Rattle.hose_journal.specs.Entries.{AreAllowed, IsListOf, Item, entered, entries_format, entries_in, entries_reader, front_of}
+use Rattle.hose_journal.specs.Entries.{Item, entered, entries_format, entries_in, front_of}
+use Rattle.hose_journal.specs.steps.Entries.{AreAllowed, IsListOf, entries_reader}
 use Rattle.hose_journal.specs.Image.{AreItems, IsDamaged, damaged}
-use Rattle.hose_journal.specs.Reading.{HasFailed, HasRead, IsFoundAt, IsReadUpTo, OnlyRead, Reads}
+use Rattle.hose_journal.specs.Reading.{HasFailed}
+use Rattle.hose_journal.specs.steps.Reading.{HasRead, IsFoundAt, IsReadUpTo, OnlyRead, Reads}
 use Rattle.hose_journal.proofs.Items.{entries_push}
 use Rattle.hose_journal.proofs.Narrow.{broken_narrowed, refused_at}
 use Rattle.hose_journal.proofs.OneList.{no_fewer}
 use Rattle.hose_journal.proofs.Runs.{started, joined, weaker}
 use Rattle.hose_store.specs.declared.fault.StoreFault.{StoreFault}
 use Rattle.hose_store.specs.declared.fault.StoreFault.TheVariants as store
-use Rattle.hose_store.specs.Faults.{store_fault}
-use Rattle.hose_store.specs.Opening.{HasGiven, HasReadOn, IsNotEmpty, IsStopped}
+use Rattle.hose_store.specs.steps.Faults.{store_fault}
+use Rattle.hose_store.specs.steps.Opening.{HasGiven, HasReadOn, IsNotEmpty, IsStopped}
 use Rattle.hose_store.specs.Recovery.{digest_of, IsRecoveredAs, IsSoundAfter}
 use Rattle.hose_store.proofs.Histories.{taken_more}
 

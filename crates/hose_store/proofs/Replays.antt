@@ -8,19 +8,23 @@ use Rattle.hose_disk.specs.declared.disk.Disk.{Ghosts}
 use Rattle.hose_journal.specs.declared.layout.TheConstants.{DIGEST_BYTES}
 use Rattle.hose_journal.specs.declared.prepared.Ready.{Ready}
 use Rattle.hose_journal.specs.declared.reading.Reading.{Reading}
-use Rattle.hose_journal.specs.Entries.{AreAllowed, Item, front_of}
+use Rattle.hose_journal.specs.Entries.{Item, front_of}
+use Rattle.hose_journal.specs.steps.Entries.{AreAllowed}
 use Rattle.hose_journal.specs.Moments.{KeepsCount, LeavesOnly}
 use Rattle.hose_journal.specs.Image.{IsClosed}
 use Rattle.hose_journal.specs.Layout.{chained_version}
-use Rattle.hose_journal.specs.Opening.{IsOpened, KeepsDisk, KeepsList, KeepsOrBegins}
-use Rattle.hose_journal.specs.Reading.{IsReadUpTo, OnlyRead, Reads}
+use Rattle.hose_journal.specs.Opening.{KeepsDisk}
+use Rattle.hose_journal.specs.steps.Opening.{IsOpened, KeepsList, KeepsOrBegins}
+use Rattle.hose_journal.specs.steps.Reading.{IsReadUpTo, OnlyRead, Reads}
 use Rattle.hose_journal.proofs.OneList.{no_fewer}
 use Rattle.hose_store.specs.declared.fault.StoreFault.{StoreFault}
 use Rattle.hose_store.specs.declared.replay.Replay.{Replay}
 use Rattle.hose_store.specs.Entries.{BeginsWith, HasEntries}
-use Rattle.hose_store.specs.Opening.{HasGiven, IsAtOpening, IsStopped}
+use Rattle.hose_store.specs.Opening.{IsAtOpening}
+use Rattle.hose_store.specs.steps.Opening.{HasGiven, IsStopped}
 use Rattle.hose_store.specs.Recovery.{IsHistoryOf, IsSoundAfter, digest_of}
-use Rattle.hose_store.specs.Replaying.{GivesNext, HasReplayed, IsOnlyOpened, IsReplaying, KeepsRead}
+use Rattle.hose_store.specs.Replaying.{IsOnlyOpened, KeepsRead}
+use Rattle.hose_store.specs.steps.Replaying.{GivesNext, HasReplayed, IsReplaying}
 use Rattle.hose_store.proofs.Histories.{sound_items}
 use Rattle.hose_store.proofs.Openings.{at_opening, opened_then, read_history, refused_entries}
 use Rattle.hose_store.proofs.Readings.{only_next, stopped_later}

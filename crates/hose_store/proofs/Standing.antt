@@ -13,13 +13,16 @@ use Rattle.hose_book.specs.declared.books.Committed.TheVariants.{Done, Disk}
 use Rattle.hose_disk.specs.declared.disk.Disk.{Ghosts}
 use Rattle.hose_journal.specs.declared.layout.TheConstants.{DIGEST_BYTES}
 use Rattle.hose_journal.specs.Moments.{LeavesOnly, TellsAsBefore}
-use Rattle.hose_book.specs.Commit.{history_after}
-use Rattle.hose_book.specs.GoingOn.{GoesOn, none_yet, entry_more}
-use Rattle.hose_store.specs.Beginning.{Beginning, HasLeft, IsOrInDoubt, IsPartOf, StandsFor}
-use Rattle.hose_store.specs.Commit.{Closes, IsLeft, Went, store_books}
-use Rattle.hose_store.specs.Opening.{IsAtOpening, IsOpenedOn}
+use Rattle.hose_book.specs.steps.Commit.{history_after}
+use Rattle.hose_book.specs.steps.GoingOn.{GoesOn, none_yet, entry_more}
+use Rattle.hose_store.specs.Beginning.{Beginning, HasLeft, IsOrInDoubt, IsPartOf}
+use Rattle.hose_store.specs.steps.Beginning.{StandsFor}
+use Rattle.hose_store.specs.steps.Commit.{Closes, IsLeft, Went, store_books}
+use Rattle.hose_store.specs.Opening.{IsAtOpening}
+use Rattle.hose_store.specs.steps.Opening.{IsOpenedOn}
 use Rattle.hose_store.specs.Recovery.{IsHistoryOf, digest_of}
-use Rattle.hose_store.specs.Store.{HasHistory, IsAmid, IsHistoryWith, KeptStore}
+use Rattle.hose_store.specs.Store.{IsHistoryWith}
+use Rattle.hose_store.specs.steps.Store.{HasHistory, IsAmid, KeptStore}
 use Rattle.hose_journal.proofs.OneList.{one_list}
 use Rattle.hose_store.proofs.Histories.{list_of_history}
 

@@ -1,15 +1,15 @@
 -- What a store stands for since its opening. The kind of the entries that were added, as sound or
 -- decided, and the images that the disk had at its opening are parameters.
-use Rattle.std.specs.Prelude.{◌≡◌, ◌⊎◌, ℕ, ◌≤◌, Bool, List, [], ◌∷◌, ◌++◌, length, Option, IfSome, is_some, Result, OnOk}
+use Rattle.std.specs.Prelude.{◌⊎◌, ℕ, Bool, List, [], ◌∷◌, ◌++◌, Option, IfSome, Result, OnOk}
 use Rattle.hose_io.specs.declared.Failed.{Failed}
 use mathlib.Core.List.{IsPrefix}
 use Rattle.hose_graph.specs.Network.{Network}
 use Rattle.hose_graph.specs.declared.entry.Entry.{Entry}
-use Rattle.hose_law.specs.History.{AreFrom, EntryKind, book_of, opening_book}
+use Rattle.hose_law.specs.History.{EntryKind, book_of}
 use Rattle.hose_disk.specs.declared.disk.Disk.{Ghosts}
 use Rattle.hose_journal.specs.Moments.{Images}
 use Rattle.hose_store.specs.Recovery.{IsHistoryOf}
-use Rattle.hose_store.specs.Store.{KeptStore, HasHistory, IsHistoryWith}
+use Rattle.hose_store.specs.Store.{IsHistoryWith}
 
 -- what is fixed when a store is opened: the history that it had then, its network, the moment of
 -- the opening, and whether the disk tells its content
@@ -36,22 +36,6 @@ abbrev pub IsPartOf : EntryKind → Beginning → List Entry → List ℕ → Ty
 IsPartOf Kind beginning history image =
     (part : List Entry) × IsPrefix beginning.since part × IsPrefix part history
     × IsOrOneMore Kind beginning.network part image
-
--- The store stands for the history: it has it, with one entry in doubt at most; what was added
--- since the opening is of this kind; and at each moment since then each image stands for a part of
--- the history, for such a part and one entry more, or is one that the disk had.
-pub record StandsFor {D : Type 0} (disk : Ghosts D) (Kind : EntryKind) (Had : List ℕ → Type 0)
-    (beginning : Beginning) (history : List Entry) (store : KeptStore D) : Type 0 where
-  pub doubt : Option Entry
-  pub network : store.ledger.network ≡ beginning.network
-  pub has : HasHistory disk store history doubt
-  pub since : IsPrefix beginning.since history
-  pub added : AreFrom Kind beginning.network (opening_book 0) (length beginning.since) history
-  pub doubtful : IfSome doubt (Kind beginning.network (book_of 0 history))
-  pub later : beginning.moment ≤ disk.moment store.journal.disk
-  pub moments : (image : List ℕ) → disk.left_since store.journal.disk beginning.moment image
-      → IsPartOf Kind beginning history image ⊎ Had image
-  pub tells : is_some (disk.content store.journal.disk) ≡ beginning.tells
 
 -- What a store that stood for the history has left of its disk, once it is closed: each image now
 -- stands for the history, or for it and the one entry in doubt, and for the history alone where

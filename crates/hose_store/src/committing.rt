@@ -2,13 +2,14 @@
 ghost use Rattle.std.specs.Prelude.{List, None, Option, OnOk};
 ghost use Rattle.hose_graph.specs.declared.entry.Entry.{Entry};
 ghost use Rattle.hose_law.specs.History.{IsSoundAt};
-ghost use Rattle.hose_book.specs.Commit.{IsMet};
-ghost use Rattle.hose_disk.specs.Disk.{IsCalled, object_frame};
-ghost use Rattle.hose_journal.specs.Entries.{IsListOf};
-ghost use Rattle.hose_journal.specs.Journal.{Account, IsListAmid, IsReady, Stands};
+ghost use Rattle.hose_book.specs.steps.Commit.{IsMet};
+ghost use Rattle.hose_disk.specs.Disk.{object_frame};
+ghost use Rattle.hose_disk.specs.steps.Disk.{IsCalled};
+ghost use Rattle.hose_journal.specs.steps.Entries.{IsListOf};
+ghost use Rattle.hose_journal.specs.steps.Journal.{Account, IsListAmid, IsReady, Stands};
 ghost use Rattle.hose_journal.specs.Moments.{Images, LeavesOnly, TellsAsBefore};
-ghost use Rattle.hose_store.specs.Commit.{Went};
-ghost use Rattle.hose_store.specs.Store.{HasHistory};
+ghost use Rattle.hose_store.specs.steps.Commit.{Went};
+ghost use Rattle.hose_store.specs.steps.Store.{HasHistory};
 
 use hose_book::{Book, Committed};
 use hose_disk::{Disk, Failed};

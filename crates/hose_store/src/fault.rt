@@ -1,6 +1,6 @@
 // Why a store is not opened.
 ghost use Rattle.std.specs.Prelude.{◌≡◌};
-ghost use Rattle.hose_store.specs.Faults.{store_fault};
+ghost use Rattle.hose_store.specs.steps.Faults.{store_fault};
 
 use hose_journal::JournalFault;
 use thiserror::Error;

@@ -3,8 +3,8 @@ ghost use Rattle.std.specs.Prelude.{◌≡◌, ◌+◌, ◌≤◌, List, Ok, fal
 ghost use Rattle.hose_graph.specs.declared.entry.Entry.{Entry};
 ghost use Rattle.hose_law.specs.History.{IsSoundAt, last_epoch};
 ghost use Rattle.hose_journal.specs.Moments.{KeepsCount};
-ghost use Rattle.hose_journal.specs.Reading.{OnlyRead};
-ghost use Rattle.hose_store.specs.Opening.{HasGiven, HasReadOn, IsRecovering, IsStopped};
+ghost use Rattle.hose_journal.specs.steps.Reading.{OnlyRead};
+ghost use Rattle.hose_store.specs.steps.Opening.{HasGiven, HasReadOn, IsRecovering, IsStopped};
 
 use crate::fault::StoreFault;
 use hose_book::Book;

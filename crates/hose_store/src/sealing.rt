@@ -1,8 +1,8 @@
 // Sealing a journal before it is added to.
 ghost use Rattle.std.specs.Prelude.{◌≤◌, length, IfErr, IfOk, IsFalse, IsTrue, MatchResult};
 ghost use Rattle.hose_graph.specs.declared.limits.TheConstants.{MOST_EPOCH};
-ghost use Rattle.hose_journal.specs.Entries.{IsListOf};
-ghost use Rattle.hose_journal.specs.Journal.{Account, Stands};
+ghost use Rattle.hose_journal.specs.steps.Entries.{IsListOf};
+ghost use Rattle.hose_journal.specs.steps.Journal.{Account, Stands};
 ghost use Rattle.hose_journal.specs.Moments.{KeepsCount, LeavesOnly};
 ghost use Rattle.hose_journal.specs.Opening.{KeepsDisk};
 ghost use Rattle.hose_journal.specs.Reading.{HasFailed};

@@ -2,17 +2,19 @@
 ghost use Rattle.std.specs.Prelude.{◌≡◌, List, None, Option, IfErr, IfOk, IsTrue, MatchResult};
 ghost use Rattle.hose_io.specs.Frame.{Frame};
 ghost use Rattle.hose_graph.specs.declared.entry.Entry.{Entry};
-ghost use Rattle.hose_disk.specs.Disk.{IsCalled, object_frame};
+ghost use Rattle.hose_disk.specs.Disk.{object_frame};
+ghost use Rattle.hose_disk.specs.steps.Disk.{IsCalled};
 ghost use Rattle.hose_journal.specs.Chain.{chain};
-ghost use Rattle.hose_journal.specs.Entries.{IsListOf};
-ghost use Rattle.hose_journal.specs.Journal.{IsReady};
+ghost use Rattle.hose_journal.specs.steps.Entries.{IsListOf};
+ghost use Rattle.hose_journal.specs.steps.Journal.{IsReady};
 ghost use Rattle.hose_journal.specs.Moments.{KeepsCount, LeavesOnly};
 ghost use Rattle.hose_journal.specs.Opening.{KeepsDisk};
 ghost use Rattle.hose_journal.specs.Reading.{HasFailed};
-ghost use Rattle.hose_store.specs.Commit.{Closes, Went};
-ghost use Rattle.hose_store.specs.Opening.{HasGiven, IsAtOpening, IsOpenedOn, IsRefusedStore};
+ghost use Rattle.hose_store.specs.steps.Commit.{Closes, Went};
+ghost use Rattle.hose_store.specs.Opening.{IsAtOpening, IsRefusedStore};
+ghost use Rattle.hose_store.specs.steps.Opening.{HasGiven, IsOpenedOn};
 ghost use Rattle.hose_store.specs.Recovery.{digest_of};
-ghost use Rattle.hose_store.specs.Store.{HasHistory};
+ghost use Rattle.hose_store.specs.steps.Store.{HasHistory};
 
 use crate::committing::{add, settle_or_sync};
 use crate::fault::StoreFault;
@@ -38,7 +40,7 @@ pub struct Store<D: Disk> {
 impl<D: Disk> Model for Store<D> {
     ghost use Rattle.std.specs.Prelude.{List, Option};
     ghost use Rattle.hose_graph.specs.declared.entry.Entry.{Entry};
-    ghost use Rattle.hose_store.specs.Store.{KeptStore, HasHistory};
+    ghost use Rattle.hose_store.specs.steps.Store.{KeptStore, HasHistory};
 
     ghost Value = { KeptStore D };
 

@@ -1,14 +1,16 @@
 -- A talk over a whole input, which stands behind the borrow that its reader holds.
 use Rattle.std.proofs.Common.{◌≡◌, ℕ, ◌∷◌, List, [], ◌++◌, MutBor, Result, Ok, Err, ap, drop, subst}
 use Rattle.std.specs.Borrow.{GName}
-use Rattle.hose_io.specs.Borrowed.{borrowed}
+use Rattle.hose_io.specs.steps.Borrowed.{borrowed}
 use Rattle.hose_io.specs.Frame.{Frame, Rose}
 use Rattle.hose_io.specs.declared.sink.Sink.{Ghosts as SinkGhosts}
 use Rattle.hose_io.specs.declared.source.Source.{Ghosts as SourceGhosts}
-use Rattle.hose_words.specs.Lines.{Reader}
+use Rattle.hose_words.specs.steps.Lines.{Reader}
 use Rattle.hose_words.specs.Reading.{WhereTold}
-use Rattle.hose_words.specs.Saying.{SayLines, SaysUpTo}
-use Rattle.hose_talk.specs.Talk.{TalksByInput, TalksByReader, TalksUpTo, TellsOf}
+use Rattle.hose_words.specs.Saying.{SayLines}
+use Rattle.hose_words.specs.steps.Saying.{SaysUpTo}
+use Rattle.hose_talk.specs.Talk.{TalksUpTo, TellsOf}
+use Rattle.hose_talk.specs.steps.Talk.{TalksByInput, TalksByReader}
 use Rattle.hose_talk.specs.declared.answers.Answers.{Ghosts}
 use Rattle.hose_talk.specs.declared.talking.TalkEnd.{TalkEnd}
 use Rattle.hose_talk.specs.declared.talking.TalkEnd.TheVariants as talk_end

@@ -6,17 +6,20 @@ use Rattle.hose_io.specs.Writing.{GrowsInPart}
 use Rattle.hose_io.proofs.Streams.{Grows-nil, Grows-append}
 use Rattle.hose_io.specs.declared.sink.Sink.{Ghosts as SinkGhosts}
 use Rattle.hose_io.specs.declared.source.Source.{Ghosts as SourceGhosts}
-use Rattle.hose_words.specs.Lines.{IsNext, Reader, StopsAfterLines}
-use Rattle.hose_words.specs.Reading.{ReadsOn}
-use Rattle.hose_words.specs.Saying.{IsAllTaken, IsLeftOver, SaysUpTo, StopsReading}
+use Rattle.hose_words.specs.Lines.{StopsAfterLines}
+use Rattle.hose_words.specs.steps.Lines.{IsNext, Reader}
+use Rattle.hose_words.specs.steps.Reading.{ReadsOn}
+use Rattle.hose_words.specs.Saying.{IsAllTaken, IsLeftOver}
+use Rattle.hose_words.specs.steps.Saying.{SaysUpTo, StopsReading}
 use Rattle.hose_words.specs.declared.lines.TheConstants.{INPUT_LIMIT}
 use Rattle.hose_words.specs.declared.lines.Line.{Line}
 use Rattle.hose_words.specs.declared.lines.LineFault.{LineFault}
 use Rattle.hose_words.specs.declared.lines.LineFault.TheVariants as line_fault
 use Rattle.hose_words.proofs.Saying.{flat_map-last, met_fault, rose_now, said_all, said_enough, said_more, said_none, said_until, takes_line}
-use Rattle.hose_talk.specs.Said.{ComesOn}
-use Rattle.hose_talk.specs.Talk.{AllOut, Exchanges, HasTalked, KeepsFault, LastCut, TakesReply, TalksByReader, TalksUpTo}
-use Rattle.hose_talk.specs.TalkFaults.{of_line}
+use Rattle.hose_talk.specs.steps.Said.{ComesOn}
+use Rattle.hose_talk.specs.Talk.{AllOut, LastCut, TalksUpTo}
+use Rattle.hose_talk.specs.steps.Talk.{Exchanges, HasTalked, KeepsFault, TakesReply, TalksByReader}
+use Rattle.hose_talk.specs.steps.TalkFaults.{of_line}
 use Rattle.hose_talk.specs.declared.answers.Answers.{Ghosts}
 use Rattle.hose_talk.specs.declared.talking.TalkEnd.TheVariants as talk_end
 use Rattle.hose_talk.specs.declared.talking.TalkFault.{TalkFault}

@@ -1,3 +1,2 @@
-pub mod Said
 pub mod Talk
-pub mod TalkFaults
+pub mod steps

@@ -1,7 +1,7 @@
 // Who answers the lines of a talk.
 ghost use Rattle.std.specs.Prelude.{◌≡◌, ℕ, List, Bool, false};
-ghost use Rattle.hose_io.specs.Writing.{IsPut};
-ghost use Rattle.hose_talk.specs.Said.{ComesOn};
+ghost use Rattle.hose_io.specs.steps.Writing.{IsPut};
+ghost use Rattle.hose_talk.specs.steps.Said.{ComesOn};
 
 use hose_io::{Failed, Sink};
 use hose_words::Line;

@@ -2,8 +2,8 @@
 ghost use Rattle.std.specs.Prelude.{◌≡◌, ◌↔◌, ◌+◌, ◌<◌, ◌≤◌, ℕ, [], Err, List, None, false, length};
 ghost use Rattle.hose_io.specs.Frame.{Stays};
 ghost use Rattle.hose_io.specs.Stream.{Gives};
-ghost use Rattle.hose_words.specs.Reading.{ReadsOn};
-ghost use Rattle.hose_talk.specs.Talk.{Exchanges, KeepsFault, TalksByInput, TalksByReader};
+ghost use Rattle.hose_words.specs.steps.Reading.{ReadsOn};
+ghost use Rattle.hose_talk.specs.steps.Talk.{Exchanges, KeepsFault, TalksByInput, TalksByReader};
 
 use crate::Answers;
 use hose_io::{Failed, Sink, Source};
@@ -31,7 +31,7 @@ pub enum TalkFault {
 
 impl From<LineFault> for TalkFault {
     ghost use Rattle.std.specs.Prelude.{◌≡◌};
-    ghost use Rattle.hose_talk.specs.TalkFaults.{of_line};
+    ghost use Rattle.hose_talk.specs.steps.TalkFaults.{of_line};
 
     ghost from_gives = { λ fault made. made ≡ of_line fault };
 

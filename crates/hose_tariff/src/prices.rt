@@ -2,7 +2,7 @@
 ghost use Rattle.std.specs.Prelude.{◌≡◌, ◌≤◌, ℕ, IfOk, OnOk, length, vec_capacity};
 ghost use Rattle.hose_graph.specs.Network.{IsNetwork, Network};
 ghost use Rattle.hose_tariff.specs.Fact.{IsPricedBy};
-ghost use Rattle.hose_tariff.specs.Rules.{AnswersBy, with_costs};
+ghost use Rattle.hose_tariff.specs.steps.Rules.{AnswersBy, with_costs};
 
 use crate::tariff::{Rule, Tariff};
 use hose_graph::{Link, Topology};

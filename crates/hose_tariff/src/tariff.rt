@@ -2,7 +2,8 @@
 ghost use Rattle.std.specs.Prelude.{◌≡◌, ◌≢◌, ◌↔◌, ℕ, ◌<◌, ◌≤◌, IfNone, IfSome, length, slice_index_or};
 ghost use Rattle.hose_graph.specs.Limit.{IsUpTo};
 ghost use Rattle.hose_graph.specs.declared.limits.TheConstants.{MOST_COST, MOST_LENGTH};
-ghost use Rattle.hose_tariff.specs.Fact.{KeepsFact, IsPrice};
+ghost use Rattle.hose_tariff.specs.Fact.{IsPrice};
+ghost use Rattle.hose_tariff.specs.steps.Fact.{KeepsFact};
 
 use hose_graph::Name;
 

@@ -3,8 +3,10 @@ use Rattle.std.proofs.Common.{◌≡◌, ◌∙◌, ℕ, ◌+◌, ◌≤◌, Lis
 use Rattle.std.specs.List.{after_first}
 use Rattle.hose_io.specs.declared.source.Source.{Ghosts}
 use Rattle.hose_words.specs.Words.{words_of}
-use Rattle.hose_words.specs.Lines.{Reader, GivesLine, IsNext, StopsAt, StopsAfterLines, is_line_feed}
-use Rattle.hose_words.specs.Reading.{ReadsOn, WhereTold}
+use Rattle.hose_words.specs.Lines.{StopsAt, StopsAfterLines, is_line_feed}
+use Rattle.hose_words.specs.steps.Lines.{Reader, GivesLine, IsNext}
+use Rattle.hose_words.specs.Reading.{WhereTold}
+use Rattle.hose_words.specs.steps.Reading.{ReadsOn}
 use Rattle.hose_words.specs.declared.lines.Line.{Line}
 use Rattle.hose_words.specs.declared.lines.Line.TheVariants.{Text, Long}
 use Rattle.hose_words.specs.declared.lines.LineFault.{LineFault}
@@ -12,8 +14,8 @@ use Rattle.hose_words.specs.declared.lines.TheConstants.{INPUT_LIMIT}
 use Rattle.hose_words.proofs.OnReading.{ReadsOn-next, ReadsOn-start, ReadsOn-then, WhereTold-both, WhereTold-map, WhereTold-same, WhereTold-then}
 use Rattle.hose_graph.specs.Network.{Network, IsNetwork}
 use Rattle.hose_words.specs.declared.lines.LineFault.TheVariants.{Read, TooLong}
-use Rattle.hose_topo.specs.Reading.{fault_of}
-use Rattle.hose_topo.specs.Taken.{TakesRead, TakesNext}
+use Rattle.hose_topo.specs.steps.Reading.{fault_of}
+use Rattle.hose_topo.specs.steps.Taken.{TakesRead, TakesNext}
 use Rattle.hose_topo.specs.TopologyText.{HasLine, AddLines, no_more, no_network, IsTopologyText, IsWrongLine, IsWrongAt}
 use Rattle.hose_topo.specs.declared.line.Taken.{Taken}
 use Rattle.hose_topo.specs.declared.line.Taken.TheVariants.{Added, End, Wrong}

@@ -1,6 +1,6 @@
 -- A line that is wrong at a word neither adds to the network nor ends the text.
 use Rattle.std.proofs.Common.{◌≡◌, ℕ, List, [], ◌∷◌, codes, decimal, inl, inr, refl, sym, subst, arith}
-use Rattle.hose_words.specs.Cursor.{IsWrong, Position, Took}
+use Rattle.hose_words.specs.steps.Cursor.{IsWrong, Position, Took}
 use Rattle.hose_words.specs.Form.{maybe, finish}
 use Rattle.hose_words.specs.Grammar.{IsFirstNotAllowed}
 use Rattle.hose_words.proofs.Forms.{AreApart, apart_by, wrong_chosen}

@@ -1,5 +1,4 @@
 pub mod Canonical
-pub mod Hashing
 pub mod Reading
-pub mod Taken
 pub mod TopologyText
+pub mod steps

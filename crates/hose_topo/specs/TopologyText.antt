@@ -61,12 +61,6 @@ AddsLine network words next =
 abbrev pub EndsText : Network → List (List ℕ) → Type 0
 EndsText network words = (words ≡ codes "end" ∷ []) × (0 < length network.nodes)
 
--- what a line that is not passed over does, by its kind
-abbrev pub TellsLine : Network → LineKind → List (List ℕ) → Network → Type 0
-TellsLine network kind.Node words next = AddsNode network words next
-TellsLine network kind.Link words next = AddsLink network words next
-TellsLine network kind.End words next = EndsText network words × (next ≡ network)
-
 -- ---- the text
 
 -- the words of the first line of a text, if it has a line and that is not too long

@@ -2,7 +2,7 @@
 ghost use Rattle.std.specs.Prelude.{◌≡◌, ℕ, ◌<◌, List, ◌++◌, codes, length};
 ghost use Rattle.std.specs.List.{flat_map};
 ghost use Rattle.sha2.specs.Sha256.{sha256};
-ghost use Rattle.hose_io.specs.Writing.{IsPut};
+ghost use Rattle.hose_io.specs.steps.Writing.{IsPut};
 ghost use Rattle.hose_graph.specs.Network.{IsLink, name_of};
 ghost use Rattle.hose_topo.specs.Canonical.{canonical_text, node_line, link_line};
 ghost use Rattle.hose_topo.specs.TopologyText.{IsTopologyText};

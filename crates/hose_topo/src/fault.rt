@@ -1,7 +1,7 @@
 // Why no topology was read.
 ghost use Rattle.std.specs.Prelude.{◌≡◌};
 ghost use Rattle.hose_topo.specs.declared.fault.TopoFault.TheVariants.{Memory};
-ghost use Rattle.hose_topo.specs.Reading.{fault_of};
+ghost use Rattle.hose_topo.specs.steps.Reading.{fault_of};
 
 use hose_words::LineFault;
 use std::alloc::AllocError;

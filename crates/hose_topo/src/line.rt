@@ -1,12 +1,13 @@
 // One line of a topology's text.
 ghost use Rattle.std.specs.Prelude.{◌≡◌, ◌⊎◌, ◌∷◌, [], ◌↔◌, codes, decimal, IfOk, OnOk, IfErr, OnErr, IsTrue};
-ghost use Rattle.hose_words.specs.Cursor.{Took, IsWrong, Misses};
+ghost use Rattle.hose_words.specs.steps.Cursor.{Took, IsWrong, Misses};
 ghost use Rattle.hose_words.specs.Form.{IsChoice, finish, maybe};
 ghost use Rattle.hose_words.specs.Words.{words_of};
 ghost use Rattle.hose_graph.specs.Limit.{IsUpTo};
 ghost use Rattle.hose_graph.specs.Network.{IsLink, IsNetwork, IsNodeOf, HasLinkRoom, HasNodeRoom, name_of};
-ghost use Rattle.hose_topo.specs.Taken.{TakesWords};
-ghost use Rattle.hose_topo.specs.TopologyText.{AddsLink, AddsNode, IsNewName, IsOtherNode, MayCome, TellsLink, TellsLine, kind_word, line_form, link_form, node_form, number_form};
+ghost use Rattle.hose_topo.specs.steps.Taken.{TakesWords};
+ghost use Rattle.hose_topo.specs.TopologyText.{AddsLink, AddsNode, IsNewName, IsOtherNode, MayCome, TellsLink, kind_word, line_form, link_form, node_form, number_form};
+ghost use Rattle.hose_topo.specs.steps.TopologyText.{TellsLine};
 
 use hose_graph::{
     Link, MOST_CAPACITY, MOST_COST, MOST_LENGTH, MOST_LINKS, MOST_NODES, Name, Topology,

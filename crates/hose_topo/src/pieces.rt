@@ -1,9 +1,9 @@
 // What takes a text piece by piece: a sink by way of a gatherer, or a hasher.
 ghost use Rattle.std.specs.Prelude.{◌≡◌, ℕ, List, [], ◌++◌, decimal, refl};
 ghost use Rattle.std.proofs.Common.{◌∙◌};
-ghost use Rattle.hose_io.specs.Gather.{IsAdded};
+ghost use Rattle.hose_io.specs.steps.Gather.{IsAdded};
 ghost use Rattle.hose_io.proofs.Gathering.{IsAdded-none, IsAdded-next};
-ghost use Rattle.hose_topo.specs.Hashing.{Hashes, Hashes-none, Hashes-next};
+ghost use Rattle.hose_topo.specs.steps.Hashing.{Hashes, Hashes-none, Hashes-next};
 
 use hose_io::{Gather, Sink};
 use itoa::Buffer;

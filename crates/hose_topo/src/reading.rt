@@ -1,11 +1,13 @@
 // A topology's text, line by line.
 ghost use Rattle.std.specs.Prelude.{◌≡◌, ◌⊎◌, ◌↔◌, ℕ, ◌+◌, ◌<◌, ◌≤◌, List, ◌++◌, length, Some, None, Ok, Err, IfOk};
 ghost use Rattle.hose_io.specs.Frame.{Rose};
-ghost use Rattle.hose_words.specs.Reading.{ReadsOn, WhereTold};
+ghost use Rattle.hose_words.specs.Reading.{WhereTold};
+ghost use Rattle.hose_words.specs.steps.Reading.{ReadsOn};
 ghost use Rattle.hose_words.specs.declared.lines.LineFault.{LineFault};
 ghost use Rattle.hose_graph.specs.Network.{Network, IsNetwork};
-ghost use Rattle.hose_topo.specs.Reading.{StopsInTopology, fault_of, KeepsLineFault};
-ghost use Rattle.hose_topo.specs.Taken.{TakesNext};
+ghost use Rattle.hose_topo.specs.Reading.{StopsInTopology};
+ghost use Rattle.hose_topo.specs.steps.Reading.{fault_of, KeepsLineFault};
+ghost use Rattle.hose_topo.specs.steps.Taken.{TakesNext};
 ghost use Rattle.hose_topo.specs.TopologyText.{IsTopologyText, IsWrongAt};
 
 use crate::fault::TopoFault;

@@ -11,8 +11,8 @@ use Rattle.hose_law.specs.Tree.{IsTreeReservation}
 use Rattle.hose_law.specs.Walk.{all_links}
 use Rattle.hose_law.proofs.Apart.{apart_rising}
 use Rattle.hose_law.proofs.Bounds.{reserved_few}
-use Rattle.hose_tree.specs.Peeling.{IsForestOf, IsPossible, IsYes, Question, StandsForQuestion}
-use Rattle.hose_tree.specs.Rates.{AreRatesOf}
+use Rattle.hose_tree.specs.steps.Peeling.{IsForestOf, IsPossible, IsYes, Question, StandsForQuestion}
+use Rattle.hose_tree.specs.steps.Rates.{AreRatesOf}
 use Rattle.hose_tree.specs.declared.judge.Forest.{Forest}
 use Rattle.hose_tree.proofs.Judging.{distinct_apart, reservation_is_possible, reservation_of_tree, tree_of_reservation}
 

@@ -15,7 +15,7 @@ use Rattle.hose_law.proofs.Joined.{joined}
 use Rattle.hose_law.proofs.Distances.{distance_unique}
 use Rattle.hose_law.proofs.Rows.{tight_nearer, tight_not_root, row_has_tight_link, row_leads_nearer, row_tight_link}
 use Rattle.hose_law.proofs.TightWays.{other_unique, other_nearer, tight_way, on_after}
-use Rattle.hose_tree.specs.Attached.{IsTightTree, IsAttached, IsNoFarther, IsOnTightWay}
+use Rattle.hose_tree.specs.steps.Attached.{IsTightTree, IsAttached, IsNoFarther, IsOnTightWay}
 use Rattle.hose_graph.proofs.Members.{contains_first, contains_rest, first_or_rest}
 
 -- a node that has a distance is a place of the row

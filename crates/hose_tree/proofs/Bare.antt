@@ -5,7 +5,7 @@ use Rattle.std.proofs.lemmas.List.{get_or-take, get_or_default, length-take, nil
 use Rattle.hose_graph.specs.Hose.{total_rate}
 use Rattle.hose_graph.specs.Network.{Network}
 use Rattle.hose_law.specs.Book.{amount_on}
-use Rattle.hose_tree.specs.Peeling.{HasNoLeafBelow, IsTreeOf, IsYes, Question, StandsForQuestion}
+use Rattle.hose_tree.specs.steps.Peeling.{HasNoLeafBelow, IsTreeOf, IsYes, Question, StandsForQuestion}
 use Rattle.hose_tree.specs.declared.judge.Forest.{Forest}
 use Rattle.hose_tree.proofs.Judging.{bare_node, bare_tree, has_leaf}
 

@@ -19,8 +19,8 @@ use Rattle.hose_law.specs.Walk.{Joins}
 use Rattle.hose_law.proofs.Joined.{joins_nodes}
 use Rattle.hose_law.proofs.Trees.{amount_on-le, moved, moved_node, moved_total, step_amounts-le}
 use Rattle.hose_law.proofs.Walks.{joins_turned}
-use Rattle.hose_tree.specs.Peeling.{AreLeavesStill, HasRoom, IsForestOf, IsLinked, IsInSums, IsPossible, IsYes, AreSumsOf, Question, StandsForQuestion, at_ends, sum_at}
-use Rattle.hose_tree.specs.Rates.{AreRatesOf}
+use Rattle.hose_tree.specs.steps.Peeling.{AreLeavesStill, HasRoom, IsForestOf, IsLinked, IsInSums, IsPossible, IsYes, AreSumsOf, Question, StandsForQuestion, at_ends, sum_at}
+use Rattle.hose_tree.specs.steps.Rates.{AreRatesOf}
 use Rattle.hose_tree.specs.declared.judge.Forest.{Forest}
 use Rattle.hose_tree.proofs.Moving.{rates_moved}
 use Rattle.hose_tree.proofs.Peels.{all_members, peel_off, peel_on}

@@ -22,7 +22,7 @@ use Rattle.hose_law.proofs.Reservations.{first_there, pair_there, reserved_in_tr
 use Rattle.hose_law.proofs.TightWays.{from_reverse, in_reverse}
 use Rattle.hose_law.proofs.Trees.{amount_on-le, distinct_behind, link_ends_on, on_reverse, rate_beyond-le}
 use Rattle.hose_law.proofs.Walks.{joins_turned}
-use Rattle.hose_tree.specs.Peeling.{IsPossible, IsTreeOf, smaller_up, sum_at}
+use Rattle.hose_tree.specs.steps.Peeling.{IsPossible, IsTreeOf, smaller_up, sum_at}
 use Rattle.hose_tree.proofs.Touching.{ends_at, ends_once, leads_to, zero_sum}
 use Rattle.hose_tree.proofs.Peels.{all_members}
 

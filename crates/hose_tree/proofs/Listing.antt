@@ -6,10 +6,10 @@ use Rattle.std.proofs.lemmas.List.{length_push, get_or_append_left, get_or_push}
 use Rattle.std.proofs.lemmas.List.Elements.{Contains-push, Contains-append_left, Contains-push_cases, All-push}
 use Rattle.hose_graph.specs.Network.{Network, IsNetwork}
 use Rattle.hose_law.specs.Walk.{IsIn, IsWalk, Reaches}
-use Rattle.hose_law.specs.Plan.{IsReachedSet}
+use Rattle.hose_law.specs.steps.Plan.{IsReachedSet}
 use Rattle.hose_law.specs.Decision.{IsReachedList}
 use Rattle.hose_law.proofs.Joined.{joins_nodes}
-use Rattle.hose_tree.specs.Nodes.{AreNodesBelow}
+use Rattle.hose_tree.specs.steps.Nodes.{AreNodesBelow}
 
 -- numbers that rise go on rising by one that is above all of them
 rises_push : (xs : List ℕ) (y : ℕ) → IsStrictlyIncreasing xs → All (λ x. x < y) xs → IsStrictlyIncreasing (xs ++ y ∷ [])

@@ -15,7 +15,7 @@ use Rattle.hose_graph.proofs.Members.{first_or_rest, none_in_empty}
 use Rattle.hose_law.specs.Tree.{Growth, Grow, IsTree, goes_along, links_up}
 use Rattle.hose_law.specs.Walk.{Joins}
 use Rattle.hose_law.proofs.Joined.{joins_nodes}
-use Rattle.hose_tree.specs.Side.{AreBeyond}
+use Rattle.hose_tree.specs.steps.Side.{AreBeyond}
 
 -- the link of each step joins the step's nodes
 step_joins : (network : Network) (start : ℕ) (steps : List Step) → Grow network start steps → (step : Step) → Contains steps step → Joins network step.link step.old step.new

@@ -3,12 +3,12 @@ use Rattle.std.proofs.Common.{◌≡◌, ◌∙◌, ℕ, ◌<◌, ◌≤◌, Boo
 use Rattle.std.proofs.lemmas.List.{get_or-map}
 use Rattle.hose_graph.specs.Hose.{IsHose}
 use Rattle.hose_graph.specs.declared.limits.TheConstants.{MOST_RATE}
-use Rattle.hose_law.specs.Heaviest.{lies_beyond}
+use Rattle.hose_law.specs.steps.Heaviest.{lies_beyond}
 use Rattle.hose_law.specs.Matrix.{IsWithinRates, demand, node_at, rate_at, sum_below}
 use Rattle.hose_law.specs.Route.{matrix_load, one_alone}
 use Rattle.hose_law.specs.Tree.{Growth}
 use Rattle.hose_law.proofs.Sums.{same_sums, term-le}
-use Rattle.hose_tree.specs.Side.{AreBeyond, is_marked, sent_across}
+use Rattle.hose_tree.specs.steps.Side.{AreBeyond, is_marked, sent_across}
 
 -- a rate is within its limit
 pub rate-le : (hose : List (ℕ × ℕ)) → IsHose hose → (i : ℕ) → i < length hose → rate_at hose i ≤ MOST_RATE

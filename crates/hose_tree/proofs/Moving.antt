@@ -8,7 +8,7 @@ use Rattle.hose_graph.specs.declared.topology.Step.{Step}
 use Rattle.hose_graph.proofs.Endpoints.{total_rate-le}
 use Rattle.hose_law.specs.Book.{amount_on}
 use Rattle.hose_law.proofs.Trees.{moved, moved_at_old, moved_at_new, moved_at_others}
-use Rattle.hose_tree.specs.Rates.{AreRatesOf}
+use Rattle.hose_tree.specs.steps.Rates.{AreRatesOf}
 
 -- an endpoint's node has a place, and its rate can be added there
 pub end_is_node : (ends : List (ℕ × ℕ)) (i : ℕ) → IsHose ends → i < length ends → (get_or ends i (0, 0)).0 < MOST_NODES

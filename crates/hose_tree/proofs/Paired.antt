@@ -4,13 +4,13 @@ use Rattle.std.specs.List.{All, range_with_len}
 use Rattle.std.specs.Prelude.{nat_lt}
 use Rattle.std.proofs.lemmas.List.{get_or-map, length-map, map-append}
 use Rattle.std.proofs.lemmas.List.FromFn.{get_or-map-range_with_len, length-map-range_with_len, map-range_with_len_more}
-use Rattle.hose_law.specs.Heaviest.{IsPairedOff, common, lies_beyond, rate_before}
+use Rattle.hose_law.specs.steps.Heaviest.{IsPairedOff, common, lies_beyond, rate_before}
 use Rattle.hose_law.specs.Matrix.{IsWithinRates, rate_at}
 use Rattle.hose_law.specs.Route.{matrix_load, one_alone}
 use Rattle.hose_law.specs.Tree.{Growth, smaller_side}
 use Rattle.hose_law.proofs.PairedOff.{paired_load, paired_within}
 use Rattle.hose_law.proofs.Sums.{same_sums}
-use Rattle.hose_tree.specs.Side.{AreBeyond, is_marked, paired}
+use Rattle.hose_tree.specs.steps.Side.{AreBeyond, is_marked, paired}
 use Rattle.hose_tree.proofs.Marks.{marked_beyond}
 
 -- the first k rows

@@ -20,7 +20,7 @@ use Rattle.hose_law.proofs.Reservations.{first_there, pair_there}
 use Rattle.hose_law.proofs.Routes.{smaller_alike}
 use Rattle.hose_law.proofs.Trees.{link_is_new, on_new, on_still, moved, moved_node, moved_total, moved_beyond, last_beyond, rate_up}
 use Rattle.hose_law.proofs.Walks.{joins_turned}
-use Rattle.hose_tree.specs.Peeling.{IsTreeOf, smaller_up}
+use Rattle.hose_tree.specs.steps.Peeling.{IsTreeOf, smaller_up}
 use Rattle.hose_tree.proofs.Leaves.{IsCut, cut, touched}
 
 -- what holds of all of a list that it has

@@ -4,10 +4,11 @@ use Rattle.std.proofs.lemmas.List.{get_or-set_same, get_or-set_other}
 use Rattle.std.proofs.lemmas.List.Sums.{sum_by-set, sum_by-cons}
 use Rattle.std.proofs.lemmas.Bool.{cases_eq, cond_both, false≢true}
 use Rattle.hose_graph.specs.Network.{Network}
-use Rattle.hose_law.specs.Walk.{IsIn, Joins, Reaches, IsClosedSide}
-use Rattle.hose_law.specs.Plan.{IsReachedSet}
+use Rattle.hose_law.specs.Walk.{IsIn, Joins, Reaches}
+use Rattle.hose_law.specs.steps.Walk.{IsClosedSide}
+use Rattle.hose_law.specs.steps.Plan.{IsReachedSet}
 use Rattle.hose_law.proofs.Walks.{joins_turned, reaches_itself, reaches_on, reaches_along, stays}
-use Rattle.hose_tree.specs.Reach.{count_on, AllReached}
+use Rattle.hose_tree.specs.steps.Reach.{count_on, AllReached}
 
 -- a node that is on it stays on it
 pub put_keeps : (side : List Bool) (i v : ℕ) → i < length side → IsIn side v → IsIn (set side i true) v

@@ -11,7 +11,7 @@ use Rattle.hose_graph.specs.Network.{Network}
 use Rattle.hose_graph.specs.declared.topology.Step.{Step}
 use Rattle.hose_law.specs.Tree.{Growth, IsTree, IsReservation, smaller_side, step_links}
 use Rattle.hose_law.proofs.Trees.{tree_links_differ}
-use Rattle.hose_tree.specs.Rates.{reserved_by}
+use Rattle.hose_tree.specs.steps.Rates.{reserved_by}
 use Rattle.hose_graph.proofs.Members.{contains_first, contains_rest, first_or_rest, none_in_empty}
 
 -- pairs that begin with distinct numbers ascend once they are sorted by those

@@ -11,7 +11,7 @@ use Rattle.hose_graph.specs.Network.{Network, IsNetwork}
 use Rattle.hose_graph.specs.declared.topology.Link.{Link}
 use Rattle.hose_law.specs.Walk.{Joins}
 use Rattle.hose_law.proofs.Joined.{joins_nodes}
-use Rattle.hose_tree.specs.Peeling.{at_ends, sum_at}
+use Rattle.hose_tree.specs.steps.Peeling.{at_ends, sum_at}
 
 -- a sum is 0 just where each part is
 all_zero : {X : Type 0} (f : X → ℕ) (xs : List X) → sum_by f xs ≡ 0 → All (λ (x : X). f x ≡ 0) xs

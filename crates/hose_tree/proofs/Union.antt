@@ -13,7 +13,7 @@ use Rattle.hose_law.specs.CanonicalPlan.{IsTightWay, IsOnWay, IsCanonicalTree}
 use Rattle.hose_law.proofs.Joined.{joins_nodes}
 use Rattle.hose_law.proofs.Rows.{row_distance}
 use Rattle.hose_law.proofs.TightWays.{in_reverse, from_reverse, way_stays}
-use Rattle.hose_tree.specs.Attached.{IsTightTree, IsAttached}
+use Rattle.hose_tree.specs.steps.Attached.{IsTightTree, IsAttached}
 use Rattle.hose_tree.proofs.Attaching.{its_distance, is_node}
 use Rattle.hose_graph.proofs.Members.{first_or_rest}
 

@@ -9,7 +9,7 @@ use Rattle.hose_graph.specs.declared.topology.Step.{Step}
 use Rattle.hose_law.specs.Tree.{Growth, Grow, IsTree, rate_beyond, smaller_side, step_links}
 use Rattle.hose_law.proofs.Joined.{joins_nodes}
 use Rattle.hose_law.proofs.Trees.{moved, rate_up, rate_beyond-le, link_is_new, old_is_not_new, last_beyond, moved_beyond, moved_total, step_amounts-le}
-use Rattle.hose_tree.specs.Rates.{AreRatesOf, reserved_by}
+use Rattle.hose_tree.specs.steps.Rates.{AreRatesOf, reserved_by}
 use Rattle.hose_tree.proofs.Moving.{rates_moved}
 
 -- With these steps left, the last one first: where the rates have moved to, and the amounts of the steps that are off.

@@ -4,7 +4,7 @@ ghost use Rattle.hose_graph.specs.Amounts.{amount_of};
 ghost use Rattle.hose_law.specs.Decision.{Fits};
 ghost use Rattle.hose_law.specs.Plan.{plan_cost};
 ghost use Rattle.hose_law.specs.Room.{free_rates};
-ghost use Rattle.hose_tree.specs.Amounts.{AreOnLinks, AreCarried};
+ghost use Rattle.hose_tree.specs.steps.Amounts.{AreOnLinks, AreCarried};
 
 use hose_graph::{Amounts, MOST_AMOUNT, MOST_TREE_LINKS, Topology};
 

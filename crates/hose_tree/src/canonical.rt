@@ -6,7 +6,7 @@ ghost use Rattle.hose_graph.specs.Row.{distance_of, tight_link_of};
 ghost use Rattle.hose_law.specs.CanonicalPlan.{IsCanonicalTree};
 ghost use Rattle.hose_law.specs.Row.{IsRow};
 ghost use Rattle.hose_law.specs.Walk.{Joins};
-ghost use Rattle.hose_tree.specs.Attached.{IsTightTree, IsAttached};
+ghost use Rattle.hose_tree.specs.steps.Attached.{IsTightTree, IsAttached};
 
 use crate::Tree;
 use hose_graph::{Hose, Row, Step, Topology};

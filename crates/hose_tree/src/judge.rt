@@ -4,7 +4,7 @@ ghost use Rattle.std.specs.Prelude.{◌≡◌, ◌↔◌, ℕ, ◌+◌, ◌*◌,
 ghost use Rattle.hose_graph.specs.Network.{IsNetwork};
 ghost use Rattle.hose_law.specs.Tree.{IsTreeReservation};
 ghost use Rattle.hose_law.specs.Walk.{all_links};
-ghost use Rattle.hose_tree.specs.Peeling.{AreLeavesStill, HasNoLeafBelow, HasNodePlaces, HasRoom, IsAddedAt, IsForestOf, IsLinked, IsNo, IsInSums, IsPossible, IsYes, KeepsQuestions, Question, StandsForQuestion, StandsForSome};
+ghost use Rattle.hose_tree.specs.steps.Peeling.{AreLeavesStill, HasNoLeafBelow, HasNodePlaces, HasRoom, IsAddedAt, IsForestOf, IsLinked, IsNo, IsInSums, IsPossible, IsYes, KeepsQuestions, Question, StandsForQuestion, StandsForSome};
 
 use crate::canonical::other_end;
 use crate::reserve::{add_rates, move_rate};

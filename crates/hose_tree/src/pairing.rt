@@ -1,11 +1,11 @@
 // The traffic within the rates of a hose that puts the most on a link of a tree.
 ghost use Rattle.std.specs.Prelude.{◌≡◌, ◌≤◌, ◌+◌, ◌<◌, ◌*◌, IfOk, length, map};
 ghost use Rattle.std.specs.List.{range_with_len};
-ghost use Rattle.hose_law.specs.Heaviest.{IsPairedOff, common, rate_before};
+ghost use Rattle.hose_law.specs.steps.Heaviest.{IsPairedOff, common, rate_before};
 ghost use Rattle.hose_law.specs.Matrix.{IsWithinRates, rate_at};
 ghost use Rattle.hose_law.specs.Route.{matrix_load};
 ghost use Rattle.hose_law.specs.Tree.{JoinsHose, smaller_side};
-ghost use Rattle.hose_tree.specs.Side.{is_marked, paired};
+ghost use Rattle.hose_tree.specs.steps.Side.{is_marked, paired};
 
 use crate::Tree;
 use crate::matrix::Matrix;

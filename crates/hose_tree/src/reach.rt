@@ -2,10 +2,11 @@
 ghost use Rattle.std.specs.Prelude.{◌≡◌, ◌≢◌, ℕ, ◌<◌, false, true, length, replicate, All, IfOk, slice_index_or, slice_set};
 ghost use Rattle.hose_graph.specs.Network.{IsNetwork};
 ghost use Rattle.hose_law.specs.Decision.{IsReachedList};
-ghost use Rattle.hose_law.specs.Plan.{IsReachedSet};
-ghost use Rattle.hose_law.specs.Walk.{IsIn, IsClosedSide};
-ghost use Rattle.hose_tree.specs.Nodes.{AreNodesBelow};
-ghost use Rattle.hose_tree.specs.Reach.{count_on, AllReached, IsClosedAt};
+ghost use Rattle.hose_law.specs.steps.Plan.{IsReachedSet};
+ghost use Rattle.hose_law.specs.Walk.{IsIn};
+ghost use Rattle.hose_law.specs.steps.Walk.{IsClosedSide};
+ghost use Rattle.hose_tree.specs.steps.Nodes.{AreNodesBelow};
+ghost use Rattle.hose_tree.specs.steps.Reach.{count_on, AllReached, IsClosedAt};
 
 use hose_graph::{NodeList, Topology};
 use hose_links::LinkSet;

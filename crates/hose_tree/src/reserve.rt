@@ -4,7 +4,7 @@ ghost use Rattle.hose_graph.specs.Hose.{IsHose};
 ghost use Rattle.hose_graph.specs.Network.{Network};
 ghost use Rattle.hose_law.specs.Carries.{CarryOn};
 ghost use Rattle.hose_law.specs.Tree.{IsTree, JoinsHose, IsReservation};
-ghost use Rattle.hose_tree.specs.Rates.{AreRatesOf, reserved_by};
+ghost use Rattle.hose_tree.specs.steps.Rates.{AreRatesOf, reserved_by};
 
 use crate::Tree;
 use hose_graph::{Amounts, Endpoint, Hose, MOST_NODES, ReservedLink, Step};

@@ -4,7 +4,7 @@ ghost use Rattle.std.specs.Prelude.{◌≡◌, ℕ, ◌<◌, ◌≤◌, ◌*◌,
 ghost use Rattle.hose_law.specs.Matrix.{IsWithinRates, demand};
 ghost use Rattle.hose_law.specs.Route.{matrix_load};
 ghost use Rattle.hose_law.specs.Tree.{JoinsHose};
-ghost use Rattle.hose_tree.specs.Side.{AreBeyond, is_marked, sent_across};
+ghost use Rattle.hose_tree.specs.steps.Side.{AreBeyond, is_marked, sent_across};
 
 use crate::Tree;
 use crate::matrix::Matrix;

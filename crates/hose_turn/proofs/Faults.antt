@@ -9,8 +9,9 @@ use native.Mathlib.Decide.{dec_le}
 use lib.ListN.{get_elem?}
 use Rattle.atomic_table.proofs.Lists.{at_snoc}
 use Rattle.hose_turn.specs.declared.view.View.{View}
-use Rattle.hose_turn.specs.Faults.{end_of_count, rise, faults_of, IsFloored, IsTally}
-use Rattle.hose_turn.specs.Views.{nobody}
+use Rattle.hose_turn.specs.Faults.{end_of_count}
+use Rattle.hose_turn.specs.steps.Faults.{rise, faults_of, IsFloored, IsTally}
+use Rattle.hose_turn.specs.steps.Views.{nobody}
 use Rattle.hose_turn.proofs.Sums.{sum_set, sum_has}
 use Rattle.hose_turn.proofs.Seats.{seats_stay, only, not_on}
 

@@ -8,9 +8,10 @@ use Rattle.atomic_table.proofs.Lists.{at_snoc}
 use Rattle.hose_graph.specs.declared.entry.Entry.{Entry}
 use Rattle.hose_turn.specs.declared.view.View.{View}
 use Rattle.hose_turn.specs.declared.view.Origin.{Origin}
-use Rattle.hose_turn.specs.Places.{times, one_within, HasPlaces, HasSomePlaces}
-use Rattle.hose_turn.specs.Views.{nobody}
-use Rattle.hose_turn.specs.History.{IsInformed, IsHistory, owning}
+use Rattle.hose_turn.specs.Places.{times, one_within, HasPlaces}
+use Rattle.hose_turn.specs.steps.Places.{HasSomePlaces}
+use Rattle.hose_turn.specs.steps.Views.{nobody}
+use Rattle.hose_turn.specs.steps.History.{IsInformed, IsHistory, owning}
 use Rattle.hose_turn.proofs.Places.{times-append, one_within-push, one_within-none}
 use Rattle.hose_turn.proofs.Prefix.{prefix_self, prefix_push, prefix_length}
 use Rattle.hose_turn.proofs.Sums.{sum_set, sum_none, sum_has}

@@ -8,8 +8,8 @@ use lib.ListN.{get_elem?}
 use Rattle.atomic_table.specs.Table.{State}
 use Rattle.atomic_table.proofs.Lists.{set_else, at_snoc}
 use Rattle.hose_turn.specs.declared.view.View.{View}
-use Rattle.hose_turn.specs.Limits.{all_shares}
-use Rattle.hose_turn.specs.Line.{share_of, one_if, holding, bit, turning, HasOwnTicket, IsTicketQueue}
+use Rattle.hose_turn.specs.steps.Limits.{all_shares}
+use Rattle.hose_turn.specs.steps.Line.{share_of, one_if, holding, bit, turning, HasOwnTicket, IsTicketQueue}
 use Rattle.hose_turn.proofs.Sums.{sum_set, sum_below, sum_none, sum_has}
 use Rattle.hose_turn.proofs.Seats.{seats_stay, only, only_seat, was_theirs, no_some, not_on, num}
 

@@ -5,9 +5,10 @@ use Rattle.std.proofs.lemmas.Bool.Decides.{nat_tests}
 use mathlib.Core.List.{IsPrefix}
 use Rattle.hose_graph.specs.declared.entry.Entry.{Entry}
 use Rattle.hose_turn.specs.declared.view.View.{View}
-use Rattle.hose_turn.specs.Views.{glued, settled, IsAtRest}
+use Rattle.hose_turn.specs.steps.Views.{glued, settled, IsAtRest}
 use Rattle.hose_turn.proofs.Prefix.{prefix_length}
-use Rattle.hose_turn.specs.Places.{times, one_within, HasSomePlaces, AreApart}
+use Rattle.hose_turn.specs.Places.{times, one_within}
+use Rattle.hose_turn.specs.steps.Places.{HasSomePlaces, AreApart}
 
 pub times-append : (place : ℕ) (xs ys : List ℕ) → times place (xs ++ ys) ≡ times place xs + times place ys
 times-append place xs ys = sum_by-append _ xs ys

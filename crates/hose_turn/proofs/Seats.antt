@@ -6,7 +6,7 @@ use native.Mathlib.Decide.{ℕ_discrete}
 use lib.ListN.{get_elem?}
 use Rattle.atomic_table.proofs.Lists.{at_set, set_else}
 use Rattle.hose_turn.specs.declared.view.View.{View}
-use Rattle.hose_turn.specs.Line.{one_if, bit}
+use Rattle.hose_turn.specs.steps.Line.{one_if, bit}
 
 -- the step leaves the fact of each other seat, and its own seat has it
 pub seats_stay : (Fact : ℕ → View → Type 0) (views : List View) (seat : ℕ) (new : View) → Fact seat new

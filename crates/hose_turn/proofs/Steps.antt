@@ -14,15 +14,17 @@ use Rattle.atomic_table.proofs.Lists.{set_again, one_turn}
 use Rattle.hose_graph.specs.declared.entry.Entry.{Entry}
 use Rattle.hose_turn.specs.declared.view.View.{View}
 use Rattle.hose_turn.specs.declared.view.Origin.{Origin}
-use Rattle.hose_turn.specs.Limits.{all_shares}
-use Rattle.hose_turn.specs.Places.{HasPlaces, HasSomePlaces}
-use Rattle.hose_turn.specs.Faults.{end_of_count, IsFloored}
-use Rattle.hose_turn.specs.Known.{HasWholeHistory}
-use Rattle.hose_turn.specs.Views.{nobody, unborn, opener, cut, branch, glued, passed_on, known_of}
-use Rattle.hose_turn.specs.Line.{bit, share_of, IsTicketQueue}
-use Rattle.hose_turn.specs.History.{IsInformed, IsHistory}
-use Rattle.hose_turn.specs.Rule.{HasNoValue, HasOneHistory, RuleHolds}
-use Rattle.hose_turn.specs.Steps.{OpensLock, Looks, PassesOn, Draws, Counts, Settles}
+use Rattle.hose_turn.specs.steps.Limits.{all_shares}
+use Rattle.hose_turn.specs.Places.{HasPlaces}
+use Rattle.hose_turn.specs.steps.Places.{HasSomePlaces}
+use Rattle.hose_turn.specs.Faults.{end_of_count}
+use Rattle.hose_turn.specs.steps.Faults.{IsFloored}
+use Rattle.hose_turn.specs.steps.Known.{HasWholeHistory}
+use Rattle.hose_turn.specs.steps.Views.{nobody, unborn, opener, cut, branch, glued, passed_on, known_of}
+use Rattle.hose_turn.specs.steps.Line.{bit, share_of, IsTicketQueue}
+use Rattle.hose_turn.specs.steps.History.{IsInformed, IsHistory}
+use Rattle.hose_turn.specs.steps.Rule.{HasNoValue, HasOneHistory, RuleHolds}
+use Rattle.hose_turn.specs.steps.Steps.{OpensLock, Looks, PassesOn, Draws, Counts, Settles}
 use Rattle.hose_turn.proofs.Prefix.{prefix_self, prefix_shorter, prefix_push}
 use Rattle.hose_turn.proofs.Seats.{only, only_seat, was_theirs, no_some, not_on, num, opt_discrete}
 use Rattle.hose_turn.proofs.Line.{few_hold, alone, none_turns_yet, others_spent, line_splits, line_joins, line_stays, line_draws, line_takes, line_passes, line_opens, line_ends}

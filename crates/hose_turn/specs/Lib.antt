@@ -1,11 +1,4 @@
-pub mod Limits
 pub mod Places
 pub mod Faults
 pub mod Known
-pub mod Views
-pub mod Line
-pub mod History
-pub mod Rule
-pub mod Steps
-pub mod Held
-pub mod Bells
+pub mod steps

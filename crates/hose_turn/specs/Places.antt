@@ -1,5 +1,5 @@
 -- Places in the history, and who has them.
-use Rattle.std.specs.Prelude.{◌≡◌, ℕ, ◌+◌, ◌≤◌, ◌==◌, List, if◌then◌else◌, nat_le, nat_lt}
+use Rattle.std.specs.Prelude.{◌≡◌, ℕ, ◌==◌, List, if◌then◌else◌, nat_le, nat_lt}
 use Rattle.std.specs.List.{count_by}
 
 -- how often the place stands in the list
@@ -13,11 +13,3 @@ one_within first last place = if nat_le first place then (if nat_lt place last t
 -- the list has each place from `first` on that is below `last`, once, and no other place
 abbrev pub HasPlaces : ℕ → ℕ → List ℕ → Type 0
 HasPlaces first last places = (place : ℕ) → times place places ≡ one_within first last place
-
--- the list has some of those places, each once, and no other place
-abbrev pub HasSomePlaces : ℕ → ℕ → List ℕ → Type 0
-HasSomePlaces first last places = (place : ℕ) → times place places ≤ one_within first last place
-
--- the lists have no place in common, and each has none twice
-abbrev pub AreApart : List ℕ → List ℕ → Type 0
-AreApart places others = (place : ℕ) → times place places + times place others ≤ 1

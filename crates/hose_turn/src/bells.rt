@@ -1,7 +1,7 @@
 //! Words on which passes sleep until their tickets are called.
 ghost use Rattle.std.specs.Prelude.{◌≡◌, ◌<◌};
 ghost use Rattle.hose_turn.specs.declared.bells.TheConstants.{BELLS};
-ghost use Rattle.hose_turn.specs.Bells.{HasBellWords};
+ghost use Rattle.hose_turn.specs.steps.Bells.{HasBellWords};
 
 use atomic_table::{Play, Table, TableRule};
 use std::alloc::{AllocError, Global};

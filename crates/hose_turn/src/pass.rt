@@ -1,10 +1,10 @@
 //! Passes: how they are divided, what is known of one that does not have the turn, and one that has
 //! it.
 ghost use Rattle.std.specs.Prelude.{◌≡◌, ◌<◌, ◌≤◌, true, [], ◌∷◌, length, None};
-ghost use Rattle.hose_turn.specs.Known.{HasOwnPlaces};
-ghost use Rattle.hose_turn.specs.Limits.{all_shares};
-ghost use Rattle.hose_turn.specs.Places.{HasSomePlaces};
-ghost use Rattle.hose_turn.specs.Views.{known_of, IsAtRest};
+ghost use Rattle.hose_turn.specs.steps.Known.{HasOwnPlaces};
+ghost use Rattle.hose_turn.specs.steps.Limits.{all_shares};
+ghost use Rattle.hose_turn.specs.steps.Places.{HasSomePlaces};
+ghost use Rattle.hose_turn.specs.steps.Views.{known_of, IsAtRest};
 
 use crate::rule::Place;
 use crate::view::View;
@@ -32,7 +32,7 @@ pub struct Pass {
 
 impl Model for Pass {
     ghost use Rattle.hose_turn.specs.Known.{Known};
-    ghost use Rattle.hose_turn.specs.Views.{known_of, view_of, IsResting};
+    ghost use Rattle.hose_turn.specs.steps.Views.{known_of, view_of, IsResting};
 
     ghost Value = { Known };
 
@@ -83,7 +83,7 @@ pub struct Held<S> {
 }
 
 impl<S> Held<S> {
-    ghost use Rattle.hose_turn.specs.Held.{value_of};
+    ghost use Rattle.hose_turn.specs.steps.Held.{value_of};
 
     pub fn value(&self) -> &S
         ensures { result.now ≡ value_of self.now }

@@ -4,9 +4,9 @@
 //! The table has three words and one slot. Word 0 is the epoch, word 1 the next ticket that is
 //! drawn, and word 2 the ticket that has the turn. The slot has the value, while no pass has the
 //! turn.
-ghost use Rattle.hose_turn.specs.Views.{nobody, cut, branch, glued};
-ghost use Rattle.hose_turn.specs.Steps.{OpensLock, Draws, Looks, Settles, Counts, PassesOn};
-ghost use Rattle.hose_turn.specs.Faults.{rise, no_rise};
+ghost use Rattle.hose_turn.specs.steps.Views.{nobody, cut, branch, glued};
+ghost use Rattle.hose_turn.specs.steps.Steps.{OpensLock, Draws, Looks, Settles, Counts, PassesOn};
+ghost use Rattle.hose_turn.specs.steps.Faults.{rise, no_rise};
 
 use crate::view::{Counted, HoldsHistory, View};
 use atomic_table::{Join, Play, Seat, Split, Table, TableRule};
@@ -22,8 +22,8 @@ pub(crate) const SERVING: usize = 2;
 pub(crate) struct OneHistory;
 
 impl<S: HoldsHistory> TableRule<Option<S>, View, ()> for OneHistory {
-    ghost use Rattle.hose_turn.specs.Rule.{RuleHolds};
-    ghost use Rattle.hose_turn.specs.Views.{unborn};
+    ghost use Rattle.hose_turn.specs.steps.Rule.{RuleHolds};
+    ghost use Rattle.hose_turn.specs.steps.Views.{unborn};
 
     ghost holds = { λ _. RuleHolds S.stands S.faults };
 

@@ -4,11 +4,12 @@ ghost use mathlib.Core.List.{IsPrefix};
 ghost use Rattle.hose_graph.specs.declared.entry.Entry.{Entry};
 ghost use Rattle.hose_turn.specs.declared.view.Origin.{Origin};
 ghost use Rattle.std.specs.Borrow.{sem, follows};
-ghost use Rattle.hose_turn.specs.Known.{first_known, with_own_entry, HasOwnPlaces, HasWholeHistory};
-ghost use Rattle.hose_turn.specs.Places.{AreApart};
-ghost use Rattle.hose_turn.specs.Faults.{rise, end_of_count};
-ghost use Rattle.hose_turn.specs.Views.{unborn, opener};
-ghost use Rattle.hose_turn.specs.Held.{holder, value_of, floor_of};
+ghost use Rattle.hose_turn.specs.steps.Known.{first_known, with_own_entry, HasOwnPlaces, HasWholeHistory};
+ghost use Rattle.hose_turn.specs.steps.Places.{AreApart};
+ghost use Rattle.hose_turn.specs.Faults.{end_of_count};
+ghost use Rattle.hose_turn.specs.steps.Faults.{rise};
+ghost use Rattle.hose_turn.specs.steps.Views.{unborn, opener};
+ghost use Rattle.hose_turn.specs.steps.Held.{holder, value_of, floor_of};
 ghost use Rattle.hose_turn.specs.contracts.pass.Held.{the_row};
 
 use crate::bells::Bells;
@@ -43,7 +44,7 @@ pub struct Turn<S: HoldsHistory + Drop> {
 
 impl<S: HoldsHistory + Drop> Model for Turn<S> {
     ghost use Rattle.atomic_table.specs.Seated.{TableId, table_id_coded};
-    ghost use Rattle.hose_turn.specs.Rule.{IsSized};
+    ghost use Rattle.hose_turn.specs.steps.Rule.{IsSized};
 
     ghost Value = { TableId };
 

@@ -8,12 +8,14 @@ use Rattle.std.proofs.lemmas.List.Elements.{All-contains, Contains-append_left}
 use Rattle.hose_io.proofs.Calling.{HasGone-once, HasGone-then}
 use Rattle.hose_io.proofs.Frames.{Stays-same}
 use Rattle.hose_io.proofs.Streams.{Gives-append, Gives-nil, Gives-none}
-use Rattle.hose_io.specs.Calls.{HasGone, call_more, none_yet}
-use Rattle.hose_io.specs.Stream.{Appends, Stream, Gives, IsAtEnd}
+use Rattle.hose_io.specs.steps.Calls.{HasGone, call_more, none_yet}
+use Rattle.hose_io.specs.Stream.{Stream, Gives, IsAtEnd}
+use Rattle.hose_io.specs.steps.Stream.{Appends}
 use Rattle.hose_io.specs.declared.source.Source.{Ghosts}
-use Rattle.hose_words.specs.Buffer.{CutsLine}
-use Rattle.hose_words.specs.Intake.{found_of, found_at_end, ShowsFound, TakesBytes, MeetsEnd, IsIntake}
-use Rattle.hose_words.specs.Lines.{Reader, is_line_feed, GivesLine, IsAfterLines, IsDropped, StopsAt, IsNext}
+use Rattle.hose_words.specs.steps.Buffer.{CutsLine}
+use Rattle.hose_words.specs.steps.Intake.{found_of, found_at_end, ShowsFound, TakesBytes, MeetsEnd, IsIntake}
+use Rattle.hose_words.specs.Lines.{is_line_feed, IsAfterLines, StopsAt}
+use Rattle.hose_words.specs.steps.Lines.{Reader, GivesLine, IsDropped, IsNext}
 use Rattle.hose_words.specs.declared.intake.FoundLine.TheVariants as found
 use Rattle.hose_words.specs.declared.lines.Line.{Line}
 use Rattle.hose_words.specs.declared.lines.LineFault.{LineFault}

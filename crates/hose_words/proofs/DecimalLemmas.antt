@@ -5,7 +5,7 @@ use Rattle.std.specs.Str.Parse.{AllDigits}
 use Rattle.std.proofs.lemmas.Str.{IsUtf8-from_ascii}
 use Rattle.std.proofs.lemmas.Fmt.{IsAscii-from_digits, decimal_is_IsNumeral, decimal-digits_value, decimal_digit, first_decimal}
 use Rattle.std.proofs.lemmas.Str.Parse.{numerals_by_value, tells_digits}
-use Rattle.hose_words.specs.Number.{IsNumber}
+use Rattle.hose_words.specs.steps.Number.{IsNumber}
 
 -- a decimal is a text
 pub is_text : (bytes : List ℕ) (n : ℕ) → IsNumber bytes n → IsUtf8 bytes

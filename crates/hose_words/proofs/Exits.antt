@@ -2,7 +2,7 @@
 use Rattle.std.proofs.Common.{◌≡◌, Result, IfErr}
 use Rattle.std.specs.Result.{IsErrAnd}
 use Rattle.std.proofs.lemmas.Result.{err_from_is_err_and}
-use Rattle.hose_words.specs.Cursor.{Position, IsWrong}
+use Rattle.hose_words.specs.steps.Cursor.{Position, IsWrong}
 use Rattle.hose_words.specs.Form.{Form}
 use Rattle.hose_words.specs.declared.cursor.WrongWord.{WrongWord}
 

@@ -7,8 +7,9 @@ use Rattle.std.proofs.lemmas.List.{length-append, take-append-le, drop-append-le
 use Rattle.std.proofs.lemmas.List.Folds.{prefix_len-append}
 use Rattle.std.proofs.lemmas.List.Sums.{fails_before_first, passes_at_first, split_at_first}
 use Rattle.std.proofs.lemmas.Bool.{cond-true, cond-false, eq-eqb, ne_eqb, eqb-false, eqb-true, ltb-true, ltb-false}
-use Rattle.hose_words.specs.Lines.{is_line_feed, Shows, GivesLine}
-use Rattle.hose_words.specs.Intake.{found_of, ShowsFound}
+use Rattle.hose_words.specs.Lines.{is_line_feed}
+use Rattle.hose_words.specs.steps.Lines.{Shows, GivesLine}
+use Rattle.hose_words.specs.steps.Intake.{found_of, ShowsFound}
 use Rattle.hose_words.specs.declared.intake.FoundLine.TheVariants as found
 use Rattle.hose_words.specs.declared.lines.Line.{Line}
 use Rattle.hose_words.specs.declared.lines.Line.TheVariants.{Text, Long}

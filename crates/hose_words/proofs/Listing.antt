@@ -3,7 +3,7 @@ use Rattle.std.proofs.Common.{◌≡◌, ◌∙◌, ℕ, ◌+◌, ◌<◌, List,
 use Rattle.std.specs.List.{All}
 use Rattle.std.proofs.lemmas.List.{map-append, length-map}
 use Rattle.hose_words.specs.Grammar.{IsFirst, IsFirstNotAllowed}
-use Rattle.hose_words.specs.Cursor.{Position, Took, TookAll, IsWrong, MissesItem}
+use Rattle.hose_words.specs.steps.Cursor.{Position, Took, TookAll, IsWrong, MissesItem}
 use Rattle.hose_words.specs.Form.{Form, list, Follows, grammar_of}
 use Rattle.hose_words.proofs.Forms.{AreApart}
 

@@ -3,10 +3,12 @@ use Rattle.std.proofs.Common.{◌∙◌, ℕ, List, [], ◌∷◌, ◌++◌, Opt
 use Rattle.hose_io.specs.Stream.{Stream, Gives}
 use Rattle.hose_io.proofs.Calling.{HasGone-then}
 use Rattle.hose_io.proofs.Frames.{Stays-none, Stays-next}
-use Rattle.hose_io.specs.Calls.{none_yet}
+use Rattle.hose_io.specs.steps.Calls.{none_yet}
 use Rattle.hose_io.specs.declared.source.Source.{Ghosts}
-use Rattle.hose_words.specs.Lines.{Reader, IsAfterLines, IsNext}
-use Rattle.hose_words.specs.Reading.{ReadsOn, WhereTold}
+use Rattle.hose_words.specs.Lines.{IsAfterLines}
+use Rattle.hose_words.specs.steps.Lines.{Reader, IsNext}
+use Rattle.hose_words.specs.Reading.{WhereTold}
+use Rattle.hose_words.specs.steps.Reading.{ReadsOn}
 use Rattle.hose_words.specs.declared.lines.Line.{Line}
 use Rattle.hose_words.specs.declared.lines.LineFault.{LineFault}
 use Rattle.hose_io.proofs.Streams.{Gives-append, Gives-nil}

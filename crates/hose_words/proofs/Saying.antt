@@ -7,9 +7,12 @@ use Rattle.std.specs.List.{before_first, after_first, flat_map}
 use Rattle.hose_io.specs.Frame.{Rose}
 use Rattle.hose_io.specs.Stream.{Stream}
 use Rattle.hose_io.specs.declared.source.Source.{Ghosts}
-use Rattle.hose_words.specs.Lines.{GivesLine, IsAfterLines, IsNext, Reader, Shows, StopsAfterLines, is_line_feed}
-use Rattle.hose_words.specs.Reading.{ReadsOn, WhereTold}
-use Rattle.hose_words.specs.Saying.{IsAllTaken, IsLeftOver, IsOver, SayLines, no_line, one_more, SaysUpTo, StopsReading, TakesLine}
+use Rattle.hose_words.specs.Lines.{IsAfterLines, StopsAfterLines, is_line_feed}
+use Rattle.hose_words.specs.steps.Lines.{GivesLine, IsNext, Reader, Shows}
+use Rattle.hose_words.specs.Reading.{WhereTold}
+use Rattle.hose_words.specs.steps.Reading.{ReadsOn}
+use Rattle.hose_words.specs.Saying.{IsAllTaken, IsLeftOver, SayLines, no_line, one_more}
+use Rattle.hose_words.specs.steps.Saying.{IsOver, SaysUpTo, StopsReading, TakesLine}
 use Rattle.hose_words.specs.declared.lines.Line.{Line}
 use Rattle.hose_words.specs.declared.lines.LineFault.{LineFault}
 use Rattle.hose_words.specs.declared.lines.LineFault.TheVariants as line_fault

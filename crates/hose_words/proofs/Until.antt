@@ -3,7 +3,7 @@ use Rattle.std.proofs.Common.{◌≡◌, ◌≢◌, ◌⊎◌, ℕ, ◌+◌, ◌
 use Rattle.std.specs.List.{All}
 use Rattle.std.proofs.lemmas.List.{length-map}
 use Rattle.hose_words.specs.Grammar.{IsFirstNotAllowed}
-use Rattle.hose_words.specs.Cursor.{Position, Took, IsWrong}
+use Rattle.hose_words.specs.steps.Cursor.{Position, Took, IsWrong}
 use Rattle.hose_words.specs.Form.{Form, until, FollowsUntil, WholeUntil, Follows, IsWhole, TellsItems, grammar_of}
 use Rattle.hose_words.proofs.Forms.{GoesOnAs, wrong_front}
 use Rattle.hose_words.proofs.Listing.{Listing}

@@ -87,11 +87,6 @@ grammar_of form = record { may_follow = Follows form; is_whole = IsWhole form }
 abbrev pub this : List ℕ → Form → Form
 this known form = place (λ word. word ≡ known) form
 
--- just these words, one after the other, and then what a form says
-abbrev pub these : List (List ℕ) → Form → Form
-these [] form = form
-these (known ∷ more) form = this known (these more form)
-
 -- a word tells a number that meets a condition
 abbrev pub TellsNumber : (ℕ → Type 0) → List ℕ → Type 0
 TellsNumber is word = (number : ℕ) × (word ≡ decimal number) × is number

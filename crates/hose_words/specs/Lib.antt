@@ -1,13 +1,8 @@
-pub mod Buffer
-pub mod BufferInside
-pub mod Cursor
 pub mod Form
 pub mod Grammar
-pub mod Intake
-pub mod Kept
 pub mod Limits
 pub mod Lines
-pub mod Number
 pub mod Reading
 pub mod Saying
 pub mod Words
+pub mod steps

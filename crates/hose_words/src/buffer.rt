@@ -2,9 +2,9 @@
 ghost use Rattle.std.specs.Prelude.{◌≡◌, ◌<◌, ◌≤◌, [], length};
 ghost use Rattle.std.specs.Bool.{MatchBool};
 ghost use Rattle.std.specs.List.{position, position_or_len};
-ghost use Rattle.hose_io.specs.Filling.{IsFilled};
+ghost use Rattle.hose_io.specs.steps.Filling.{IsFilled};
 ghost use Rattle.hose_words.specs.Lines.{is_line_feed};
-ghost use Rattle.hose_words.specs.Buffer.{CutsLine};
+ghost use Rattle.hose_words.specs.steps.Buffer.{CutsLine};
 
 use crate::lines::PENDING_LIMIT;
 use hose_io::{Failed, Source, take_after};
@@ -26,12 +26,12 @@ pub(crate) struct PendingBytes {
 
 impl Model for PendingBytes {
     ghost use Rattle.std.specs.Prelude.{◌-◌, slice_range};
-    ghost use Rattle.hose_words.specs.Buffer.{LineBuffer};
+    ghost use Rattle.hose_words.specs.steps.Buffer.{LineBuffer};
     ghost use Rattle.hose_words.specs.declared.lines.TheConstants.{PENDING_LIMIT};
 
     ghost Value = { LineBuffer };
 
-    ghost use Rattle.hose_words.specs.BufferInside.{IsInOrder};
+    ghost use Rattle.hose_words.specs.steps.BufferInside.{IsInOrder};
 
     ghost view = { λ buffer. record {
       line = slice_range buffer.bytes buffer.line_start buffer.line_end;

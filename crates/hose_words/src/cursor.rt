@@ -1,7 +1,7 @@
 // The words of a line, one after the other, with their numbers.
 ghost use Rattle.std.specs.Prelude.{◌≡◌, ◌≤◌, ℕ, ◌+◌, List, [], drop, length, IfOk, OnOk, IfErr, IfSome, IfNone, decimal};
 ghost use Rattle.hose_words.specs.Words.{words_of};
-ghost use Rattle.hose_words.specs.Cursor.{Took, Misses, IsWrong};
+ghost use Rattle.hose_words.specs.steps.Cursor.{Took, Misses, IsWrong};
 ghost use Rattle.hose_words.specs.Grammar.{IsFirst};
 ghost use Rattle.hose_words.specs.Form.{finish, IsChoice, Each, TellsNumber, Fits64, IsWithin};
 
@@ -46,7 +46,7 @@ pub struct Cursor<'a> {
 
 impl<'a> Model for Cursor<'a> {
     ghost use Rattle.std.specs.Prelude.{◌+◌, ◌^◌, ◌≤◌, length};
-    ghost use Rattle.hose_words.specs.Cursor.{Position};
+    ghost use Rattle.hose_words.specs.steps.Cursor.{Position};
 
     ghost Value = { Position };
 

@@ -2,8 +2,8 @@
 ghost use Rattle.std.specs.Prelude.{◌≡◌, ◌^◌, ◌<◌, ◌≤◌, [], length, None, IsFalse};
 ghost use Rattle.std.specs.Bool.{OnTrue};
 ghost use Rattle.hose_io.specs.Stream.{IsAtEnd};
-ghost use Rattle.hose_words.specs.Buffer.{CutsLine};
-ghost use Rattle.hose_words.specs.Intake.{reader_of, found_of, found_at_end, ShowsFound, FindsNext, DropsLong, IsIntake};
+ghost use Rattle.hose_words.specs.steps.Buffer.{CutsLine};
+ghost use Rattle.hose_words.specs.steps.Intake.{reader_of, found_of, found_at_end, ShowsFound, FindsNext, DropsLong, IsIntake};
 
 use crate::buffer::PendingBytes;
 use crate::lines::{INPUT_LIMIT, LINE_LIMIT, Line, LineFault, PENDING_LIMIT};
@@ -29,7 +29,7 @@ pub(crate) struct LineIntake {
 impl Model for LineIntake {
     ghost use Rattle.std.specs.Prelude.{◌≡◌, ◌+◌, ◌^◌, ◌<◌, ◌≤◌, ◌↔◌, Some};
     ghost use Rattle.hose_words.specs.declared.lines.LineFault.TheVariants.{TooLong};
-    ghost use Rattle.hose_words.specs.Kept.{ReaderState};
+    ghost use Rattle.hose_words.specs.steps.Kept.{ReaderState};
     ghost use Rattle.hose_words.specs.declared.lines.TheConstants.{INPUT_LIMIT};
 
     ghost Value = { ReaderState };

@@ -56,8 +56,8 @@ pub struct LineReader<S: Source> {
 impl<S: Source> Model for LineReader<S> {
     ghost use Rattle.std.specs.Bool.{OnTrue};
     ghost use Rattle.hose_io.specs.Stream.{IsAtEnd};
-    ghost use Rattle.hose_words.specs.Lines.{Reader};
-    ghost use Rattle.hose_words.specs.Intake.{reader_of};
+    ghost use Rattle.hose_words.specs.steps.Lines.{Reader};
+    ghost use Rattle.hose_words.specs.steps.Intake.{reader_of};
 
     ghost Value = { Reader S };
 
@@ -67,7 +67,7 @@ impl<S: Source> Model for LineReader<S> {
 }
 
 impl<S: Source> LineReader<S> {
-    ghost use Rattle.hose_words.specs.Lines.{IsNext};
+    ghost use Rattle.hose_words.specs.steps.Lines.{IsNext};
     ghost use Rattle.hose_words.specs.contracts.lines.LineReader.{the_row};
 
     /// A reader that has taken nothing.

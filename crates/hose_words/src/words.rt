@@ -3,7 +3,7 @@ ghost use Rattle.std.specs.Prelude.{◌≡◌, ◌==◌, ◌≤◌, ℕ, [], ◌
 ghost use Rattle.std.specs.Iterator.{YieldsFirstRef, item_count};
 ghost use Rattle.std.specs.List.{prefix_len, position_or_len};
 ghost use Rattle.hose_words.specs.Grammar.{IsFirst};
-ghost use Rattle.hose_words.specs.Number.{IsNumber};
+ghost use Rattle.hose_words.specs.steps.Number.{IsNumber};
 ghost use Rattle.hose_words.specs.Words.{words_of};
 
 use std::marker::Model;

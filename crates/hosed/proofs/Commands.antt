@@ -5,23 +5,24 @@ use Rattle.std.proofs.lemmas.Bool.{cases_lt}
 use Rattle.std.proofs.lemmas.Fmt.{decimal_injective}
 use Rattle.std.proofs.lemmas.List.{drop-map, drop_more, get_or-map, length-drop, length-map, take_rest}
 use mathlib.Core.List.{map-id}
-use Rattle.hose_words.specs.Cursor.{IsWrong, Misses, Position, Took}
+use Rattle.hose_words.specs.steps.Cursor.{IsWrong, Misses, Position, Took}
 use Rattle.hose_words.specs.Form.{Fits64, Form, IsChoice, TellsNumber, branch, finish, grammar_of, maybe, number, place}
 use Rattle.hose_words.specs.Grammar.{IsFirst, IsFirstNotAllowed}
 use Rattle.hose_words.proofs.DecimalLemmas.{decimal_told, told_decimal}
-use Rattle.hose_words.specs.Number.{IsNumber}
+use Rattle.hose_words.specs.steps.Number.{IsNumber}
 use Rattle.hose_words.proofs.Keywords.{choice_of}
 use Rattle.hose_words.proofs.Forms.{AreApart, Misses-stronger, after_branch, after_place, front_wrong, wrong_at_start, wrong_choice, wrong_chosen, wrong_later, wrong_maybe, wrong_place}
 use Rattle.hose_words.proofs.Passing.{Passes, pass_branch, pass_finish, pass_list, pass_maybe, pass_nothing, pass_place}
 use Rattle.hose_proto.specs.EndWords.{end_words_form}
 use Rattle.hose_proto.proofs.EndWords.{end_words_closed}
 use Rattle.hose_offline.specs.declared.generating.Sizes.{Sizes}
-use Rattle.hosed.specs.ProgramWords.{ArePriceable, AreWords, AsksFor, CheckTask, IsAvailable, IsChosen, IsFileName, IsFirstNamed, IsFirstWrong, IsGenerateTask, IsMoveStart, IsMoveTask, IsNodeCount, IsOfJournal, IsOfTopology, IsProveTask, IsRunTask, IsServeTask, IsShipTask, IsStart, IsTariffName, JournalTask, MayDo, MoveStart, MoveTask, ProveTask, RunTask, ServeTask, ShipTask, Start, Task, Verb, at_word, chosen_of, first_end, from_form, live_form, live_option, live_words, move_word, moved_form, name_words, named_form, new_form, server_form, sizes_form, start_form, start_word, tariff_option, tariff_words, task_words, topology_form, program_form, program_word, with_option, with_tariff, words_form}
+use Rattle.hosed.specs.ProgramWords.{ArePriceable, AreWords, AsksFor, CheckTask, IsAvailable, IsChosen, IsFileName, IsFirstNamed, IsFirstWrong, IsGenerateTask, IsMoveStart, IsMoveTask, IsNodeCount, IsOfJournal, IsOfTopology, IsProveTask, IsRunTask, IsServeTask, IsShipTask, IsStart, IsTariffName, JournalTask, MayDo, MoveStart, MoveTask, ProveTask, RunTask, ServeTask, ShipTask, Start, Task, Verb, chosen_of, first_end, from_form, live_form, live_option, live_words, move_word, moved_form, name_words, named_form, new_form, server_form, sizes_form, start_form, start_word, tariff_option, tariff_words, task_words, topology_form, program_form, program_word, with_option, with_tariff, words_form}
+use Rattle.hosed.specs.steps.ProgramWords.{at_word}
 use Rattle.hosed.specs.ProgramWords.MoveStart.{by_tariff, without}
 use Rattle.hosed.specs.ProgramWords.Start.{named, option}
 use Rattle.hosed.specs.ProgramWords.Verb.{audit, check, follow, generate, move, price, prove, run, serve, ship}
 use Rattle.hose_offline.specs.declared.auditing.Names.{Names}
-use Rattle.hosed.specs.Reading.{AreJournalWords, Chooses, ChoosesLive, NamesFile, NamesJournal, NamesMove, NamesNoJournal, NamesNoTariff, NamesNoTopology, NamesTopology}
+use Rattle.hosed.specs.steps.Reading.{AreJournalWords, Chooses, ChoosesLive, NamesFile, NamesJournal, NamesMove, NamesNoJournal, NamesNoTariff, NamesNoTopology, NamesTopology}
 
 -- ---- words of a slice
 

@@ -17,7 +17,8 @@ use Rattle.hose_offline.specs.Parts.{Tellings}
 use Rattle.hose_offline.specs.declared.fault.Fault.{Fault}
 use Rattle.hose_offline.proofs.Audits.{has_before, held_before}
 use Rattle.hose_offline.proofs.PutBack.{IsPutBack, counts, held_as, left_in}
-use Rattle.hosed.specs.ServerDoor.{IsKeptIn, IsKeptOn, IsMadeAlong, ServerProgress, ServesBook, ServesByJournal, ServesByStore, from_to}
+use Rattle.hosed.specs.ServerDoor.{IsKeptIn, IsMadeAlong, ServerProgress, ServesBook, ServesByJournal, from_to}
+use Rattle.hosed.specs.steps.ServerDoor.{IsKeptOn, ServesByStore}
 use Rattle.hosed.specs.declared.server.ServerEnd.{ServerEnd}
 
 -- lists that are the same begin alike

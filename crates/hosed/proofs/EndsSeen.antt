@@ -4,16 +4,17 @@ use mathlib.Core.List.{map-id}
 use Rattle.std.specs.Prelude.{◌↔◌}
 use Rattle.std.specs.List.{Any}
 use Rattle.std.proofs.lemmas.List.{drop_more, get_or-map, get_or_default, length-drop, length-map, length-take, take_all, take_more}
-use Rattle.hose_words.specs.Cursor.{IsWrong, MissesItem, Took}
+use Rattle.hose_words.specs.steps.Cursor.{IsWrong, MissesItem, Took}
 use Rattle.hose_words.specs.Form.{Follows, grammar_of}
 use Rattle.hose_words.specs.Grammar.{IsFirst, IsFirstNotAllowed}
 use Rattle.hose_words.proofs.Listing.{Listing, listing_more, listing_none, wrong_item}
 use Rattle.hose_graph.specs.Limit.{IsUpTo}
 use Rattle.hose_graph.specs.Name.{IsName}
 use Rattle.hose_graph.specs.declared.limits.TheConstants.{LEAST_ENDS, MOST_ENDS, MOST_RATE}
-use Rattle.hose_proto.specs.EndWords.{AreEndWords, AreNewEndWords, IsNewEndWord, end_words_form, name_in, named_rate}
+use Rattle.hose_proto.specs.EndWords.{AreEndWords, AreNewEndWords, end_words_form, name_in, named_rate}
+use Rattle.hose_proto.specs.steps.EndWords.{IsNewEndWord}
 use Rattle.hose_proto.proofs.EndWords.{end_words_more, makes_end_words, name_of_end, no_end_words}
-use Rattle.hosed.specs.ProgramWords.{at_word}
+use Rattle.hosed.specs.steps.ProgramWords.{at_word}
 
 -- ---- one word after others
 

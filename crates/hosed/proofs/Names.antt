@@ -1,6 +1,6 @@
 -- What words name, from what their task names.
 use Rattle.std.specs.Prelude.{◌≡◌, ℕ, List, option_map}
-use Rattle.hosed.specs.Naming.{AreNamed, journal_of, new_journal_of, new_topology_of, port_of, topology_of}
+use Rattle.hosed.specs.steps.Naming.{AreNamed, journal_of, new_journal_of, new_topology_of, port_of, topology_of}
 use Rattle.hosed.specs.ProgramWords.{AreWords, Task, Verb}
 use Rattle.hosed.specs.declared.naming.Named.{Named}
 

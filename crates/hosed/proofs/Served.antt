@@ -20,7 +20,8 @@ use Rattle.hose_offline.specs.declared.fault.Fault.TheVariants.{Cabinet, Door, M
 use Rattle.hose_offline.proofs.Audited.{named_not_1, named_not_read, named_read, no_store, no_topology, told_status}
 use Rattle.hose_offline.proofs.Outcomes.{clash}
 use Rattle.hosed.specs.ServeOutcome.{EndsServed, IsServed, ServeOutcome, first_failed}
-use Rattle.hosed.specs.ServerDoor.{DoorTask, IsServedAlong, OutputDoor, OutsideDoor, ServesByJournal, ServesConnections, Speaks, spoken}
+use Rattle.hosed.specs.ServerDoor.{DoorTask, IsServedAlong, OutputDoor, OutsideDoor, ServesByJournal, Speaks, spoken}
+use Rattle.hosed.specs.steps.ServerDoor.{ServesConnections}
 use Rattle.hosed.specs.declared.server.ServerEnd.{ServerEnd}
 use Rattle.hosed.proofs.Connections.{served_before}
 

@@ -8,20 +8,22 @@ use Rattle.hose_graph.specs.Network.{Network}
 use Rattle.hose_graph.specs.declared.entry.Entry.{Entry}
 use Rattle.hose_law.specs.History.{IsDecidedAt, IsSound}
 use Rattle.hose_book.specs.Ledger.{IsLedgerOf, Ledger}
-use Rattle.hose_disk.specs.Disk.{IsCalled}
+use Rattle.hose_disk.specs.steps.Disk.{IsCalled}
 use Rattle.hose_disk.specs.declared.disk.Disk.{Ghosts as DiskGhosts}
-use Rattle.hose_shared.specs.Closing.{HasShared}
-use Rattle.hose_store.specs.Beginning.{Beginning, HasLeft, StandsFor}
-use Rattle.hose_store.specs.Commit.{Closes}
-use Rattle.hose_store.specs.Store.{KeptStore}
+use Rattle.hose_shared.specs.steps.Closing.{HasShared}
+use Rattle.hose_store.specs.Beginning.{Beginning, HasLeft}
+use Rattle.hose_store.specs.steps.Beginning.{StandsFor}
+use Rattle.hose_store.specs.steps.Commit.{Closes}
+use Rattle.hose_store.specs.steps.Store.{KeptStore}
 use Rattle.hose_turn.specs.Faults.{end_of_count}
 use Rattle.hose_turn.specs.Known.{Known}
 use Rattle.hose_turn.specs.Places.{HasPlaces}
 use Rattle.hose_offline.specs.OnDisk.{opening_of}
-use Rattle.hose_offline.specs.Journal.{IsJustOpened}
+use Rattle.hose_offline.specs.steps.Journal.{IsJustOpened}
 use Rattle.hose_offline.specs.declared.fault.Fault.{Fault}
 use Rattle.hose_offline.specs.declared.fault.Fault.TheVariants.{Memory}
-use Rattle.hosed.specs.ServerDoor.{IsAnnounced, IsKeptOn, IsOpening, OpensAt, OutputDoor, ServerProgress, ServesBook, Speaks, StaysAsRead, from_to}
+use Rattle.hosed.specs.ServerDoor.{IsAnnounced, OutputDoor, ServerProgress, ServesBook, Speaks, StaysAsRead, from_to}
+use Rattle.hosed.specs.steps.ServerDoor.{IsKeptOn, IsOpening, OpensAt}
 use Rattle.hosed.specs.declared.server.ServerEnd.{ServerEnd}
 
 -- a history without a place after its beginning is that beginning

@@ -1,5 +1,5 @@
 -- What serving the connections of a door comes to, and what it does to the journal.
-use Rattle.std.specs.Prelude.{◌≡◌, ◌⊎◌, ℕ, ◌≤◌, List, [], codes, length, take, Option, Some, IfSome, Result, Ok, Err, is_err, is_some, ⊤}
+use Rattle.std.specs.Prelude.{◌≡◌, ◌⊎◌, ℕ, ◌≤◌, List, [], codes, length, take, Option, Some, Result, Ok, Err, ⊤}
 use mathlib.Core.List.{IsPrefix}
 use Rattle.hose_io.specs.Connections.{Connections}
 use Rattle.hose_io.specs.Frame.{Frame, Met, Rose}
@@ -16,24 +16,17 @@ use Rattle.hose_law.specs.Live.{AreLiveUnreleased, StaysLive}
 use Rattle.hose_book.specs.Ledger.{IsLedgerOf}
 use Rattle.hose_crew.specs.Crew.{AreServed}
 use Rattle.hose_disk.specs.Cabinet.{Has, object_of}
-use Rattle.hose_disk.specs.Disk.{IsCalled}
-use Rattle.hose_disk.specs.declared.disk.Disk.{Ghosts as DiskGhosts}
 use Rattle.hose_proto.specs.ReplyText.{line_of}
-use Rattle.hose_store.specs.Beginning.{HasLeft, StandsFor}
-use Rattle.hose_store.specs.Commit.{Closes}
+use Rattle.hose_store.specs.Beginning.{HasLeft}
 use Rattle.hose_store.specs.Recovery.{IsHistoryOf}
-use Rattle.hose_store.specs.Store.{KeptStore}
 use Rattle.hose_turn.specs.Faults.{end_of_count}
 use Rattle.hose_turn.specs.Known.{Known}
 use Rattle.hose_turn.specs.Places.{HasPlaces}
 use Rattle.hose_offline.specs.OnDisk.{HadContent, opening_of}
-use Rattle.hose_offline.specs.Parts.{Parts, Tellings, held, parts}
-use Rattle.hose_offline.specs.ServingOnDisk.{IsNotServed}
+use Rattle.hose_offline.specs.Parts.{Parts, Tellings, parts}
 use Rattle.hose_offline.specs.declared.fault.Fault.{Fault}
 use Rattle.hose_offline.specs.declared.fault.Fault.TheVariants.{Door, Memory, Write}
-use Rattle.hose_offline.specs.declared.outside.Outside.{Outside}
 use Rattle.hosed.specs.declared.server.ServerEnd.{ServerEnd}
-use Rattle.hosed.specs.declared.words.ServeRequest.{ServeRequest}
 
 -- ---- what a server says
 
@@ -59,10 +52,6 @@ pub record DoorTask : Type 0 where
   pub port : ℕ
   pub connections : ℕ
 
--- what the request says of the door
-abbrev pub door_task : ServeRequest → DoorTask
-door_task request = record { port = request.port; connections = request.connections }
-
 -- the output of a server, and what is seen of its door
 pub record OutputDoor (O : Type 0) : Type 0 where
   pub output : O
@@ -81,10 +70,6 @@ pub record OutsideDoor (I O C : Type 0) : Type 0 where
 abbrev pub with_door : {I O C : Type 0} → I → O → C → DoorSeen → OutsideDoor I O C
 with_door input output cabinet door =
     record { others = parts input output cabinet; door = door }
-
--- what is lent to a server
-abbrev pub door_beside : {I O C E : Type 0} → Outside I O C E → DoorSeen → OutsideDoor I O C
-door_beside outside door = record { others = held outside; door = door }
 
 -- the part of it through which a server speaks
 abbrev pub spoken : {I O C : Type 0} → OutsideDoor I O C → OutputDoor O
@@ -122,35 +107,6 @@ Speaks sink port before after (Err why) = IsAnnounced {T = ⊤} sink port before
 -- connections of a door were served along a pass, so many at most, and accepting came to this
 abbrev pub IsServedAlong : ℕ → DoorSeen → DoorSeen → Known → Result ⊤ Failed → Type 0
 IsServedAlong count was now pass accepting = AreServed was.told now.told count pass accepting
-
--- ---- the store that is shared
-
--- the store was just opened on a disk, which stood for this history as it was read
-pub record IsOpening {E : Type 0} (disk : DiskGhosts E) (was : E) (network : Network)
-    (since : List Entry) (store : KeptStore E) : Type 0 where
-  pub read : IfSome (disk.content was) (IsHistoryOf network since)
-  pub stands : StandsFor disk IsDecidedAt (disk.may_leave was) (opening_of disk network since was)
-      since store
-
--- A store was just opened on a disk that had these images and this content at this moment, and
--- stood for this history.
-pub record OpensAt {E : Type 0} (disk : DiskGhosts E) (Had : List ℕ → Type 0)
-    (content : Option (List ℕ)) (moment : ℕ) (network : Network) (since : List Entry)
-    (store : KeptStore E) : Type 0 where
-  pub read : IfSome content (IsHistoryOf network since)
-  pub stands : StandsFor disk IsDecidedAt Had (record {
-    since = since;
-    network = network;
-    moment = moment;
-    tells = is_some content;
-  }) since store
-
--- The store was closed, which left the disk so.
-pub record IsClosedOn {E : Type 0} (disk : DiskGhosts E) (store : KeptStore E) (left : E) :
-    Type 0 where
-  pub closing : Result ⊤ Failed
-  pub closes : Closes disk store left closing
-  pub call : IsCalled (disk.frame store.journal.disk) (disk.frame left) closing
 
 -- ---- the book that is kept
 
@@ -199,25 +155,6 @@ ServesBook network IsKept faults Along (Ok end) =
     ServesDoorAlong network IsKept faults (λ pass. Along pass end.accepting) end
 ServesBook network IsKept faults Along (Err why) = StaysAsRead network IsKept
 
--- ---- on a disk
-
--- A disk was kept from its opening, when it stood for the first history, to its closing, when it
--- stands for what this is now. All entries since are decided.
-pub record IsKeptOn {E : Type 0} (disk : DiskGhosts E) (was left : E) (made : ServerProgress)
-    (closing : Result ⊤ Failed) : Type 0 where
-  pub read : IfSome (disk.content was) (IsHistoryOf made.network made.since)
-  pub begins : IsPrefix made.since made.history
-  pub decided : IsDecided made.network 0 (length made.since) made.history
-  pub told : (disk.frame left).has_failed ≡ is_err closing
-  pub leaves : HasLeft disk IsDecidedAt (disk.may_leave was)
-      (opening_of disk made.network made.since was) made.history left closing
-
--- what serving by a store comes to on its disk
-abbrev pub ServesByStore : {E : Type 0} → DiskGhosts E → E → E → Network
-    → (Known → Result ⊤ Failed → Type 0) → Result ServerEnd Fault → Type 0
-ServesByStore disk was left network Along came =
-    ServesBook network (IsKeptOn disk was left) (disk.frame left).faults Along came
-
 -- ---- in a cabinet
 
 module _ {I O C E : Type 0} (tells : Tellings I O C E) (name : List ℕ) (old new : C) where
@@ -249,13 +186,3 @@ module _ {I O C E : Type 0} (tells : Tellings I O C E) (name : List ℕ) (old ne
       → Result ServerEnd Fault → Type 0
   ServesByJournal network Along came =
       ServesBook network IsKeptIn (tells.cabinet.frame new).returned Along came
-
--- No store was opened on the journal, which is told why, and nothing was said; or one was.
-abbrev pub ServesConnections : {I O C E : Type 0} → Tellings I O C E → List ℕ → DoorTask
-    → OutsideDoor I O C → OutsideDoor I O C → Network → Result ServerEnd Fault → Type 0
-ServesConnections tells name task before after network came =
-    ((why : Fault) × (came ≡ Err why) × IsNotServed tells.cabinet tells.disk name
-    before.others.cabinet after.others.cabinet network (Err why) × (spoken after ≡ spoken before))
-    ⊎ (ServesByJournal tells name before.others.cabinet after.others.cabinet network
-    (IsServedAlong task.connections before.door after.door) came
-    × Speaks tells.sink task.port (spoken before) (spoken after) came)

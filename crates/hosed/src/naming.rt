@@ -1,8 +1,9 @@
 // What the program's words name, for whoever tells why it ended.
 ghost use Rattle.std.specs.Prelude.{◌≡◌, ℕ, List, None, Some, MatchResult, map};
 ghost use Rattle.std.specs.String.{string_bytes};
-ghost use Rattle.hosed.specs.Naming.{AreNamed};
-ghost use Rattle.hosed.specs.ProgramWords.{AreWordsOf, IsFirstWrong};
+ghost use Rattle.hosed.specs.steps.Naming.{AreNamed};
+ghost use Rattle.hosed.specs.ProgramWords.{IsFirstWrong};
+ghost use Rattle.hosed.specs.steps.ProgramWords.{AreWordsOf};
 
 use crate::words::{OfJournal, Request, asks_to_serve, request_of, serve_of};
 use hose_offline::Move;

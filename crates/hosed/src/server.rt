@@ -1,14 +1,16 @@
 // Connections that are served: a door, a crew, and the book of a journal that they share.
 ghost use Rattle.std.specs.Prelude.{◌≡◌, ◌≢◌, ◌↔◌, ◌≤◌, ℕ, Err, IfOk, List, [], None, Option, Some};
-ghost use Rattle.hose_io.specs.Connections.{AreAccounted};
+ghost use Rattle.hose_io.specs.steps.Connections.{AreAccounted};
 ghost use Rattle.hose_io.specs.Frame.{Stays};
 ghost use Rattle.hose_graph.specs.Network.{Network};
 ghost use Rattle.hose_law.specs.History.{IsDecidedAt};
 ghost use Rattle.hose_offline.specs.Auditing.{priced_names};
-ghost use Rattle.hose_offline.specs.Journal.{IsJustOpened};
-ghost use Rattle.hose_offline.specs.Parts.{KeepsAll, tellings};
+ghost use Rattle.hose_offline.specs.steps.Journal.{IsJustOpened};
+ghost use Rattle.hose_offline.specs.Parts.{tellings};
+ghost use Rattle.hose_offline.specs.steps.Parts.{KeepsAll};
 ghost use Rattle.hosed.specs.ServeOutcome.{EndsServed, ServeOutcome, first_failed};
-ghost use Rattle.hosed.specs.ServerDoor.{IsAnnounced, IsClosedOn, IsServedAlong, ServesByStore, ServesConnections, Speaks, door_beside, door_task, output_door, seen_of};
+ghost use Rattle.hosed.specs.ServerDoor.{IsAnnounced, IsServedAlong, Speaks, output_door, seen_of};
+ghost use Rattle.hosed.specs.steps.ServerDoor.{IsClosedOn, ServesByStore, ServesConnections, door_beside, door_task};
 
 use crate::words::ServeRequest;
 use hose_book::{Book, Books};
@@ -78,7 +80,7 @@ struct JustOpened<N> {
 }
 
 impl<D: Disk, N: AtOpening> Begun<D> for JustOpened<N> {
-    ghost use Rattle.hosed.specs.ServerDoor.{OpensAt};
+    ghost use Rattle.hosed.specs.steps.ServerDoor.{OpensAt};
 
     ghost begins = { OpensAt D.Disk N.had N.content N.moment N.network };
 }

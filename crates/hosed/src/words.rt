@@ -1,11 +1,12 @@
 // The words of the program, and what they ask for.
 ghost use Rattle.std.specs.Prelude.{◌≡◌, ◌↔◌, ℕ, ◌+◌, ◌<◌, ◌≤◌, List, [], IfErr, IfNone, IfOk, IfSome, IsTrue, OnOk, decimal, get_or, map};
 ghost use Rattle.std.specs.String.{string_bytes};
-ghost use Rattle.hose_words.specs.Cursor.{IsWrong, Misses, Took};
+ghost use Rattle.hose_words.specs.steps.Cursor.{IsWrong, Misses, Took};
 ghost use Rattle.hose_words.specs.Form.{Fits64, IsWithin, TellsNumber, finish};
 ghost use Rattle.hose_words.specs.Grammar.{IsFirst};
-ghost use Rattle.hosed.specs.ProgramWords.{ArePriceable, AreServeWords, AsksFor, AsksToServe, IsFileName, IsFirstNamed, IsFirstWrong, IsOtherFile, IsTariffName, at_word, journal_task, moved_form, named_form, program_form, topology_task};
-ghost use Rattle.hosed.specs.Reading.{AreJournalWords, Chooses, ChoosesLive, NamesFile, NamesJournal, NamesMove, NamesNoJournal, NamesNoTariff, NamesNoTopology, NamesTopology, Reads};
+ghost use Rattle.hosed.specs.ProgramWords.{ArePriceable, AsksFor, AsksToServe, IsFileName, IsFirstNamed, IsFirstWrong, IsOtherFile, IsTariffName, moved_form, named_form, program_form};
+ghost use Rattle.hosed.specs.steps.ProgramWords.{AreServeWords, at_word, journal_task, topology_task};
+ghost use Rattle.hosed.specs.steps.Reading.{AreJournalWords, Chooses, ChoosesLive, NamesFile, NamesJournal, NamesMove, NamesNoJournal, NamesNoTariff, NamesNoTopology, NamesTopology, Reads};
 ghost use Rattle.hosed.specs.ProgramWords.Verb.{audit, check, generate, move, price, prove, run, ship};
 
 use crate::end_words::ends_at;

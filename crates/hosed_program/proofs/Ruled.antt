@@ -1,9 +1,10 @@
 -- What the rules of the program's tariffs keep.
 use Rattle.std.proofs.Common.{ℕ, sym, subst, arith}
 use Rattle.hose_graph.specs.Limit.{IsUpTo}
-use Rattle.hose_tariff.specs.Fact.{IsPrice, KeepsFact}
-use Rattle.hose_tariff.specs.Rules.{flat_cost, hops_cost, long_cost}
-use Rattle.hosed_program.specs.Rules.{IsRuleOf}
+use Rattle.hose_tariff.specs.Fact.{IsPrice}
+use Rattle.hose_tariff.specs.steps.Fact.{KeepsFact}
+use Rattle.hose_tariff.specs.steps.Rules.{flat_cost, hops_cost, long_cost}
+use Rattle.hosed_program.specs.steps.Rules.{IsRuleOf}
 
 -- a rule whose costs are within the bounds keeps the fact
 kept : (cost : ℕ → ℕ) (may : ℕ → Type 0) (answers : ℕ → ℕ → Type 0) (base per : ℕ) → ((length : ℕ) → IsUpTo 1000000 length → IsPrice base per length (cost length)) → IsRuleOf cost may answers → KeepsFact may answers base per

@@ -9,7 +9,7 @@ ghost use Rattle.hosed.specs.Hosed.{HosedOutcome};
 ghost use Rattle.hosed.specs.Offline.{offer_of};
 ghost use Rattle.hosed.specs.ServerDoor.{seen_of, with_door};
 ghost use Rattle.hose_offline.specs.declared.fault.Fault.TheVariants as fault;
-ghost use Rattle.hosed_program.specs.TextOrCommand.{IsTold, text_or_command};
+ghost use Rattle.hosed_program.specs.steps.TextOrCommand.{IsTold, text_or_command};
 
 use crate::texts::{HELP, VERSION};
 use hose_disk::Cabinet;

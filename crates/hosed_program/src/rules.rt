@@ -1,7 +1,7 @@
 // The tariffs that the program has, and their rules.
 ghost use Rattle.std.specs.Prelude.{◌≡◌, IfOk, [], ◌∷◌, codes, map};
-ghost use Rattle.hose_tariff.specs.Rules.{flat_cost, hops_cost, long_cost};
-ghost use Rattle.hosed_program.specs.Rules.{IsRuleOf};
+ghost use Rattle.hose_tariff.specs.steps.Rules.{flat_cost, hops_cost, long_cost};
+ghost use Rattle.hosed_program.specs.steps.Rules.{IsRuleOf};
 
 use hose_graph::{MOST_COST, Name};
 use hose_tariff::{Rule, Tariff};

@@ -1,8 +1,8 @@
 // One book on a disk that many passes use at once: a plan is made while another thread has the
 // turn.
 ghost use Rattle.std.specs.Prelude.{◌≡◌, IfOk};
-ghost use Rattle.hose_law.specs.Plan.{AreNodes};
-ghost use Rattle.hose_shared.specs.Sharing.{IsPassOf};
+ghost use Rattle.hose_law.specs.steps.Plan.{AreNodes};
+ghost use Rattle.hose_shared.specs.steps.Sharing.{IsPassOf};
 
 use hose_core::Quotes;
 use hose_disk::MemDisk;

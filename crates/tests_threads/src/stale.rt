@@ -1,8 +1,8 @@
 // An admission whose plan goes stale as often as it is made outside of the lock.
 ghost use Rattle.std.specs.Prelude.{◌≡◌, ◌≤◌};
 ghost use Rattle.hose_graph.specs.declared.limits.TheConstants.{MOST_EPOCH};
-ghost use Rattle.hose_law.specs.Plan.{AreNodes};
-ghost use Rattle.hose_shared.specs.Sharing.{IsPassOf};
+ghost use Rattle.hose_law.specs.steps.Plan.{AreNodes};
+ghost use Rattle.hose_shared.specs.steps.Sharing.{IsPassOf};
 
 use crate::shared::{Book, acme, hose, shared, tells};
 use hose_graph::{Endpoint, Hose, Name, Reply};

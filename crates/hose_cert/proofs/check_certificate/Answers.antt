@@ -1,4 +1,4 @@
-use Rattle.hose_cert.specs.Taking.{fault_in}
+use Rattle.hose_cert.specs.steps.Taking.{fault_in}
 use Rattle.hose_cert.proofs.Checked.{none_all, none_cheapest, none_found, none_valid, some_cheapest, some_found, valid_found}
 use Rattle.hose_cert.proofs.LinesRead.{up_to_then}
 use Rattle.hose_cert.proofs.Once.{lines_once}

@@ -1,4 +1,4 @@
-use Rattle.hose_law.specs.Tree.{growth}
+use Rattle.hose_law.specs.steps.Tree.{growth}
 use Rattle.hose_law.proofs.Cheapest.{root_within}
 use Rattle.hose_law.proofs.law_least.Goals as goal
 

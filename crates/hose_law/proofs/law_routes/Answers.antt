@@ -1,4 +1,4 @@
-use Rattle.hose_law.specs.Tree.{growth}
+use Rattle.hose_law.specs.steps.Tree.{growth}
 use Rattle.hose_law.proofs.Routes.{same_routes}
 use Rattle.hose_law.proofs.law_routes.Goals as goal
 

@@ -3,7 +3,7 @@ use Rattle.std.proofs.Common.{◌≡◌, ◌∙◌, ℕ, ◌<◌, List, None, le
 use Rattle.std.proofs.lemmas.List.{take_all}
 use Rattle.hose_graph.specs.Row.{distance_of}
 use Rattle.hose_law.specs.CanonicalPlan.{IsWeight}
-use Rattle.hose_root.specs.Weight.{LeavesOut, weight_of}
+use Rattle.hose_root.specs.steps.Weight.{LeavesOut, weight_of}
 use Rattle.hose_root.proofs.Weighing.{weight_more, none_left_out_more, share_at, is_weight, no_weight, left_out}
 use Rattle.hose_root.proofs.weight.Goals as goal
 

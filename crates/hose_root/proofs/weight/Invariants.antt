@@ -1,7 +1,7 @@
 -- Every endpoint so far has a distance, and the weight is their sum.
 use Rattle.std.proofs.Common.{◌≡◌, ◌*◌, ◌≤◌, take}
 use Rattle.hose_graph.specs.declared.limits.TheConstants.{MOST_DISTANCE, MOST_RATE}
-use Rattle.hose_root.specs.Weight.{LeavesOut, weight_of}
+use Rattle.hose_root.specs.steps.Weight.{LeavesOut, weight_of}
 use Rattle.hose_root.proofs.weight.Given as goal
 
 abbrev pub invariant-loop-node : goal.invariant-loop-node

@@ -1,7 +1,7 @@
 use Rattle.std.proofs.Common.{ap, map, refl, rules}
 use Rattle.std.specs.String.{string_bytes}
-use Rattle.hose_offline.specs.Parts.{held}
-use Rattle.hosed.specs.ProgramWords.{task_of}
+use Rattle.hose_offline.specs.steps.Parts.{held}
+use Rattle.hosed.specs.steps.ProgramWords.{task_of}
 use Rattle.hosed.specs.ProgramWords.Verb.{serve}
 use Rattle.hosed.proofs.Commands.{none_wrong, of_same}
 use Rattle.hosed.proofs.Outcomes.{are_wrong, served_of}

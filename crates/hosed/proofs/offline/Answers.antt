@@ -1,5 +1,5 @@
 use Rattle.std.proofs.Common.{ap, rules}
-use Rattle.hose_offline.specs.Parts.{held}
+use Rattle.hose_offline.specs.steps.Parts.{held}
 use Rattle.hosed.proofs.Outcomes.{told_of}
 use Rattle.hosed.proofs.offline.Goals as goal
 

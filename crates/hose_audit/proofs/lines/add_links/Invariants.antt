@@ -1,6 +1,6 @@
 use Rattle.std.proofs.Common.{take}
 use Rattle.std.specs.List.{flat_map}
-use Rattle.hose_io.specs.Gather.{IsAdded}
+use Rattle.hose_io.specs.steps.Gather.{IsAdded}
 use Rattle.hose_audit.specs.Audit.{load_line, link_numbers}
 use Rattle.hose_audit.proofs.lines.add_links.Given as goal
 

@@ -1,5 +1,5 @@
 use Rattle.std.proofs.Common.{[], subst}
-use Rattle.hose_io.specs.Gather.{IsAdded}
+use Rattle.hose_io.specs.steps.Gather.{IsAdded}
 use Rattle.hose_io.proofs.Gathering.{IsAdded-item}
 use Rattle.hose_graph.specs.declared.entry.Vpn.{Vpn}
 use Rattle.hose_audit.specs.Audit.{vpn_line}

@@ -1,6 +1,6 @@
 use Rattle.std.proofs.Common.{take}
 use Rattle.std.specs.List.{flat_map}
-use Rattle.hose_io.specs.Gather.{IsAdded}
+use Rattle.hose_io.specs.steps.Gather.{IsAdded}
 use Rattle.hose_audit.specs.Audit.{vpn_line}
 use Rattle.hose_audit.proofs.lines.add_vpns.Given as goal
 

@@ -7,11 +7,12 @@ use Rattle.hose_law.specs.Book.{Book, amount_on, load_of}
 use Rattle.hose_law.specs.History.{IsSoundAt, next_book}
 use Rattle.hose_law.proofs.Sold.{NoneOversold, entry_keeps}
 use Rattle.hose_law.proofs.LiveIds.{rising_next}
-use Rattle.hose_law.specs.Live.{HasRisingIds}
+use Rattle.hose_law.specs.steps.Live.{HasRisingIds}
 use Rattle.hose_graph.specs.Ascending.{firsts}
 use Rattle.hose_law.specs.Tracks.{Recent}
-use Rattle.hose_book.specs.Changes.{AreUpTo}
-use Rattle.hose_book.specs.Ledger.{Ledger, AreKeptLoads, IsKept}
+use Rattle.hose_book.specs.steps.Changes.{AreUpTo}
+use Rattle.hose_book.specs.Ledger.{Ledger}
+use Rattle.hose_book.specs.steps.Ledger.{AreKeptLoads, IsKept}
 use Rattle.hose_book.proofs.Tracking.{floor_next, with_up_to}
 use Rattle.hose_law.proofs.Bounds.{reserved_links, reserved_few, reserved_most, reserved_nodes}
 use Rattle.hose_book.proofs.Loads.{capacity_small, load_more}

@@ -2,12 +2,12 @@ use Rattle.std.proofs.Common.{◌≡◌, ◌∙◌, ◌≤◌, ℕ, true, List, 
 use Rattle.std.proofs.lemmas.List.{length-replicate, get_or-replicate}
 use Rattle.std.proofs.lemmas.List.Elements.{All-nil}
 use Rattle.hose_graph.specs.declared.entry.Vpn.{Vpn}
-use Rattle.hose_law.specs.Live.{HasRisingIds}
+use Rattle.hose_law.specs.steps.Live.{HasRisingIds}
 use Rattle.hose_law.specs.Tracks.{Change, Recent}
-use Rattle.hose_book.specs.Changes.{AreUpTo}
+use Rattle.hose_book.specs.steps.Changes.{AreUpTo}
 use Rattle.hose_book.proofs.Ids.{none_rise}
-use Rattle.hose_book.specs.Ledger.{IsKept}
-use Rattle.hose_book.specs.Serving.{Served}
+use Rattle.hose_book.specs.steps.Ledger.{IsKept}
+use Rattle.hose_book.specs.steps.Serving.{Served}
 use Rattle.hose_law.specs.Book.{load_of}
 use Rattle.hose_law.specs.Service.{links_in_service}
 use Rattle.hose_law.proofs.Serving.{none_out}

@@ -1,7 +1,7 @@
 use Rattle.std.proofs.Common.{sym, subst}
 use Rattle.hose_graph.specs.declared.entry.Entry.{Entry}
 use Rattle.hose_book.proofs.Judging.{judged_refused, judged_sound}
-use Rattle.hose_book.specs.Refusal.{Judges}
+use Rattle.hose_book.specs.steps.Refusal.{Judges}
 use Rattle.hose_book.proofs.Book.check.Goals as goal
 
 pub returns-in-Admit-clause-ok : goal.returns-in-Admit-clause-ok

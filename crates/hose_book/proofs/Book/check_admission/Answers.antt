@@ -7,7 +7,7 @@ use Rattle.hose_law.specs.Tree.{IsTreeReservation}
 use Rattle.hose_law.specs.Walk.{all_links}
 use Rattle.hose_law.proofs.Bounds.{reserved_links}
 use Rattle.hose_book.specs.Ledger.{Ledger}
-use Rattle.hose_book.specs.Refusal.{AreInService}
+use Rattle.hose_book.specs.steps.Refusal.{AreInService}
 use Rattle.hose_book.proofs.Served.{over_served}
 use Rattle.hose_book.proofs.Book.check_admission.Goals as goal
 

@@ -2,7 +2,7 @@ use Rattle.std.proofs.Common.{◌∙◌, ◌-◌, List, ap, get_or, length, subs
 use Rattle.hose_graph.specs.declared.entry.Vpn.{Vpn}
 use Rattle.hose_law.specs.Answer.{IsNewest}
 use Rattle.hose_law.specs.Live.{Rise}
-use Rattle.hose_law.specs.VpnIds.{ids_of}
+use Rattle.hose_law.specs.steps.VpnIds.{ids_of}
 use Rattle.hose_law.proofs.VpnLists.{are_vpns}
 use Rattle.hose_book.proofs.Newest.{newest_last}
 use Rattle.hose_book.proofs.Book.newest_of.Goals as goal

@@ -4,13 +4,14 @@ use Rattle.hose_graph.specs.declared.entry.Vpn.{Vpn}
 use Rattle.hose_graph.specs.declared.entry.Entry.TheVariants.{Release}
 use Rattle.hose_law.specs.Book.{Book, IsLiveVpn, amount_on, load_of}
 use Rattle.hose_law.specs.History.{last_epoch, next_book}
-use Rattle.hose_law.specs.Live.{HasRisingIds}
+use Rattle.hose_law.specs.steps.Live.{HasRisingIds}
 use Rattle.hose_law.proofs.LiveIds.{rising_next}
 use Rattle.hose_law.proofs.Sold.{NoneOversold, entry_keeps}
 use Rattle.hose_graph.specs.Ascending.{firsts}
 use Rattle.hose_law.specs.Tracks.{Recent}
-use Rattle.hose_book.specs.Changes.{AreUpTo, with_changes}
-use Rattle.hose_book.specs.Ledger.{Ledger, AreKeptLoads, IsKept, next_ledger}
+use Rattle.hose_book.specs.steps.Changes.{AreUpTo, with_changes}
+use Rattle.hose_book.specs.Ledger.{Ledger}
+use Rattle.hose_book.specs.steps.Ledger.{AreKeptLoads, IsKept, next_ledger}
 use Rattle.hose_book.proofs.Tracking.{floor_next, with_up_to}
 use Rattle.hose_book.proofs.Releasing.{Taken, kept_left, taken_in, within}
 use Rattle.hose_book.proofs.Book.remove.Goals as goal

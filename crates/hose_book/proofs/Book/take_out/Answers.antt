@@ -5,7 +5,7 @@ use Rattle.hose_law.specs.History.{IsSoundAt}
 use Rattle.hose_law.specs.Service.{links_in_service}
 use Rattle.hose_law.proofs.Serving.{length-links_in_service, links_in_service-at, one_out}
 use Rattle.hose_book.specs.Ledger.{Ledger}
-use Rattle.hose_book.specs.Serving.{Served}
+use Rattle.hose_book.specs.steps.Serving.{Served}
 use Rattle.hose_book.proofs.Operated.{operated}
 use Rattle.hose_book.proofs.Book.take_out.Goals as goal
 

@@ -2,7 +2,7 @@ use Rattle.std.proofs.Common.{◌∙◌, ap, subst, sym}
 use Rattle.std.specs.List.Sorted.{IsStrictlyIncreasing}
 use Rattle.hose_law.specs.Answer.{AreVpnsOf}
 use Rattle.hose_law.specs.Live.{Rise}
-use Rattle.hose_law.specs.VpnIds.{ids_of}
+use Rattle.hose_law.specs.steps.VpnIds.{ids_of}
 use Rattle.hose_law.proofs.VpnLists.{are_vpns, ids_ascend}
 use Rattle.hose_book.proofs.Book.vpns_of.Goals as goal
 

@@ -4,7 +4,7 @@ use Rattle.std.proofs.lemmas.List.Elements.{All-more}
 use Rattle.hose_law.specs.Decision.{Fits}
 use Rattle.hose_law.specs.Room.{free_rates}
 use Rattle.hose_book.proofs.Judging.{first_full}
-use Rattle.hose_book.specs.Refusal.{IsAbove, IsLowestFull}
+use Rattle.hose_book.specs.steps.Refusal.{IsAbove, IsLowestFull}
 use Rattle.hose_book.proofs.checking.first_full_link.Goals as goal
 
 pub returns-then-amount-free_rate-clause-some : goal.returns-then-amount-free_rate-clause-some

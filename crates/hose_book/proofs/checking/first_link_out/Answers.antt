@@ -4,7 +4,7 @@ use Rattle.std.proofs.lemmas.List.{take_all}
 use Rattle.std.proofs.lemmas.List.Elements.{All-more}
 use Rattle.hose_law.specs.Walk.{IsIn}
 use Rattle.hose_book.proofs.Judging.{first_out}
-use Rattle.hose_book.specs.Refusal.{AreInService, IsLowestOut}
+use Rattle.hose_book.specs.steps.Refusal.{AreInService, IsLowestOut}
 use Rattle.hose_book.proofs.checking.first_link_out.Goals as goal
 
 pub returns-then-not-has-clause-some : goal.returns-then-not-has-clause-some

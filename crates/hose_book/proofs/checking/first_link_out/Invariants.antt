@@ -1,5 +1,5 @@
 use Rattle.std.proofs.Common.{take}
-use Rattle.hose_book.specs.Refusal.{AreInService}
+use Rattle.hose_book.specs.steps.Refusal.{AreInService}
 use Rattle.hose_book.proofs.checking.first_link_out.Given as goal
 
 abbrev pub invariant-loop-link : goal.invariant-loop-link

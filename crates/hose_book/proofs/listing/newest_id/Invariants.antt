@@ -1,6 +1,6 @@
 -- The VPNs that come after those that are left are all others'.
 use Rattle.std.proofs.Common.{◌≡◌}
-use Rattle.hose_law.specs.VpnIds.{ids_of}
+use Rattle.hose_law.specs.steps.VpnIds.{ids_of}
 use Rattle.hose_book.proofs.listing.newest_id.Given as goal
 
 abbrev pub invariant-loop-last : goal.invariant-loop-last

@@ -1,5 +1,5 @@
 use Rattle.std.proofs.Common.{◌≡◌, take}
-use Rattle.hose_law.specs.VpnIds.{ids_of}
+use Rattle.hose_law.specs.steps.VpnIds.{ids_of}
 use Rattle.hose_book.proofs.listing.own_ids.Given as goal
 
 abbrev pub invariant-loop-vpn : goal.invariant-loop-vpn

@@ -1,5 +1,6 @@
 use Rattle.std.proofs.Common.{List, None, subst}
-use Rattle.hose_cert.specs.CertLine.{CertLine, statement_line}
+use Rattle.hose_cert.specs.CertLine.{CertLine}
+use Rattle.hose_cert.specs.steps.CertLine.{statement_line}
 use Rattle.hose_cert.specs.Certificate.{MayFollow, last_of}
 use Rattle.hose_cert.proofs.Drafting.{refused}
 use Rattle.hose_cert.proofs.draft.take_hose.Goals as goal

@@ -1,6 +1,7 @@
 use Rattle.std.proofs.Common.{subst, sym}
-use Rattle.hose_cert.specs.CertLine.{cost_line, hose_line, statement_line}
-use Rattle.hose_cert.specs.Draft.{IsRefusedLine}
+use Rattle.hose_cert.specs.CertLine.{cost_line, hose_line}
+use Rattle.hose_cert.specs.steps.CertLine.{statement_line}
+use Rattle.hose_cert.specs.steps.Draft.{IsRefusedLine}
 use Rattle.hose_cert.specs.declared.statement.Statement.{Statement}
 use Rattle.hose_cert.proofs.Drafting.{no_cost_next, no_hose_next, refused}
 use Rattle.hose_cert.proofs.draft.take_into.Goals as goal

@@ -1,7 +1,7 @@
 use Rattle.std.proofs.Common.{refl, ◌∙◌, ap, Err}
 use Rattle.std.proofs.lemmas.Result.{IfErr-at_err}
 use Rattle.hose_proto.specs.Command.{ends_form}
-use Rattle.hose_proto.specs.Reading.{IsFaultOf}
+use Rattle.hose_proto.specs.steps.Reading.{IsFaultOf}
 use Rattle.hose_cert.proofs.Spelling.{no_hose}
 use Rattle.hose_cert.proofs.parsing.read_ends.Goals as goal
 

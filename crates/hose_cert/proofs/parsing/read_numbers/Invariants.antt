@@ -1,6 +1,6 @@
 -- The numbers so far are those of the words that came.
 use Rattle.std.proofs.Common.{◌≡◌, ◌≤◌, ◌-◌, ◌++◌, decimal, length, map}
-use Rattle.hose_cert.specs.Judging.{AreUpToMost}
+use Rattle.hose_cert.specs.steps.Judging.{AreUpToMost}
 use Rattle.hose_cert.proofs.parsing.read_numbers.Given as goal
 
 abbrev pub invariant-loop-words : goal.invariant-loop-words

@@ -1,6 +1,6 @@
 use Rattle.std.proofs.Common.{None, ◌+◌, ◌-◌, length}
 use Rattle.hose_words.specs.declared.lines.TheConstants.{INPUT_LIMIT}
-use Rattle.hose_cert.specs.Taking.{ReadsUpTo}
+use Rattle.hose_cert.specs.steps.Taking.{ReadsUpTo}
 use Rattle.hose_cert.proofs.reading.pass_over.Given as goal
 
 abbrev pub invariant-loop : goal.invariant-loop

@@ -1,7 +1,7 @@
 use Rattle.std.proofs.Common.{subst}
 use Rattle.hose_words.specs.Words.{words_of}
-use Rattle.hose_cert.specs.CertLine.{statement_line}
-use Rattle.hose_cert.specs.Draft.{IsRefusedLine}
+use Rattle.hose_cert.specs.steps.CertLine.{statement_line}
+use Rattle.hose_cert.specs.steps.Draft.{IsRefusedLine}
 use Rattle.hose_cert.proofs.Spelling.{spelled_once}
 use Rattle.hose_cert.proofs.reading.take_text.Goals as goal
 

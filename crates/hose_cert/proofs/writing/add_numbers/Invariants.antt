@@ -1,7 +1,7 @@
 use Rattle.std.proofs.Common.{take}
 use Rattle.std.specs.Prelude.{unwrap_or}
 use Rattle.std.specs.List.{flat_map}
-use Rattle.hose_io.specs.Gather.{IsAdded}
+use Rattle.hose_io.specs.steps.Gather.{IsAdded}
 use Rattle.hose_cert.specs.Written.{number_text}
 use Rattle.hose_cert.proofs.writing.add_numbers.Given as goal
 

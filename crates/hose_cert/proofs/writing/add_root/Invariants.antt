@@ -1,5 +1,5 @@
 use Rattle.std.specs.List.{flat_map, range_with_len}
-use Rattle.hose_io.specs.Gather.{IsAdded}
+use Rattle.hose_io.specs.steps.Gather.{IsAdded}
 use Rattle.hose_proto.specs.ReplyText.{line_of}
 use Rattle.hose_cert.specs.Written.{block_line, line_text, numbers_of}
 use Rattle.hose_cert.proofs.writing.add_root.Given as goal

@@ -1,4 +1,4 @@
-use Rattle.hose_cert.specs.Adding.{AddsRoots}
+use Rattle.hose_cert.specs.steps.Adding.{AddsRoots}
 use Rattle.hose_cert.proofs.writing.add_roots.Given as goal
 
 abbrev pub invariant-loop-root : goal.invariant-loop-root

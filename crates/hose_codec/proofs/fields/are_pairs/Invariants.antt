@@ -1,6 +1,6 @@
 use Rattle.std.proofs.Common.{length}
 use Rattle.std.specs.Prelude.{◌↔◌}
-use Rattle.hose_codec.specs.Reading.{ArePairsFrom, pairs_of}
+use Rattle.hose_codec.specs.steps.Reading.{ArePairsFrom, pairs_of}
 use Rattle.hose_codec.proofs.fields.are_pairs.Given as goal
 
 abbrev pub invariant-loop-first : goal.invariant-loop-first

@@ -1,6 +1,6 @@
 use Rattle.std.proofs.Common.{◌≡◌, ◌+◌, ◌/◌, ◌≤◌, ◌++◌, length, vec_len}
 use Rattle.std.specs.Vec.{vec_capacity}
-use Rattle.hose_codec.specs.Reading.{pairs_of}
+use Rattle.hose_codec.specs.steps.Reading.{pairs_of}
 use Rattle.hose_codec.specs.declared.limits.TheConstants.{PAIR_BYTES}
 use Rattle.hose_codec.proofs.fields.pairs_of.Given as goal
 

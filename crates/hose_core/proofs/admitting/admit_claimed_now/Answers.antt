@@ -1,6 +1,6 @@
 use Rattle.std.proofs.Common.{◌∙◌, Some, subst, sym}
 use Rattle.hose_book.specs.Ledger.{Ledger}
-use Rattle.hose_core.specs.Bound.{HasNewest, TellsNewest}
+use Rattle.hose_core.specs.steps.Bound.{HasNewest, TellsNewest}
 use Rattle.hose_core.proofs.Claimed.{claimed_admits, stale_differs}
 use Rattle.hose_core.proofs.Decided.{enters_newest, newest_admits, newest_not_memory}
 use Rattle.hose_core.proofs.admitting.admit_claimed_now.Goals as goal

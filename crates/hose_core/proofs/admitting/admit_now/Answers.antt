@@ -1,7 +1,7 @@
 use Rattle.std.proofs.Common.{List, ℕ, None, inr, option_map, subst}
 use Rattle.hose_book.specs.Ledger.{Ledger}
-use Rattle.hose_core.specs.Bound.{HasNewest, TellsNewest}
-use Rattle.hose_core.specs.Planning.{AdmitsAtOnce, IsNotPlanned, IsPlannedFor}
+use Rattle.hose_core.specs.steps.Bound.{HasNewest, TellsNewest}
+use Rattle.hose_core.specs.steps.Planning.{AdmitsAtOnce, IsNotPlanned, IsPlannedFor}
 use Rattle.hose_core.proofs.Decided.{newest_admits, unplanned_admits}
 use Rattle.hose_core.proofs.admitting.admit_now.Goals as goal
 

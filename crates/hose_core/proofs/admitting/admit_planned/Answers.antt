@@ -1,6 +1,6 @@
 use Rattle.std.proofs.Common.{◌∙◌, List, ap, sym, ℕ, subst}
 use Rattle.hose_law.specs.Plan.{plan_cost}
-use Rattle.hose_core.specs.Stepping.{TellsPlan}
+use Rattle.hose_core.specs.steps.Stepping.{TellsPlan}
 use Rattle.hose_core.proofs.Decided.{admit_step}
 use Rattle.hose_core.proofs.PlannedEntries.{admits_cheapest, made_entry}
 use Rattle.hose_core.proofs.admitting.admit_planned.Goals as goal

@@ -1,5 +1,5 @@
 use Rattle.std.proofs.Common.{◌∙◌, ap, inl, inr, refl, rules, subst, sym}
-use Rattle.hose_book.specs.Commit.{IsMet}
+use Rattle.hose_book.specs.steps.Commit.{IsMet}
 use Rattle.hose_book.specs.Ledger.{Ledger}
 use Rattle.hose_book.specs.declared.books.Committed.{Committed}
 use Rattle.hose_graph.specs.declared.command.Reply.TheVariants.{Disk}

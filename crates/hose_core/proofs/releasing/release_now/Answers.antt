@@ -1,6 +1,6 @@
 use Rattle.std.proofs.Common.{◌∙◌, ℕ, List, sym}
 use Rattle.hose_graph.specs.declared.command.Command.TheVariants.{Release}
-use Rattle.hose_core.specs.Stepping.{StepsAtEach}
+use Rattle.hose_core.specs.steps.Stepping.{StepsAtEach}
 use Rattle.hose_core.proofs.ReleasedEntries.{as_released}
 use Rattle.hose_core.proofs.releasing.release_now.Goals as goal
 

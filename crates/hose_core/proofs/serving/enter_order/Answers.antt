@@ -1,6 +1,6 @@
 use Rattle.std.proofs.Common.{◌<◌, ◌∙◌, ap, arith, refl, subst, sym}
 use Rattle.hose_graph.specs.declared.command.Reply.TheVariants.{Already, Spent}
-use Rattle.hose_graph.specs.Naming.{NamesPlaces}
+use Rattle.hose_graph.specs.steps.Naming.{NamesPlaces}
 use Rattle.hose_law.specs.History.{last_epoch}
 use Rattle.hose_law.specs.ReplyKind.{kind_of}
 use Rattle.hose_law.specs.Service.{is_out}

@@ -1,8 +1,8 @@
 use Rattle.std.proofs.Common.{◌∙◌, Bool, ℕ, sym}
 use Rattle.hose_graph.specs.Limits.{operator}
 use Rattle.hose_graph.specs.Network.{IsLinkOf}
-use Rattle.hose_core.specs.Serving.{service_command}
-use Rattle.hose_core.specs.Stepping.{StepsAtEach}
+use Rattle.hose_core.specs.steps.Serving.{service_command}
+use Rattle.hose_core.specs.steps.Stepping.{StepsAtEach}
 use Rattle.hose_core.proofs.ServiceEntries.{as_ordered}
 use Rattle.hose_core.proofs.serving.service_now.Goals as goal
 

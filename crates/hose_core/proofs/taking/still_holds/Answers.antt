@@ -3,7 +3,7 @@ use Rattle.hose_graph.specs.Network.{Network}
 use Rattle.hose_law.specs.Book.{loads_of}
 use Rattle.hose_law.specs.Room.{room_of}
 use Rattle.hose_law.proofs.Serving.{length-links_in_service}
-use Rattle.hose_plan.specs.Planning.{AreMade, AreMadeSince}
+use Rattle.hose_plan.specs.steps.Planning.{AreMade, AreMadeSince}
 use Rattle.hose_core.proofs.Earlier.{grounds_by_last}
 use Rattle.hose_core.proofs.TakenQuotes.{holds_beside}
 use Rattle.hose_core.proofs.taking.still_holds.Goals as goal

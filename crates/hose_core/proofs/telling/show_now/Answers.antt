@@ -1,6 +1,6 @@
 use Rattle.std.proofs.Common.{subst}
 use Rattle.hose_book.specs.Ledger.{Ledger}
-use Rattle.hose_core.specs.Telling.{IsShown}
+use Rattle.hose_core.specs.steps.Telling.{IsShown}
 use Rattle.hose_core.proofs.Told.{show_step}
 use Rattle.hose_core.proofs.telling.show_now.Goals as goal
 

@@ -1,6 +1,6 @@
 use Rattle.std.proofs.Common.{subst}
 use Rattle.hose_book.specs.Ledger.{Ledger}
-use Rattle.hose_core.specs.Telling.{AreShown}
+use Rattle.hose_core.specs.steps.Telling.{AreShown}
 use Rattle.hose_core.proofs.Told.{vpns_step}
 use Rattle.hose_core.proofs.telling.vpns_now.Goals as goal
 

@@ -1,6 +1,6 @@
 use Rattle.std.proofs.Common.{refl, rules}
 use Rattle.hose_session.proofs.Accounting.{none_accounts}
-use Rattle.hose_crew.specs.Hands.{HasWorked}
+use Rattle.hose_crew.specs.steps.Hands.{HasWorked}
 use Rattle.hose_crew.proofs.Gathering.{all_rest, none_gathered, none_returned}
 use Rattle.hose_crew.proofs.crew.gather.Goals as goal
 

@@ -1,5 +1,5 @@
 use Rattle.std.proofs.Common.{◌≡◌, ◌+◌, length}
-use Rattle.hose_crew.specs.Hands.{AreBack, HaveWorked, IsGathered}
+use Rattle.hose_crew.specs.steps.Hands.{AreBack, HaveWorked, IsGathered}
 use Rattle.hose_crew.proofs.crew.gather.Given as goal
 
 abbrev pub invariant-loop-hand : goal.invariant-loop-hand

@@ -1,5 +1,5 @@
 use Rattle.std.proofs.Common.{◌≡◌, ℕ, ◌+◌, ◌<◌, ◌≤◌, length, slice_index_or}
-use Rattle.hose_crew.specs.Hands.{HasWorked, IsIdle}
+use Rattle.hose_crew.specs.steps.Hands.{HasWorked, IsIdle}
 use Rattle.hose_crew.proofs.crew.take_places.Given as goal
 
 abbrev pub invariant-loop-number : goal.invariant-loop-number

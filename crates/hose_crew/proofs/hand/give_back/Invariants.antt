@@ -1,5 +1,5 @@
 use Rattle.std.proofs.Common.{◌≡◌, ◌++◌, map}
-use Rattle.hose_crew.specs.Hands.{AllComeBack}
+use Rattle.hose_crew.specs.steps.Hands.{AllComeBack}
 use Rattle.hose_crew.proofs.hand.give_back.Given as goal
 
 abbrev pub invariant-loop-done : goal.invariant-loop-done

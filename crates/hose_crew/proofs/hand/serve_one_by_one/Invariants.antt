@@ -1,5 +1,5 @@
 use Rattle.std.proofs.Common.{◌≡◌, ◌≤◌, ◌-◌, length, map, vec_capacity}
-use Rattle.hose_crew.specs.Hands.{Works}
+use Rattle.hose_crew.specs.steps.Hands.{Works}
 use Rattle.hose_crew.proofs.hand.serve_one_by_one.Given as goal
 
 abbrev pub invariant-loop-one : goal.invariant-loop-one

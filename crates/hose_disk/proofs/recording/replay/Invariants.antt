@@ -1,7 +1,7 @@
 use Rattle.std.proofs.Common.{◌≡◌, take}
-use Rattle.hose_disk.specs.Images.{read_of}
-use Rattle.hose_disk.specs.Picks.{picked}
-use Rattle.hose_disk.specs.Recording.{steps_of}
+use Rattle.hose_disk.specs.steps.Images.{read_of}
+use Rattle.hose_disk.specs.steps.Picks.{picked}
+use Rattle.hose_disk.specs.steps.Recording.{steps_of}
 use Rattle.hose_disk.proofs.recording.replay.Given as goal
 
 abbrev pub invariant-loop-call : goal.invariant-loop-call

@@ -1,5 +1,5 @@
 use Rattle.std.proofs.Common.{◌+◌, ◌-◌, ◌*◌, ◌^◌, length}
-use Rattle.hose_follow.specs.Exchanging.{FollowsOn}
+use Rattle.hose_follow.specs.steps.Exchanging.{FollowsOn}
 use Rattle.hose_follow.proofs.following.follow_all.Given as goal
 
 abbrev pub invariant-loop-end : goal.invariant-loop-end

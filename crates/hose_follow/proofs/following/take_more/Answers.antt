@@ -1,5 +1,5 @@
 use Rattle.std.proofs.Common.{ℕ, sym, subst}
-use Rattle.hose_follow.specs.Exchanging.{TakesMore}
+use Rattle.hose_follow.specs.steps.Exchanging.{TakesMore}
 use Rattle.hose_follow.proofs.following.take_more.Goals as goal
 
 pub returns-then-intake-eq-INPUT_LIMIT-clause-takes : goal.returns-then-intake-eq-INPUT_LIMIT-clause-takes

@@ -1,7 +1,7 @@
 use Rattle.std.proofs.Common.{◌++◌, List, ℕ, subst}
 use Rattle.byteorder.specs.Endian.{big_bytes}
 use Rattle.std.proofs.Common.{length}
-use Rattle.hose_io.specs.Gather.{IsAdded}
+use Rattle.hose_io.specs.steps.Gather.{IsAdded}
 use Rattle.hose_io.proofs.Gathering.{IsAdded-next}
 use Rattle.hose_follow.proofs.packet.add_packet.Goals as goal
 

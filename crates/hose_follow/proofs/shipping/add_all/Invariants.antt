@@ -1,8 +1,8 @@
 use Rattle.std.proofs.Common.{◌-◌, []}
 use Rattle.hose_graph.specs.Network.{Network}
 use Rattle.hose_law.specs.History.{last_epoch}
-use Rattle.hose_store.specs.Replaying.{IsReplaying}
-use Rattle.hose_follow.specs.Shipping.{HasAdded}
+use Rattle.hose_store.specs.steps.Replaying.{IsReplaying}
+use Rattle.hose_follow.specs.steps.Shipping.{HasAdded}
 use Rattle.hose_follow.proofs.shipping.add_all.Given as goal
 
 abbrev pub invariant-loop : goal.invariant-loop

@@ -1,9 +1,9 @@
 use Rattle.std.proofs.Common.{◌≡◌, ◌-◌, List, [], ℕ, Result, arith, false, length, subst, sym}
 use Rattle.hose_graph.specs.Network.{Network}
 use Rattle.hose_graph.specs.declared.entry.Entry.{Entry}
-use Rattle.hose_io.specs.Gather.{Gathered}
-use Rattle.hose_store.specs.Replaying.{IsReplaying}
-use Rattle.hose_follow.specs.Shipping.{AddsAll, Ships}
+use Rattle.hose_io.specs.steps.Gather.{Gathered}
+use Rattle.hose_store.specs.steps.Replaying.{IsReplaying}
+use Rattle.hose_follow.specs.steps.Shipping.{AddsAll, Ships}
 use Rattle.hose_follow.specs.declared.shipping.ShipFault.{ShipFault}
 use Rattle.hose_follow.proofs.Shipped.{shipped, shipped_opened, shipped_stays}
 use Rattle.hose_follow.proofs.shipping.ship_all.Goals.{After-add_all-added}

@@ -1,6 +1,6 @@
 use Rattle.std.proofs.Common.{◌≡◌, length}
 use Rattle.std.specs.List.{All}
-use Rattle.hose_graph.specs.Naming.{AsksOf}
+use Rattle.hose_graph.specs.steps.Naming.{AsksOf}
 use Rattle.hose_graph.specs.Network.{Network}
 use Rattle.hose_gen.specs.Generated.{after_hoses, first_orders}
 use Rattle.hose_gen.proofs.orders.orders.Given as goal

@@ -1,4 +1,4 @@
-use Rattle.hose_disk.specs.Disk.{IsTruncated}
+use Rattle.hose_disk.specs.steps.Disk.{IsTruncated}
 use Rattle.hose_journal.proofs.Beginnings.{cut_empties, emptied_run}
 use Rattle.hose_journal.proofs.Runs.{synced_step}
 use Rattle.hose_journal.proofs.beginning.empty.Goals as goal

@@ -3,8 +3,10 @@ use Rattle.std.specs.Prelude.{Err}
 use Rattle.hose_journal.specs.declared.layout.TheConstants.{CHAINED, DIGEST_BYTES}
 use Rattle.hose_journal.specs.Entries.{front_of}
 use Rattle.hose_journal.specs.Image.{IsClosed, IsUnbegun}
-use Rattle.hose_journal.specs.Moments.{LeavesOnly, ReadsItsImages}
-use Rattle.hose_journal.specs.Opening.{AddsNoRecord, HasHead, IsHeadOf, IsOpened}
+use Rattle.hose_journal.specs.Moments.{LeavesOnly}
+use Rattle.hose_journal.specs.steps.Moments.{ReadsItsImages}
+use Rattle.hose_journal.specs.Opening.{AddsNoRecord}
+use Rattle.hose_journal.specs.steps.Opening.{HasHead, IsHeadOf, IsOpened}
 use Rattle.hose_journal.proofs.Openings.{adds_none, adds_still, unbegun_told, head_refused, reads_kept, unbegun_images, open_begun, begun_told, open_new, list_new, short_new, until_begun, until_reloaded}
 use Rattle.hose_journal.proofs.Runs.{only_content}
 use Rattle.hose_journal.proofs.opening.prepare.Goals.{After-is_unbegun, After-load_front, After-load_front-2}

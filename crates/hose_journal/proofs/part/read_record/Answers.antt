@@ -2,7 +2,7 @@ use Rattle.std.proofs.Common.{◌≡◌, ◌≢◌, ◌∙◌, ℕ, length, rule
 use Rattle.std.specs.Prelude.{Err}
 use Rattle.hose_codec.specs.declared.limits.CodecFault.{CodecFault}
 use Rattle.hose_journal.specs.declared.layout.TheConstants.{DIGEST_BYTES}
-use Rattle.hose_journal.specs.AtGate.{HasNoFields}
+use Rattle.hose_journal.specs.steps.AtGate.{HasNoFields}
 use Rattle.hose_journal.specs.Entries.{value_in}
 use Rattle.hose_journal.proofs.Parts.{by_fault, found_by, none_found, none_valued, same_width}
 use Rattle.hose_journal.proofs.part.read_record.Goals as goal

@@ -1,5 +1,5 @@
 use Rattle.std.proofs.Common.{arith}
-use Rattle.hose_journal.specs.Entries.{entries_reader}
+use Rattle.hose_journal.specs.steps.Entries.{entries_reader}
 use Rattle.hose_journal.proofs.Lists.{journal_is_list}
 use Rattle.hose_journal.proofs.OneList.{one_list}
 use Rattle.hose_journal.proofs.reading.law_one_list.Goals as goal

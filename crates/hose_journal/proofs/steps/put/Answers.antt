@@ -1,5 +1,5 @@
 use Rattle.std.proofs.Common.{length}
-use Rattle.hose_disk.specs.Disk.{IsOverwritten}
+use Rattle.hose_disk.specs.steps.Disk.{IsOverwritten}
 use Rattle.hose_journal.proofs.Runs.{goes_on, only_content, synced_step, torn_run}
 use Rattle.hose_journal.proofs.steps.put.Goals as goal
 

@@ -1,4 +1,4 @@
-use Rattle.hose_journal.specs.Gates.{IsDoubtful}
+use Rattle.hose_journal.specs.steps.Gates.{IsDoubtful}
 use Rattle.hose_journal.proofs.Runs.{now_too, weaker}
 use Rattle.hose_journal.proofs.Gates.{gate_keeps, gate_lands}
 use Rattle.hose_journal.proofs.steps.set_gate.Goals as goal

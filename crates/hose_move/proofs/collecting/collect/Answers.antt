@@ -1,7 +1,7 @@
 use Rattle.std.proofs.Common.{sym, subst, List}
 use Rattle.std.proofs.lemmas.Result.{err_from_is_err_and}
 use Rattle.hose_graph.specs.declared.entry.Entry.{Entry}
-use Rattle.hose_move.specs.Collecting.{HasPassed}
+use Rattle.hose_move.specs.steps.Collecting.{HasPassed}
 use Rattle.hose_move.proofs.Collected.{passed_none}
 use Rattle.hose_move.proofs.collecting.collect.Goals as goal
 

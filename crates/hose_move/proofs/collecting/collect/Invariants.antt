@@ -2,8 +2,8 @@
 use Rattle.std.proofs.Common.{◌-◌, []}
 use Rattle.hose_graph.specs.Network.{Network}
 use Rattle.hose_law.specs.History.{last_epoch}
-use Rattle.hose_store.specs.Replaying.{IsReplaying}
-use Rattle.hose_move.specs.Collecting.{HasPassed}
+use Rattle.hose_store.specs.steps.Replaying.{IsReplaying}
+use Rattle.hose_move.specs.steps.Collecting.{HasPassed}
 use Rattle.hose_move.proofs.collecting.collect.Given as goal
 
 abbrev pub invariant-loop : goal.invariant-loop

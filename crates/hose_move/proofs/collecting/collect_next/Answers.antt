@@ -1,7 +1,7 @@
 use Rattle.std.proofs.Common.{◌≡◌, ◌∙◌, List, [], ◌∷◌, ◌++◌, ap, rules, subst, sym}
 use Rattle.std.proofs.lemmas.Result.{err_from_is_err_and}
 use Rattle.hose_graph.specs.declared.entry.Entry.{Entry}
-use Rattle.hose_move.specs.Collecting.{HasPassed}
+use Rattle.hose_move.specs.steps.Collecting.{HasPassed}
 use Rattle.hose_move.proofs.Collected.{passed_all, passed_more, passed_until, wanting}
 use Rattle.hose_move.proofs.Compared.{is_spelling}
 use Rattle.hose_move.proofs.collecting.collect_next.Goals as goal

@@ -1,6 +1,6 @@
 -- The entries so far are committed.
 use Rattle.hose_graph.specs.Network.{Network}
-use Rattle.hose_move.specs.Committing.{IsMoving}
+use Rattle.hose_move.specs.steps.Committing.{IsMoving}
 use Rattle.hose_move.proofs.committing.commit_rest.Given as goal
 
 abbrev pub invariant-loop-place : goal.invariant-loop-place

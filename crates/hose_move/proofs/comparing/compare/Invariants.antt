@@ -1,7 +1,7 @@
 -- So many entries were read, and they are the first of those that the journal should have.
 use Rattle.std.proofs.Common.{◌-◌, ◌≤◌, [], length, take}
 use Rattle.hose_graph.specs.Network.{Network}
-use Rattle.hose_store.specs.Replaying.{IsReplaying}
+use Rattle.hose_store.specs.steps.Replaying.{IsReplaying}
 use Rattle.hose_move.proofs.comparing.compare.Given as goal
 
 abbrev pub invariant-loop-place : goal.invariant-loop-place

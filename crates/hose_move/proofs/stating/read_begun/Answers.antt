@@ -1,6 +1,6 @@
 use Rattle.std.proofs.Common.{subst}
 use Rattle.hose_graph.specs.Network.{Network}
-use Rattle.hose_store.specs.Becoming.{BeginsAtMost}
+use Rattle.hose_store.specs.steps.Becoming.{BeginsAtMost}
 use Rattle.hose_store.specs.Opening.{IsRefusedStore}
 use Rattle.hose_store.proofs.Begins.{nothing_begun}
 use Rattle.hose_move.proofs.Readings.{no_further, refused_open}

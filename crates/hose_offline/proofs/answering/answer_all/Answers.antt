@@ -1,9 +1,9 @@
 use Rattle.std.proofs.Common.{◌<◌, false, refl}
 use Rattle.hose_words.specs.declared.lines.TheConstants.{INPUT_LIMIT}
-use Rattle.hose_words.specs.Saying.{SaysUpTo}
+use Rattle.hose_words.specs.steps.Saying.{SaysUpTo}
 use Rattle.hose_talk.proofs.Retold.{talks_as}
 use Rattle.hose_proto.specs.ReplyText.{line_of, reply_text}
-use Rattle.hose_offline.specs.Talking.{HasAnswered, SaysAlone, talk_tellings}
+use Rattle.hose_offline.specs.steps.Talking.{HasAnswered, SaysAlone, talk_tellings}
 use Rattle.hose_offline.proofs.Exchanges.{answered_none, talks_so}
 use Rattle.hose_offline.proofs.TalksTold.{too_long_told}
 use Rattle.hose_offline.proofs.answering.answer_all.Goals as goal

@@ -6,7 +6,7 @@ use Rattle.hose_graph.specs.Network.{Network}
 use Rattle.hose_law.specs.Script.{ReadLine}
 use Rattle.hose_law.specs.Script.ReadLine.{Asks, IsBad}
 use Rattle.hose_offline.specs.ScriptLine.{IsAsking, script_grammar}
-use Rattle.hose_offline.specs.Talking.{SaysRead}
+use Rattle.hose_offline.specs.steps.Talking.{SaysRead}
 use Rattle.hose_offline.proofs.OneReading.{text_alone}
 use Rattle.hose_offline.proofs.answering.reply_to.Goals as goal
 

@@ -1,7 +1,8 @@
 use Rattle.std.specs.Prelude.{option_map}
 use Rattle.std.proofs.Common.{◌∙◌, ap, sym}
 use Rattle.hose_offline.specs.Ending.{TakesWithinLimit, status_of_done}
-use Rattle.hose_offline.specs.Parts.{held, parts, tellings}
+use Rattle.hose_offline.specs.Parts.{parts, tellings}
+use Rattle.hose_offline.specs.steps.Parts.{held}
 use Rattle.hose_offline.specs.declared.notation.Notation.TheVariants.{Lines}
 use Rattle.hose_offline.proofs.Outcomes.{completes, none_named, refuses, refused_ends, run_not_1, too_long_at_8}
 use Rattle.hose_offline.proofs.answering.run.Goals as goal

@@ -2,12 +2,12 @@ use Rattle.std.specs.Prelude.{⊤}
 use Rattle.std.proofs.Common.{◌≡◌, ◌∙◌, ℕ, List, Option, Err, sym, ap, subst}
 use Rattle.std.proofs.lemmas.Result.{err_from_is_err_and}
 use Rattle.hose_words.proofs.OnReading.{ReadsOn-then}
-use Rattle.hose_offline.specs.Fault.{of_topology}
+use Rattle.hose_offline.specs.steps.Fault.{of_topology}
 use Rattle.hose_offline.specs.declared.fault.Fault.TheVariants.{Read}
 use Rattle.std.specs.Prelude.{option_map}
 use Rattle.hose_offline.specs.Parts.{parts, tellings}
 use Rattle.hose_offline.specs.RunOutcome.{RunLeaves}
-use Rattle.hose_topo.specs.Reading.{KeepsLineFault}
+use Rattle.hose_topo.specs.steps.Reading.{KeepsLineFault}
 use Rattle.hose_offline.proofs.Leaving.{leaves_in_cabinet, leaves_in_memory}
 use Rattle.hose_offline.proofs.Running.{leaves_topology, not_read, stopped_told, wrong_told}
 use Rattle.hose_words.proofs.Saying.{rose_now}

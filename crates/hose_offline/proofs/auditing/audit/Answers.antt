@@ -1,6 +1,7 @@
 use Rattle.std.proofs.Common.{refl, subst}
 use Rattle.hose_offline.specs.Auditing.{ReadsTopology, priced_names}
-use Rattle.hose_offline.specs.Parts.{held, parts, tellings}
+use Rattle.hose_offline.specs.Parts.{parts, tellings}
+use Rattle.hose_offline.specs.steps.Parts.{held}
 use Rattle.hose_offline.proofs.Audited.{audit_not_1, is_audited, named_not_read, no_topology}
 use Rattle.hose_offline.proofs.auditing.audit.Goals as goal
 

@@ -1,6 +1,7 @@
 use Rattle.std.proofs.Common.{inr}
 use Rattle.hose_law.specs.History.{IsDecidedAt}
-use Rattle.hose_offline.specs.Parts.{held, parts, tellings}
+use Rattle.hose_offline.specs.Parts.{parts, tellings}
+use Rattle.hose_offline.specs.steps.Parts.{held}
 use Rattle.hose_offline.proofs.Audited.{book_told}
 use Rattle.hose_offline.proofs.auditing.audit_journal.Goals as goal
 

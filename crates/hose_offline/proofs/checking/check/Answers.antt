@@ -1,6 +1,7 @@
 use Rattle.std.proofs.Common.{Ok, Err, ap, subst}
 use Rattle.hose_offline.specs.CheckOutcome.{JudgesNamed}
-use Rattle.hose_offline.specs.Parts.{held, tellings}
+use Rattle.hose_offline.specs.Parts.{tellings}
+use Rattle.hose_offline.specs.steps.Parts.{held}
 use Rattle.hose_offline.proofs.Judging.{checked}
 use Rattle.hose_offline.proofs.checking.check.Goals as goal
 

@@ -1,6 +1,6 @@
 use Rattle.std.proofs.Common.{ap, arith}
 use Rattle.hose_words.proofs.Saying.{rose_now}
-use Rattle.hose_cert.specs.Taking.{fault_in}
+use Rattle.hose_cert.specs.steps.Taking.{fault_in}
 use Rattle.hose_offline.proofs.Judging.{found_told, long_told, read_not}
 use Rattle.hose_offline.proofs.checking.judge_lines.Goals as goal
 

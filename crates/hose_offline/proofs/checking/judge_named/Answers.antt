@@ -1,7 +1,8 @@
 use Rattle.std.proofs.Common.{◌≡◌, ◌∙◌, Err, ap, refl, subst}
 use Rattle.std.proofs.lemmas.Result.{err_from_is_err_and}
 use Rattle.hose_offline.specs.Auditing.{ReadsTopology}
-use Rattle.hose_offline.specs.Parts.{held, tellings}
+use Rattle.hose_offline.specs.Parts.{tellings}
+use Rattle.hose_offline.specs.steps.Parts.{held}
 use Rattle.hose_offline.proofs.Judging.{judged_none, judged_then}
 use Rattle.hose_offline.proofs.checking.judge_named.Goals as goal
 

@@ -1,6 +1,7 @@
 use Rattle.std.proofs.Common.{◌≡◌, ◌∙◌, inl, inr, Err, refl, ap}
 use Rattle.std.proofs.lemmas.Result.{err_from_is_err_and}
-use Rattle.hose_offline.specs.Parts.{held, parts, tellings}
+use Rattle.hose_offline.specs.Parts.{parts, tellings}
+use Rattle.hose_offline.specs.steps.Parts.{held}
 use Rattle.hose_offline.proofs.Followed.{followed_in}
 use Rattle.hose_offline.proofs.following.follow_journal.Goals as goal
 

@@ -1,12 +1,12 @@
 use Rattle.std.proofs.Common.{◌∙◌, [], sym, ap, subst}
 use Rattle.std.specs.Prelude.{IfOk}
 use Rattle.std.specs.List.{All}
-use Rattle.hose_graph.specs.Naming.{AsksOf}
+use Rattle.hose_graph.specs.steps.Naming.{AsksOf}
 use Rattle.hose_graph.specs.Network.{Network}
 use Rattle.hose_book.specs.Ledger.{Ledger}
 use Rattle.hose_book.specs.declared.books.Plain.{Plain}
 use Rattle.hose_gen.specs.Generated.{Order}
-use Rattle.hose_offline.specs.Generating.{IsTallyOf}
+use Rattle.hose_offline.specs.steps.Generating.{IsTallyOf}
 use Rattle.hose_offline.proofs.generating.tally_in_memory.Goals as goal
 
 pub tally_orders-requires-clause-asks : goal.tally_orders-requires-clause-asks

@@ -1,6 +1,6 @@
 use Rattle.std.proofs.Common.{◌≡◌, ◌∙◌, [], ◌∷◌, List, ℕ, Err, drop, sym, ap, subst}
 use Rattle.std.proofs.lemmas.Result.{err_from_is_err_and}
-use Rattle.hose_words.specs.Cursor.{IsWrong, Position}
+use Rattle.hose_words.specs.steps.Cursor.{IsWrong, Position}
 use Rattle.hose_words.specs.Form.{IsChoice}
 use Rattle.hose_words.specs.Grammar.{IsFirst, IsFirstNotAllowed}
 use Rattle.hose_words.specs.Words.{words_of}

@@ -1,6 +1,6 @@
 use Rattle.std.proofs.Common.{◌≡◌, ◌∙◌, Err, ap}
 use Rattle.std.proofs.lemmas.Result.{err_from_is_err_and}
-use Rattle.hose_offline.specs.Fault.{of_json}
+use Rattle.hose_offline.specs.steps.Fault.{of_json}
 use Rattle.hose_offline.proofs.JsonLemmas.{whole_refused}
 use Rattle.hose_offline.proofs.json_text.read_whole_json.Goals as goal
 

@@ -1,7 +1,7 @@
 use Rattle.std.proofs.Common.{rules, ◌≡◌, ◌∙◌, ◌+◌, ◌≤◌, ◌++◌, Err, take, drop, length, ap, arith, length-append}
 use Rattle.std.proofs.lemmas.List.{take-append-le}
 use Rattle.std.proofs.lemmas.Result.{err_from_is_err_and}
-use Rattle.hose_io.specs.Calls.{call_more, none_yet}
+use Rattle.hose_io.specs.steps.Calls.{call_more, none_yet}
 use Rattle.hose_io.proofs.Streams.{Gives-append}
 use Rattle.hose_offline.specs.declared.fault.Fault.TheVariants as fault
 use Rattle.hose_offline.specs.declared.json_text.TheConstants.{JSON_LIMIT}

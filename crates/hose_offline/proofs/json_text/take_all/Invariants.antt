@@ -1,6 +1,6 @@
 -- What was taken is in hand, is not too long, and no call failed.
 use Rattle.std.proofs.Common.{◌≡◌, ◌-◌, ◌≤◌, length}
-use Rattle.hose_io.specs.Calls.{HasGone}
+use Rattle.hose_io.specs.steps.Calls.{HasGone}
 use Rattle.hose_io.specs.Stream.{Gives}
 use Rattle.hose_offline.specs.declared.json_text.TheConstants.{JSON_LIMIT}
 use Rattle.hose_offline.proofs.json_text.take_all.Given as goal

@@ -1,6 +1,6 @@
 use Rattle.std.proofs.Common.{inl, inr, refl, subst}
 use Rattle.hose_offline.specs.Moving.{ReadsOld, scope_of}
-use Rattle.hose_offline.specs.Parts.{held}
+use Rattle.hose_offline.specs.steps.Parts.{held}
 use Rattle.hose_offline.proofs.moving.move_stated.Goals as goal
 
 pub returns-in-Ok-clause-moves : goal.returns-in-Ok-clause-moves

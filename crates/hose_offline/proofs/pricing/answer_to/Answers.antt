@@ -1,5 +1,5 @@
 use Rattle.std.proofs.Common.{◌∙◌, Err, ap, subst}
-use Rattle.hose_words.specs.Lines.{Shows}
+use Rattle.hose_words.specs.steps.Lines.{Shows}
 use Rattle.hose_words.specs.declared.lines.Line.{Line}
 use Rattle.hose_offline.proofs.Sheets.{bad_shown, priced_shown}
 use Rattle.hose_offline.proofs.pricing.answer_to.Goals as goal

@@ -1,6 +1,7 @@
 use Rattle.std.proofs.Common.{ap, subst}
 use Rattle.hose_offline.specs.Auditing.{ReadsTopology}
-use Rattle.hose_offline.specs.Parts.{held, tellings}
+use Rattle.hose_offline.specs.Parts.{tellings}
+use Rattle.hose_offline.specs.steps.Parts.{held}
 use Rattle.hose_offline.specs.TopologyTold.{own_costs}
 use Rattle.hose_offline.proofs.Priced.{price_not_1, priced_none, priced_then}
 use Rattle.hose_offline.proofs.pricing.price.Goals as goal

@@ -1,6 +1,7 @@
 use Rattle.std.proofs.Common.{◌≡◌, ◌∙◌, Err, ap, inr}
 use Rattle.std.proofs.lemmas.Result.{err_from_is_err_and}
-use Rattle.hose_offline.specs.Parts.{held, tellings}
+use Rattle.hose_offline.specs.Parts.{tellings}
+use Rattle.hose_offline.specs.steps.Parts.{held}
 use Rattle.hose_offline.specs.declared.fault.Fault.TheVariants.{Memory}
 use Rattle.hose_offline.proofs.Priced.{starved}
 use Rattle.hose_offline.proofs.pricing.price_input.Goals as goal

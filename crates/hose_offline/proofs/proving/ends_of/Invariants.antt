@@ -1,6 +1,6 @@
 use Rattle.std.proofs.Common.{◌≤◌, ◌-◌, length, map, take}
 use Rattle.std.specs.String.{string_bytes}
-use Rattle.hose_offline.specs.ProveOutcome.{AreEndsInOrder}
+use Rattle.hose_offline.specs.steps.ProveOutcome.{AreEndsInOrder}
 use Rattle.hose_offline.proofs.proving.ends_of.Given as goal
 
 abbrev pub invariant-loop-found : goal.invariant-loop-found

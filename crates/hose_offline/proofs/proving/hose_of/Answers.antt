@@ -1,7 +1,7 @@
 use Rattle.std.proofs.Common.{subst, sym, map}
 use Rattle.std.specs.String.{string_bytes}
 use Rattle.std.specs.List.Sorted.{IsPermutation}
-use Rattle.hose_graph.specs.Hose.{MakesHose}
+use Rattle.hose_graph.specs.steps.Hose.{MakesHose}
 use Rattle.hose_offline.proofs.EndsFound.{ends_make_hose, ends_of_hose}
 use Rattle.hose_offline.proofs.proving.hose_of.Goals as goal
 

@@ -1,7 +1,8 @@
 use Rattle.std.proofs.Common.{map, subst}
 use Rattle.std.specs.String.{string_bytes}
 use Rattle.hose_offline.specs.Auditing.{ReadsTopology}
-use Rattle.hose_offline.specs.Parts.{held, tellings}
+use Rattle.hose_offline.specs.Parts.{tellings}
+use Rattle.hose_offline.specs.steps.Parts.{held}
 use Rattle.hose_offline.specs.ProveOutcome.{ends_from}
 use Rattle.hose_offline.proofs.Proved.{proved_none, proved_then}
 use Rattle.hose_offline.proofs.proving.prove.Goals as goal

@@ -1,6 +1,7 @@
 use Rattle.std.proofs.Common.{refl, subst}
 use Rattle.hose_offline.specs.Auditing.{ReadsTopology, priced_names}
-use Rattle.hose_offline.specs.Parts.{held, parts, tellings}
+use Rattle.hose_offline.specs.Parts.{parts, tellings}
+use Rattle.hose_offline.specs.steps.Parts.{held}
 use Rattle.hose_offline.proofs.Audited.{named_not_read, no_topology}
 use Rattle.hose_offline.proofs.ShipEnds.{is_shipped, ship_not_1}
 use Rattle.hose_offline.proofs.shipping.ship.Goals as goal

@@ -1,5 +1,6 @@
 use Rattle.std.proofs.Common.{refl}
-use Rattle.hose_offline.specs.Parts.{held, parts, tellings}
+use Rattle.hose_offline.specs.Parts.{parts, tellings}
+use Rattle.hose_offline.specs.steps.Parts.{held}
 use Rattle.hose_offline.proofs.PutBack.{unopened}
 use Rattle.hose_offline.proofs.ShipEnds.{none_shipped, ships_in}
 use Rattle.hose_offline.proofs.shipping.ship_journal.Goals as goal

@@ -1,7 +1,7 @@
 -- The table has settled.
 use Rattle.std.proofs.Common.{◌≡◌, ◌∙◌, length, sym, ap, subst}
 use Rattle.std.proofs.lemmas.List.{with_items_is}
-use Rattle.hose_paths.specs.Table.{IsFound}
+use Rattle.hose_paths.specs.steps.Table.{IsFound}
 use Rattle.hose_paths.proofs.heap.distances_along.Goals as goal
 
 pub settled-requires-clause-places : goal.settled-requires-clause-places

@@ -4,8 +4,8 @@ use Rattle.std.specs.BinaryHeap.{heap_items}
 use Rattle.std.proofs.lemmas.Bool.{both_ways}
 use Rattle.std.proofs.lemmas.List.Sorted.{Contains-permutation}
 use Rattle.hose_graph.proofs.Members.{contains_first}
-use Rattle.hose_paths.specs.Queue.{IsSettledBut}
-use Rattle.hose_paths.specs.Table.{entry}
+use Rattle.hose_paths.specs.steps.Queue.{IsSettledBut}
+use Rattle.hose_paths.specs.steps.Table.{entry}
 use Rattle.hose_paths.proofs.Following.{settled_start, taken_now, taken_stale}
 use Rattle.hose_paths.proofs.heap.settle_along.Goals as goal
 

@@ -1,8 +1,8 @@
 -- Each item that is taken and each entry that falls lowers the sum of twice the entries and the queue's length.
 use Rattle.std.proofs.Common.{ℕ, ◌+◌, ◌*◌}
 use Rattle.std.specs.BinaryHeap.{heap_items, heap_len}
-use Rattle.hose_paths.specs.Table.{IsFound, IsBounded, left_to_fall}
-use Rattle.hose_paths.specs.Queue.{IsSettledBut}
+use Rattle.hose_paths.specs.steps.Table.{IsFound, IsBounded, left_to_fall}
+use Rattle.hose_paths.specs.steps.Queue.{IsSettledBut}
 use Rattle.hose_paths.proofs.heap.settle_along.Given as goal
 
 abbrev pub invariant-loop-lowest : goal.invariant-loop-lowest

@@ -1,8 +1,8 @@
 -- The distances and the links that are tight by them are the row.
 use Rattle.std.proofs.Common.{◌≡◌, ◌∙◌, ℕ, List, Option, All, length, sym, ap, subst}
 use Rattle.std.proofs.lemmas.List.{with_items_is}
-use Rattle.hose_graph.specs.Row.{IsWithinReach}
-use Rattle.hose_paths.specs.Table.{IsLowestTight, entry}
+use Rattle.hose_graph.specs.steps.Row.{IsWithinReach}
+use Rattle.hose_paths.specs.steps.Table.{IsLowestTight, entry}
 use Rattle.hose_paths.proofs.Made.{row_made}
 use Rattle.hose_paths.proofs.tight.with_tight_links.Goals as goal
 

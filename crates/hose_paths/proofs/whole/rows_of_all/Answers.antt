@@ -1,6 +1,6 @@
 -- The last row is the new one, and the others were there before.
 use Rattle.std.proofs.Common.{◌≡◌, [], ◌∷◌, ◌++◌, arith, length-append}
-use Rattle.hose_paths.specs.Rows.{IsRowOf}
+use Rattle.hose_paths.specs.steps.Rows.{IsRowOf}
 use Rattle.hose_paths.proofs.Firsts.{each_more}
 use Rattle.hose_paths.proofs.whole.rows_of_all.Goals as goal
 

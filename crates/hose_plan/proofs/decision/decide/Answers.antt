@@ -3,7 +3,7 @@ use Rattle.std.proofs.Common.{◌≡◌, ◌∙◌, ℕ, Bool, List, get_or, ap,
 use Rattle.hose_law.specs.CanonicalPlan.{IsCanonicalPlan}
 use Rattle.hose_law.specs.Decision.{IsReachedList, lowest_end}
 use Rattle.hose_law.proofs.CanonicalPlans.{planned_sound}
-use Rattle.hose_plan.specs.Planning.{allowed_links, room_beside}
+use Rattle.hose_plan.specs.steps.Planning.{allowed_links, room_beside}
 use Rattle.hose_plan.proofs.Deciding.{lowest_is_first, none_allowed, planned, planned_cheapest, refused, reserved_within}
 use Rattle.hose_plan.proofs.EqualGrounds.{places_of}
 use Rattle.hose_plan.proofs.decision.decide.Goals as goal

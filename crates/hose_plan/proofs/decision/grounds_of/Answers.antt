@@ -1,7 +1,7 @@
 -- The first plan, whether it fits, and the safe links.
 use Rattle.std.proofs.Common.{ℕ, ◌/◌, List, Bool, ap, subst, sym}
 use Rattle.hose_law.specs.Decision.{AreGrounds}
-use Rattle.hose_plan.specs.Planning.{room_beside}
+use Rattle.hose_plan.specs.steps.Planning.{room_beside}
 use Rattle.hose_plan.proofs.Deciding.{rests_on}
 use Rattle.hose_plan.proofs.decision.grounds_of.Goals as goal
 

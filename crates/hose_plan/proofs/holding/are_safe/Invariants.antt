@@ -1,5 +1,5 @@
 use Rattle.std.proofs.Common.{ℕ, ◌<◌}
-use Rattle.hose_plan.specs.Planning.{IsSafeStill}
+use Rattle.hose_plan.specs.steps.Planning.{IsSafeStill}
 use Rattle.hose_plan.proofs.holding.are_safe.Given as goal
 
 abbrev pub invariant-loop-link : goal.invariant-loop-link

@@ -1,7 +1,7 @@
 -- The row of one more endpoint is that of its node.
 use Rattle.std.proofs.Common.{◌∙◌, arith, subst, sym}
 use Rattle.std.proofs.lemmas.List.{take_at}
-use Rattle.hose_plan.specs.Rooting.{AreWeights}
+use Rattle.hose_plan.specs.steps.Rooting.{AreWeights}
 use Rattle.hose_plan.proofs.Rooted.{no_root_apart, rows_pushed}
 use Rattle.hose_plan.proofs.Weights.{all_so_far, more_so_far}
 use Rattle.hose_plan.proofs.root.best_root.Goals as goal

@@ -1,5 +1,5 @@
 -- The weights of the endpoints so far, and their rows.
-use Rattle.hose_plan.specs.Rooting.{AreDistancesOver}
+use Rattle.hose_plan.specs.steps.Rooting.{AreDistancesOver}
 use Rattle.hose_plan.proofs.Weights.{AreSoFar}
 use Rattle.hose_plan.proofs.root.best_root.Given as goal
 

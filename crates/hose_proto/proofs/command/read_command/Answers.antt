@@ -1,10 +1,10 @@
 use Rattle.std.proofs.Common.{◌≡◌, ◌∙◌, ℕ, List, [], drop, ap, refl, subst, arith}
 use Rattle.std.proofs.lemmas.Result.{IfErr-at_err}
-use Rattle.hose_words.specs.Cursor.{Position}
+use Rattle.hose_words.specs.steps.Cursor.{Position}
 use Rattle.hose_words.specs.Grammar.{IsFirstNotAllowed}
 use Rattle.hose_words.specs.Words.{words_of}
 use Rattle.hose_proto.specs.Command.{command_form, command_grammar}
-use Rattle.hose_proto.specs.Reading.{IsFaultOf}
+use Rattle.hose_proto.specs.steps.Reading.{IsFaultOf}
 use Rattle.hose_proto.proofs.command.read_command.Goals as goal
 
 pub returns-clause-bad : goal.returns-clause-bad

@@ -1,7 +1,7 @@
 use Rattle.std.proofs.lemmas.Result.{IfErr-at_err}
 use Rattle.std.proofs.Common.{refl}
 use Rattle.hose_proto.specs.Command.{command_form}
-use Rattle.hose_proto.specs.Reading.{IsFaultOf}
+use Rattle.hose_proto.specs.steps.Reading.{IsFaultOf}
 use Rattle.hose_proto.proofs.OneCommand.{asked_for, command_not_wrong, command_unique, read_asks_of}
 use Rattle.hose_proto.proofs.command.read_command_at.Goals as goal
 

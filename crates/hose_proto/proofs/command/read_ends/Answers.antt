@@ -1,6 +1,6 @@
 use Rattle.std.proofs.Common.{subst, sym}
 use Rattle.std.specs.List.Sorted.{IsPermutation}
-use Rattle.hose_graph.specs.Hose.{MakesHose}
+use Rattle.hose_graph.specs.steps.Hose.{MakesHose}
 use Rattle.hose_proto.proofs.Faults.{handed_on}
 use Rattle.hose_proto.proofs.Hoses.{hose_made, makes_hose}
 use Rattle.hose_proto.proofs.command.read_ends.Goals as goal

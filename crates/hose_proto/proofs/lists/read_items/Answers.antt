@@ -1,5 +1,5 @@
 use Rattle.std.proofs.Common.{◌≤◌, [], ◌∷◌, ◌++◌, length, inr, subst, arith}
-use Rattle.hose_proto.specs.Reading.{EndsList}
+use Rattle.hose_proto.specs.steps.Reading.{EndsList}
 use Rattle.hose_proto.proofs.Faults.{told_wrong}
 use Rattle.hose_proto.proofs.ItemByItem.{item_more, some_fine, wrong_last}
 use Rattle.hose_proto.proofs.lists.read_items.Goals as goal

@@ -1,7 +1,7 @@
 use Rattle.std.proofs.Common.{length}
 use Rattle.hose_words.specs.Form.{list}
 use Rattle.hose_words.proofs.Listing.{Listing}
-use Rattle.hose_proto.specs.Reading.{AreSoFar}
+use Rattle.hose_proto.specs.steps.Reading.{AreSoFar}
 use Rattle.hose_proto.proofs.lists.read_items.Given as goal
 
 abbrev pub invariant-loop-items : goal.invariant-loop-items

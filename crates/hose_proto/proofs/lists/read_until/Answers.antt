@@ -1,7 +1,8 @@
 use Rattle.std.proofs.Common.{◌≤◌, ◌∙◌, [], ◌∷◌, ◌++◌, ap, length, map, inr, subst}
 use Rattle.hose_words.proofs.Until.{wrong_past_last}
-use Rattle.hose_proto.specs.Fields.{form_of, no_more}
-use Rattle.hose_proto.specs.Reading.{MissesUntil}
+use Rattle.hose_proto.specs.Fields.{no_more}
+use Rattle.hose_proto.specs.steps.Fields.{form_of}
+use Rattle.hose_proto.specs.steps.Reading.{MissesUntil}
 use Rattle.hose_proto.proofs.Faults.{told_each}
 use Rattle.hose_proto.proofs.ListsUntil.{none_ends, until_item, wrong_until}
 use Rattle.hose_proto.proofs.lists.read_until.Goals as goal

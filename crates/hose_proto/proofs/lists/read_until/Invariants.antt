@@ -1,8 +1,9 @@
 use Rattle.std.proofs.Common.{length}
 use Rattle.hose_words.specs.Form.{until}
 use Rattle.hose_words.proofs.Listing.{Listing}
-use Rattle.hose_proto.specs.Fields.{Fields, form_of}
-use Rattle.hose_proto.specs.Reading.{AreSoFar}
+use Rattle.hose_proto.specs.Fields.{Fields}
+use Rattle.hose_proto.specs.steps.Fields.{form_of}
+use Rattle.hose_proto.specs.steps.Reading.{AreSoFar}
 use Rattle.hose_proto.proofs.lists.read_until.Given as goal
 
 abbrev pub invariant-loop-items : goal.invariant-loop-items

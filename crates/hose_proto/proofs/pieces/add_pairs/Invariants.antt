@@ -1,6 +1,6 @@
 use Rattle.std.proofs.Common.{take}
 use Rattle.std.specs.List.{flat_map}
-use Rattle.hose_io.specs.Gather.{IsAdded}
+use Rattle.hose_io.specs.steps.Gather.{IsAdded}
 use Rattle.hose_proto.specs.ReplyText.{pair_text}
 use Rattle.hose_proto.proofs.pieces.add_pairs.Given as goal
 

@@ -1,6 +1,6 @@
 use Rattle.std.proofs.Common.{◌∷◌, ◌++◌, ◌∙◌, codes, map, sym, subst}
 use Rattle.std.specs.List.Sorted.{IsPermutation}
-use Rattle.hose_graph.specs.Hose.{MakesHose}
+use Rattle.hose_graph.specs.steps.Hose.{MakesHose}
 use Rattle.hose_proto.specs.Places.{end_word}
 use Rattle.hose_proto.proofs.Faults.{handed_each}
 use Rattle.hose_proto.proofs.Hoses.{hose_made, makes_hose, new_in_order, same_hose}

@@ -1,8 +1,8 @@
 use Rattle.std.proofs.Common.{◌≡◌, [], ap, subst, sym}
-use Rattle.hose_words.specs.Cursor.{Position}
+use Rattle.hose_words.specs.steps.Cursor.{Position}
 use Rattle.hose_words.specs.Grammar.{IsFirstNotAllowed}
 use Rattle.hose_words.specs.Words.{words_of}
-use Rattle.hose_proto.specs.ReplyLines.{IsReply, reply_grammar}
+use Rattle.hose_proto.specs.steps.ReplyLines.{IsReply, reply_grammar}
 use Rattle.hose_proto.proofs.ReplyLemmas.{read_again, read_places, told_at_start}
 use Rattle.hose_proto.proofs.reply_reader.read_reply.Goals as goal
 

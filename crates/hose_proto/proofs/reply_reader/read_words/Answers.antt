@@ -1,5 +1,5 @@
 use Rattle.hose_words.proofs.Forms.{wrong_choice}
-use Rattle.hose_proto.specs.ReplyLines.{head_form}
+use Rattle.hose_proto.specs.steps.ReplyLines.{head_form}
 use Rattle.hose_proto.proofs.Faults.{chosen_fault, told_wrong}
 use Rattle.hose_proto.proofs.Words.{heads_apart}
 use Rattle.hose_proto.proofs.reply_reader.read_words.Goals as goal

@@ -1,6 +1,6 @@
 use Rattle.std.proofs.Common.{[], arith}
 use Rattle.hose_io.proofs.Gathering.{IsAdded-item}
-use Rattle.hose_proto.specs.ReplyText.{number_text}
+use Rattle.hose_proto.specs.steps.ReplyText.{number_text}
 use Rattle.hose_proto.proofs.reply_text.add_ids.Goals as goal
 
 pub loop-id-preserved : goal.loop-id-preserved

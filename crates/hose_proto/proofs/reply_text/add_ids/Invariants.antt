@@ -1,7 +1,7 @@
 use Rattle.std.proofs.Common.{take}
 use Rattle.std.specs.List.{flat_map}
-use Rattle.hose_io.specs.Gather.{IsAdded}
-use Rattle.hose_proto.specs.ReplyText.{number_text}
+use Rattle.hose_io.specs.steps.Gather.{IsAdded}
+use Rattle.hose_proto.specs.steps.ReplyText.{number_text}
 use Rattle.hose_proto.proofs.reply_text.add_ids.Given as goal
 
 abbrev pub invariant-loop-id : goal.invariant-loop-id

@@ -1,6 +1,6 @@
 use Rattle.std.proofs.Common.{◌≡◌, ◌∙◌, Err, ap, refl}
 use Rattle.std.proofs.lemmas.Result.{err_from_is_err_and}
-use Rattle.hose_words.specs.Cursor.{IsWrong}
+use Rattle.hose_words.specs.steps.Cursor.{IsWrong}
 use Rattle.hose_words.specs.Words.{words_of}
 use Rattle.hose_words.proofs.Forms.{wrong_at_start, wrong_later}
 use Rattle.hose_session.specs.SessionLines.{greeting_form}

@@ -3,7 +3,7 @@ use Rattle.std.specs.Prelude.{MatchOption}
 use Rattle.hose_words.specs.declared.lines.TheConstants.{INPUT_LIMIT}
 use Rattle.hose_graph.specs.Network.{Network}
 use Rattle.hose_shared.proofs.Passes.{more_same}
-use Rattle.hose_session.specs.Exchanges.{CanBeServed, ComesAlong, is_over}
+use Rattle.hose_session.specs.steps.Exchanges.{CanBeServed, ComesAlong, is_over}
 use Rattle.hose_session.specs.declared.client.Progress.{Progress}
 use Rattle.hose_session.proofs.Completing.{session_complete}
 use Rattle.hose_session.proofs.Conversing.{Talks, comes_none, reading_held, serves_so, talks_there, too_long_so, writing_held}

@@ -1,8 +1,9 @@
 use Rattle.std.proofs.Common.{subst, sym}
-use Rattle.hose_book.specs.Ledger.{Ledger, TracksOn}
+use Rattle.hose_book.specs.Ledger.{Ledger}
+use Rattle.hose_book.specs.steps.Ledger.{TracksOn}
 use Rattle.hose_book.specs.declared.books.Committed.TheVariants.{Done}
-use Rattle.hose_store.specs.Commit.{Went}
-use Rattle.hose_store.specs.Store.{KeptStore, account_of}
+use Rattle.hose_store.specs.steps.Commit.{Went}
+use Rattle.hose_store.specs.steps.Store.{KeptStore, account_of}
 use Rattle.hose_store.proofs.Commits.{went_done, went_failed}
 use Rattle.hose_store.proofs.Histories.{few_entries}
 use Rattle.hose_store.proofs.committing.add.Goals as goal

@@ -1,8 +1,8 @@
 use Rattle.std.proofs.Common.{◌≡◌, ◌-◌}
 use Rattle.hose_law.specs.History.{last_epoch}
 use Rattle.hose_journal.specs.Moments.{KeepsCount}
-use Rattle.hose_journal.specs.Reading.{OnlyRead}
-use Rattle.hose_store.specs.Opening.{IsRecovering}
+use Rattle.hose_journal.specs.steps.Reading.{OnlyRead}
+use Rattle.hose_store.specs.steps.Opening.{IsRecovering}
 use Rattle.hose_store.proofs.recovery.recover.Given as goal
 
 abbrev pub invariant-loop : goal.invariant-loop

@@ -1,5 +1,5 @@
 use Rattle.std.proofs.Common.{rules, subst}
-use Rattle.hose_store.specs.Opening.{IsNotEmpty}
+use Rattle.hose_store.specs.steps.Opening.{IsNotEmpty}
 use Rattle.hose_store.proofs.Readings.{given_next}
 use Rattle.hose_store.proofs.replay.read_next.Goals as goal
 

@@ -1,7 +1,7 @@
 use Rattle.std.proofs.Common.{◌≡◌, ◌∙◌, Ok, Err, false, refl, ap, subst}
 use Rattle.std.proofs.lemmas.Result.{err_from_is_err_and}
 use Rattle.hose_words.proofs.OnReading.{ReadsOn-then}
-use Rattle.hose_talk.specs.Talk.{Exchanges}
+use Rattle.hose_talk.specs.steps.Talk.{Exchanges}
 use Rattle.hose_talk.specs.declared.talking.TalkEnd.TheVariants as talk_end
 use Rattle.hose_talk.proofs.StillReading.{reading_begun, reading_more}
 use Rattle.hose_talk.proofs.Talks.{keeps_fault, not_past, nothing_talked, one_past, talked_more, talks_all, talks_fault, talks_over, within_limit}

@@ -1,6 +1,6 @@
 use Rattle.std.proofs.Common.{◌≡◌, ◌+◌, ◌-◌, ◌≤◌, [], length}
 use Rattle.hose_words.specs.declared.lines.TheConstants.{INPUT_LIMIT}
-use Rattle.hose_talk.specs.Talk.{HasTalked}
+use Rattle.hose_talk.specs.steps.Talk.{HasTalked}
 use Rattle.hose_talk.proofs.StillReading.{IsStillReading}
 use Rattle.hose_talk.proofs.talking.converse.Given as goal
 

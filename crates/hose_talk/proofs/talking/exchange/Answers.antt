@@ -2,8 +2,8 @@ use Rattle.std.proofs.Common.{◌≡◌, Ok, Err, refl, ◌∙◌, ap, subst, tr
 use Rattle.std.proofs.lemmas.Result.{err_from_is_err_and}
 use Rattle.hose_io.specs.Stream.{Grows}
 use Rattle.hose_io.specs.Writing.{GrowsInPart}
-use Rattle.hose_words.specs.Lines.{IsNext}
-use Rattle.hose_talk.specs.TalkFaults.{of_line}
+use Rattle.hose_words.specs.steps.Lines.{IsNext}
+use Rattle.hose_talk.specs.steps.TalkFaults.{of_line}
 use Rattle.hose_talk.specs.declared.talking.TalkFault.TheVariants.{Write}
 use Rattle.hose_talk.proofs.Talks.{answered_line, exchanges_read}
 use Rattle.hose_talk.proofs.talking.exchange.Goals as goal

@@ -1,5 +1,5 @@
 use Rattle.std.proofs.Common.{sym, subst}
-use Rattle.hose_words.specs.Cursor.{IsWrong}
+use Rattle.hose_words.specs.steps.Cursor.{IsWrong}
 use Rattle.hose_words.proofs.Exits.{still_wrong}
 use Rattle.hose_words.proofs.Forms.{wrong_choice, wrong_chosen}
 use Rattle.hose_topo.specs.TopologyText.{kind_form}

@@ -5,7 +5,7 @@ use Rattle.hose_graph.specs.Row.{Distances}
 use Rattle.hose_law.specs.Row.{IsRow}
 use Rattle.hose_law.specs.Tree.{IsTree}
 use Rattle.hose_law.specs.CanonicalPlan.{IsCanonicalTree}
-use Rattle.hose_tree.specs.Attached.{IsTightTree, IsAttached}
+use Rattle.hose_tree.specs.steps.Attached.{IsTightTree, IsAttached}
 use Rattle.hose_tree.proofs.Union.{HasAttached, one_more, none_attached, is_canonical, root_is_node}
 use Rattle.hose_tree.proofs.Tree.from_row.Goals as goal
 

@@ -1,6 +1,6 @@
 use Rattle.std.proofs.Common.{arith, subst}
-use Rattle.hose_tree.specs.Peeling.{Question}
-use Rattle.hose_tree.specs.Rates.{AreRatesOf}
+use Rattle.hose_tree.specs.steps.Peeling.{Question}
+use Rattle.hose_tree.specs.steps.Rates.{AreRatesOf}
 use Rattle.hose_tree.proofs.Asking.{answer, reserved_are_few, reserved_are_possible, starts}
 use Rattle.hose_tree.proofs.judge.is_reservation.Goals as goal
 use Rattle.hose_tree.proofs.judge.is_reservation.Goals.{then-pairs-via-then-pairs, then-pairs-via-else-pairs+then-not-are_possible}

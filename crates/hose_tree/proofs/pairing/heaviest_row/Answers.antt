@@ -1,7 +1,7 @@
 use Rattle.std.proofs.Common.{◌∙◌, ◌++◌, ◌∷◌, [], ℕ, List, ap, map, sym, arith}
 use Rattle.std.specs.List.{range_with_len}
 use Rattle.std.proofs.lemmas.List.FromFn.{map-range_with_len_more}
-use Rattle.hose_tree.specs.Side.{paired}
+use Rattle.hose_tree.specs.steps.Side.{paired}
 use Rattle.hose_tree.proofs.pairing.heaviest_row.Goals as goal
 
 pub loop-j-preserved : goal.loop-j-preserved

@@ -1,7 +1,7 @@
 use Rattle.std.proofs.Common.{◌≡◌, ◌+◌, ◌∷◌, [], ◌++◌, ℕ, false, Vec, Global, get_or, sym, ◌∙◌, ap, subst, rules}
 use Rattle.std.proofs.lemmas.Bool.{true≢false}
 use Rattle.hose_law.specs.Walk.{IsIn}
-use Rattle.hose_tree.specs.Nodes.{AreNodesBelow}
+use Rattle.hose_tree.specs.steps.Nodes.{AreNodesBelow}
 use Rattle.hose_tree.proofs.Listing.{node_more, no_node_more}
 use Rattle.hose_tree.proofs.reach.nodes_on.Goals.{then-side-v+in_ok-push, else-side-v}
 use Rattle.hose_tree.proofs.reach.nodes_on.Goals as goal

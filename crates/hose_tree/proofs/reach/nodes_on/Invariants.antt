@@ -1,4 +1,4 @@
-use Rattle.hose_tree.specs.Nodes.{AreNodesBelow}
+use Rattle.hose_tree.specs.steps.Nodes.{AreNodesBelow}
 use Rattle.hose_tree.proofs.reach.nodes_on.Given as goal
 
 abbrev pub invariant-loop-v : goal.invariant-loop-v

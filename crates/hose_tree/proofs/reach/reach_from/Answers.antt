@@ -1,7 +1,7 @@
 use Rattle.std.proofs.Common.{◌≡◌, length, replicate, sym, ap, subst, arith, Bool, List, false, true, set}
 use Rattle.std.proofs.lemmas.List.{get_or-set_same, length-set, length-replicate}
 use Rattle.hose_law.specs.Walk.{IsIn}
-use Rattle.hose_tree.specs.Reach.{AllReached}
+use Rattle.hose_tree.specs.steps.Reach.{AllReached}
 use Rattle.hose_tree.proofs.Reaching.{side_done, start_reached}
 use Rattle.hose_tree.proofs.reach.reach_from.Goals as goal
 

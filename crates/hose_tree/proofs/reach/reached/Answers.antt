@@ -1,9 +1,9 @@
 use Rattle.std.proofs.Common.{◌≡◌, ◌∙◌, ℕ, ◌<◌, All, length, drop, sym, subst, arith}
 use Rattle.std.proofs.lemmas.List.{take_at}
 use Rattle.std.proofs.lemmas.Result.{IfOk-weaker}
-use Rattle.hose_law.specs.Plan.{IsReachedSet}
+use Rattle.hose_law.specs.steps.Plan.{IsReachedSet}
 use Rattle.hose_law.specs.Decision.{IsReachedList}
-use Rattle.hose_tree.specs.Nodes.{AreNodesBelow}
+use Rattle.hose_tree.specs.steps.Nodes.{AreNodesBelow}
 use Rattle.hose_tree.proofs.Listing.{reached_list}
 use Rattle.hose_tree.proofs.reach.reached.Goals as goal
 

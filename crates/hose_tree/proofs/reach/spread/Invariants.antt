@@ -1,6 +1,6 @@
 use Rattle.std.proofs.Common.{◌≡◌, ℕ, ◌<◌, ◌≤◌, true, false}
 use Rattle.hose_law.specs.Walk.{IsIn}
-use Rattle.hose_tree.specs.Reach.{count_on, AllReached, IsClosedBelow}
+use Rattle.hose_tree.specs.steps.Reach.{count_on, AllReached, IsClosedBelow}
 use Rattle.hose_tree.proofs.reach.spread.Given as goal
 
 abbrev pub invariant-loop-l : goal.invariant-loop-l

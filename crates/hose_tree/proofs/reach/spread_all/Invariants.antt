@@ -1,6 +1,6 @@
 use Rattle.std.proofs.Common.{ℕ, ◌-◌, length}
 use Rattle.hose_law.specs.Walk.{IsIn}
-use Rattle.hose_tree.specs.Reach.{count_on, AllReached}
+use Rattle.hose_tree.specs.steps.Reach.{count_on, AllReached}
 use Rattle.hose_tree.proofs.reach.spread_all.Given as goal
 
 abbrev pub invariant-loop : goal.invariant-loop

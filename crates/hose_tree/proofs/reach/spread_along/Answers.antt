@@ -3,7 +3,7 @@ use Rattle.std.specs.Option.{IsSomeAnd}
 use Rattle.std.proofs.lemmas.Bool.{cases_Bool}
 use Rattle.hose_graph.specs.declared.topology.Link.{Link}
 use Rattle.hose_law.specs.Walk.{IsIn, Joins}
-use Rattle.hose_tree.specs.Reach.{count_on, AllReached}
+use Rattle.hose_tree.specs.steps.Reach.{count_on, AllReached}
 use Rattle.hose_tree.proofs.Reaching.{pair_counts, pair_reached}
 use Rattle.hose_tree.proofs.reach.spread_along.Goals as goal
 

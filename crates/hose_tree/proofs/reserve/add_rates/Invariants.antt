@@ -1,5 +1,5 @@
 use Rattle.std.proofs.Common.{take}
-use Rattle.hose_tree.specs.Rates.{AreRatesOf}
+use Rattle.hose_tree.specs.steps.Rates.{AreRatesOf}
 use Rattle.hose_tree.proofs.reserve.add_rates.Given as goal
 
 abbrev pub invariant-loop-node : goal.invariant-loop-node

@@ -5,7 +5,7 @@ use Rattle.std.proofs.lemmas.Result.{IfOk-weaker}
 use Rattle.hose_law.specs.Carries.{CarryOn}
 use Rattle.hose_law.specs.Tree.{IsReservation}
 use Rattle.hose_law.proofs.Carrying.{reserved_carry}
-use Rattle.hose_tree.specs.Rates.{reserved_by}
+use Rattle.hose_tree.specs.steps.Rates.{reserved_by}
 use Rattle.hose_tree.proofs.Reserving.{IsReservation-sorted}
 use Rattle.hose_tree.proofs.reserve.reservations.Goals as goal
 use Rattle.hose_tree.proofs.reserve.reservations.Goals.{After-sort_unstable_by_key}

@@ -2,7 +2,7 @@ use Rattle.std.proofs.Common.{◌≡◌, ◌*◌, ◌≤◌, cond}
 use Rattle.hose_graph.specs.declared.limits.TheConstants.{MOST_RATE}
 use Rattle.hose_law.specs.Matrix.{demand, sum_below}
 use Rattle.hose_law.specs.Route.{one_alone}
-use Rattle.hose_tree.specs.Side.{is_marked}
+use Rattle.hose_tree.specs.steps.Side.{is_marked}
 use Rattle.hose_tree.proofs.traffic.load_from.Given as goal
 
 abbrev pub invariant-loop-j : goal.invariant-loop-j

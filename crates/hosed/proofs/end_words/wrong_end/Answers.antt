@@ -2,7 +2,7 @@ use Rattle.std.proofs.Common.{◌≡◌, ◌∙◌, List, ℕ, [], get_or, map, 
 use Rattle.std.specs.List.{take-map}
 use Rattle.std.specs.String.{string_bytes}
 use Rattle.std.proofs.lemmas.List.{get_or-map, length-map}
-use Rattle.hose_proto.specs.EndWords.{IsNewEndWord}
+use Rattle.hose_proto.specs.steps.EndWords.{IsNewEndWord}
 use Rattle.hosed.proofs.EndsSeen.{few_wrong, seen_more, word_wrong}
 use Rattle.hosed.proofs.end_words.wrong_end.Goals as goal
 

@@ -1,5 +1,5 @@
 use Rattle.std.proofs.Common.{refl}
-use Rattle.hosed.specs.ProgramWords.{task_of}
+use Rattle.hosed.specs.steps.ProgramWords.{task_of}
 use Rattle.hosed.specs.ProgramWords.Verb.{serve}
 use Rattle.hosed.proofs.Names.{are_named}
 use Rattle.hosed.proofs.naming.named_by.Goals as goal

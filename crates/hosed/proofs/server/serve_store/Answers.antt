@@ -1,6 +1,7 @@
 use Rattle.std.proofs.Common.{ap, refl, subst, sym, rules}
 use Rattle.hose_turn.specs.declared.view.Origin.{Origin}
-use Rattle.hosed.specs.ServerDoor.{IsServedAlong, OpensAt, output_door, seen_of}
+use Rattle.hosed.specs.ServerDoor.{IsServedAlong, output_door, seen_of}
+use Rattle.hosed.specs.steps.ServerDoor.{OpensAt}
 use Rattle.hose_offline.specs.OnDisk.{opening_of}
 use Rattle.hosed.proofs.Sharing.{closed_at_once, gave_up, given_up, is_opening, just_opened, opens_at, serves_shared, stays_shared}
 use Rattle.hosed.proofs.server.serve_store.Goals as goal

@@ -1,9 +1,10 @@
 use Rattle.std.proofs.Common.{◌≡◌, ◌+◌, Err, arith, map, refl, rules, subst}
 use Rattle.std.specs.String.{string_bytes}
-use Rattle.hose_words.specs.Cursor.{Misses}
+use Rattle.hose_words.specs.steps.Cursor.{Misses}
 use Rattle.hose_words.specs.Form.{IsWithin, TellsNumber}
 use Rattle.hose_words.proofs.Forms.{wrong_later, wrong_place}
-use Rattle.hosed.specs.ProgramWords.{IsPort, at_word, server_form}
+use Rattle.hosed.specs.ProgramWords.{IsPort, server_form}
+use Rattle.hosed.specs.steps.ProgramWords.{at_word}
 use Rattle.hosed.specs.ProgramWords.Verb.{serve}
 use Rattle.hosed.proofs.Commands.{journal_then, no_journal, took_to, verb_wrong}
 use Rattle.hosed.proofs.words.serve_of.Goals as goal

@@ -3,7 +3,7 @@ use Rattle.std.proofs.Common.{◌≡◌, List, Option, subst, sym}
 use Rattle.hose_graph.specs.Network.{Network}
 use Rattle.hose_graph.specs.declared.entry.Entry.{Entry}
 use Rattle.hose_law.specs.Quotes.{none_held}
-use Rattle.hose_core.specs.Holding.{AreHeld}
+use Rattle.hose_core.specs.steps.Holding.{AreHeld}
 use Rattle.hose_core.proofs.HeldQuotes.{none_are_held}
 use Rattle.hose_core.specs.declared.quotes.Quote.{Quote}
 use Rattle.tests_threads.proofs.shared.quote.Goals as goal

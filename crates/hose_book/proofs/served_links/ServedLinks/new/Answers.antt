@@ -1,6 +1,6 @@
 use Rattle.std.proofs.Common.{◌≡◌, ◌∙◌, true, false, length, get_or, replicate, sym, ap, subst, arith, rules}
 use Rattle.std.proofs.lemmas.List.{ext_get_or, get_or-replicate, length-replicate}
-use Rattle.hose_book.specs.Serving.{IsSetInService}
+use Rattle.hose_book.specs.steps.Serving.{IsSetInService}
 use Rattle.hose_book.proofs.Served.{served_all}
 use Rattle.hose_book.proofs.served_links.ServedLinks.new.Goals as goal
 

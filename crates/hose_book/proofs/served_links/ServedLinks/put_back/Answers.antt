@@ -1,7 +1,7 @@
 use Rattle.std.proofs.Common.{◌≡◌, ◌∙◌, ◌<◌, true, length, not, set, eqb, sym, ap, subst, arith, rules}
 use Rattle.std.proofs.lemmas.Fn.{filter_same}
 use Rattle.hose_law.specs.Service.{put_back}
-use Rattle.hose_book.specs.Serving.{IsSetInService, Served}
+use Rattle.hose_book.specs.steps.Serving.{IsSetInService, Served}
 use Rattle.hose_book.proofs.Served.{served_back}
 use Rattle.hose_book.proofs.served_links.ServedLinks.put_back.Goals as goal
 

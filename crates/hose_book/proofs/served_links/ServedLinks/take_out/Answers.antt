@@ -1,6 +1,6 @@
 use Rattle.std.proofs.Common.{◌≡◌, ◌∙◌, ◌<◌, ◌+◌, ◌≤◌, false, true, length, set, get_or, sym, ap, subst, arith}
 use Rattle.hose_law.specs.Service.{taken_out}
-use Rattle.hose_book.specs.Serving.{IsSetInService, Served}
+use Rattle.hose_book.specs.steps.Serving.{IsSetInService, Served}
 use Rattle.hose_book.proofs.Served.{room_left, served_out}
 use Rattle.hose_book.proofs.served_links.ServedLinks.take_out.Goals as goal
 

@@ -1,5 +1,5 @@
 use Rattle.hose_proto.proofs.Words.{no_choice}
-use Rattle.hose_cert.specs.Statement.{statement_word}
+use Rattle.hose_cert.specs.steps.Statement.{statement_word}
 use Rattle.hose_cert.specs.declared.statement.TheConstants.{KINDS}
 use Rattle.hose_cert.proofs.KindWords.{every_kind}
 use Rattle.hose_cert.proofs.statement.StatementKindKeyword.of.Goals as goal

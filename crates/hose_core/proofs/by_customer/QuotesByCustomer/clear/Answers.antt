@@ -1,6 +1,6 @@
 use Rattle.std.proofs.Common.{rules, ◌≡◌, None}
 use Rattle.hose_law.specs.Quotes.{none_held}
-use Rattle.hose_core.specs.Holding.{quotes_in}
+use Rattle.hose_core.specs.steps.Holding.{quotes_in}
 use Rattle.hose_core.proofs.Customers.{changed_at, kept_at}
 use Rattle.hose_core.proofs.by_customer.QuotesByCustomer.clear.Goals as goal
 

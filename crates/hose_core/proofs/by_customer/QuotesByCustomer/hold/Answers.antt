@@ -1,7 +1,7 @@
 use Rattle.std.proofs.Common.{rules, ◌≡◌, ◌∙◌, List, Option, ap, refl, subst, sym}
 use Rattle.hose_law.specs.Quotes.{free_number, none_held}
-use Rattle.hose_core.specs.Holding.{AllQuotes, HoldsNow, quotes_in}
-use Rattle.hose_core.specs.Planning.{HasTold}
+use Rattle.hose_core.specs.steps.Holding.{AllQuotes, HoldsNow, quotes_in}
+use Rattle.hose_core.specs.steps.Planning.{HasTold}
 use Rattle.hose_core.specs.declared.quotes.Quote.{Quote}
 use Rattle.hose_core.proofs.Customers.{held_in, holds_same}
 use Rattle.hose_core.proofs.by_customer.QuotesByCustomer.hold.Goals as goal

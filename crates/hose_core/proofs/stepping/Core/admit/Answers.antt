@@ -1,4 +1,4 @@
-use Rattle.hose_core.specs.Bound.{admission_of}
+use Rattle.hose_core.specs.steps.Bound.{admission_of}
 use Rattle.hose_core.proofs.Earlier.{kept_on}
 use Rattle.hose_core.proofs.SteppedOn.{admission_keeps, keeps_step}
 use Rattle.hose_core.proofs.stepping.Core.admit.Goals as goal

@@ -1,7 +1,7 @@
 use Rattle.std.proofs.Common.{◌≡◌, ◌≤◌, Some, arith, length, refl, sym, subst}
 use Rattle.hose_graph.specs.declared.command.Command.TheVariants.{Quote}
 use Rattle.hose_law.specs.Quotes.{free_number}
-use Rattle.hose_core.specs.Holding.{IsMadeAt, State, quotes_in}
+use Rattle.hose_core.specs.steps.Holding.{IsMadeAt, State, quotes_in}
 use Rattle.hose_core.proofs.Earlier.{made_now}
 use Rattle.hose_core.proofs.HeldQuotes.{kept_now, kept_told}
 use Rattle.hose_core.proofs.SteppedOn.{held_on, of_fields}

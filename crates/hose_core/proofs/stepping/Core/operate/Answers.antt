@@ -1,9 +1,9 @@
 use Rattle.std.proofs.Common.{◌∙◌, ℕ, List, ap, subst, sym}
 use Rattle.std.proofs.lemmas.Bool.{false≢true}
 use Rattle.hose_book.specs.Ledger.{Ledger}
-use Rattle.hose_core.specs.Holding.{State}
-use Rattle.hose_core.specs.Serving.{service_command}
-use Rattle.hose_core.specs.Stepping.{StepsAtEach}
+use Rattle.hose_core.specs.steps.Holding.{State}
+use Rattle.hose_core.specs.steps.Serving.{service_command}
+use Rattle.hose_core.specs.steps.Stepping.{StepsAtEach}
 use Rattle.hose_core.proofs.Earlier.{kept_on}
 use Rattle.hose_core.proofs.SteppedOn.{denied_on, keeps_step, order_keeps, order_memory_on}
 use Rattle.hose_core.proofs.stepping.Core.operate.Goals as goal

@@ -2,9 +2,9 @@ use Rattle.std.proofs.Common.{◌∙◌, ℕ, List, ap, subst, sym}
 use Rattle.hose_book.specs.Ledger.{Ledger}
 use Rattle.hose_graph.specs.declared.command.Command.TheVariants.{Quote as QuoteOf}
 use Rattle.hose_law.specs.Quotes.{free_number}
-use Rattle.hose_core.specs.Holding.{State, quotes_in}
-use Rattle.hose_core.specs.Planning.{IsNotPlanned, IsPlannedFor}
-use Rattle.hose_core.specs.Stepping.{StepsOn}
+use Rattle.hose_core.specs.steps.Holding.{State, quotes_in}
+use Rattle.hose_core.specs.steps.Planning.{IsNotPlanned, IsPlannedFor}
+use Rattle.hose_core.specs.steps.Stepping.{StepsOn}
 use Rattle.hose_core.proofs.Decided.{unplanned_done, unplanned_names}
 use Rattle.hose_core.proofs.SteppedOn.{too_many_on, unplanned_on}
 use Rattle.hose_core.proofs.stepping.Core.quote.Goals as goal

@@ -4,7 +4,7 @@ use Rattle.hose_graph.specs.declared.command.Command.TheVariants.{Take}
 use Rattle.hose_graph.specs.declared.limits.TheConstants.{MOST_QUOTES}
 use Rattle.hose_law.specs.Quotes.{at_number, with_number}
 use Rattle.hose_law.proofs.Numbers.{some_at}
-use Rattle.hose_core.specs.Holding.{State, quotes_in}
+use Rattle.hose_core.specs.steps.Holding.{State, quotes_in}
 use Rattle.hose_core.proofs.Earlier.{grounds_since, kept_on}
 use Rattle.hose_core.proofs.HeldQuotes.{kept_now, kept_with, some_alike}
 use Rattle.hose_core.proofs.SteppedOn.{no_quote_on, of_fields, take_memory_on, taken_on}

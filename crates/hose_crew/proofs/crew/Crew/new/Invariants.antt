@@ -1,5 +1,5 @@
 use Rattle.std.proofs.Common.{◌≡◌, All, length}
-use Rattle.hose_crew.specs.Hands.{IsIdle}
+use Rattle.hose_crew.specs.steps.Hands.{IsIdle}
 use Rattle.hose_crew.proofs.crew.Crew.new.Given as goal
 
 abbrev pub invariant-loop : goal.invariant-loop

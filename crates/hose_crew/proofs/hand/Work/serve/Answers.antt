@@ -1,7 +1,7 @@
 use Rattle.std.proofs.Common.{subst, sym}
 use Rattle.hose_graph.specs.Network.{Network}
 use Rattle.hose_session.proofs.Accounting.{one_accounts}
-use Rattle.hose_session.specs.Session.{ServesSession}
+use Rattle.hose_session.specs.steps.Session.{ServesSession}
 use Rattle.hose_crew.proofs.Serving.{one_more}
 use Rattle.hose_crew.proofs.hand.Work.serve.Goals as goal
 

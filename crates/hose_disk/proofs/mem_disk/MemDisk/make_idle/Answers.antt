@@ -1,5 +1,5 @@
 use Rattle.std.proofs.Common.{refl}
-use Rattle.hose_disk.specs.Images.{idle}
+use Rattle.hose_disk.specs.steps.Images.{idle}
 use Rattle.hose_disk.proofs.Calls.{mem_call, no_new_image, same_content, time_of}
 use Rattle.hose_disk.proofs.Images.{none_new_idle}
 use Rattle.hose_disk.proofs.mem_disk.MemDisk.make_idle.Goals as goal

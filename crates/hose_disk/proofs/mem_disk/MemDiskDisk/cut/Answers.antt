@@ -1,7 +1,7 @@
 use Rattle.std.proofs.Common.{refl}
-use Rattle.hose_disk.specs.Disk.{IsTruncated, IsCut}
-use Rattle.hose_disk.specs.Images.{cut_to, tried_cut}
-use Rattle.hose_disk.specs.Recording.{CallRecord, reads}
+use Rattle.hose_disk.specs.steps.Disk.{IsTruncated, IsCut}
+use Rattle.hose_disk.specs.steps.Images.{cut_to, tried_cut}
+use Rattle.hose_disk.specs.steps.Recording.{CallRecord, reads}
 use Rattle.hose_disk.specs.declared.call.DiskCall.TheVariants.{Cut}
 use Rattle.hose_disk.proofs.Images.{cut_same, steps_cut, steps_tried_cut}
 use Rattle.hose_disk.proofs.Calls.{mem_call, on_done, on_failed, step_of_images, time_of}

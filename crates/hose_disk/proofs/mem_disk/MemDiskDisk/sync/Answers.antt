@@ -1,7 +1,7 @@
 use Rattle.std.proofs.Common.{refl}
-use Rattle.hose_disk.specs.Disk.{Only}
-use Rattle.hose_disk.specs.Images.{idle, synced, IsImage}
-use Rattle.hose_disk.specs.Recording.{CallRecord, reads}
+use Rattle.hose_disk.specs.steps.Disk.{Only}
+use Rattle.hose_disk.specs.steps.Images.{idle, synced, IsImage}
+use Rattle.hose_disk.specs.steps.Recording.{CallRecord, reads}
 use Rattle.hose_disk.specs.declared.call.DiskCall.TheVariants.{Sync}
 use Rattle.hose_disk.proofs.Images.{none_new_idle, none_new_synced, only_synced}
 use Rattle.hose_disk.proofs.Calls.{mem_call, no_new_image, on_done, same_content, time_of}

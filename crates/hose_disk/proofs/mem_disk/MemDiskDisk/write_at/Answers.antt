@@ -1,7 +1,7 @@
 use Rattle.std.proofs.Common.{refl, length}
-use Rattle.hose_disk.specs.Disk.{IsOverwritten, Torn}
-use Rattle.hose_disk.specs.Images.{wrote, tried_write}
-use Rattle.hose_disk.specs.Recording.{CallRecord, reads}
+use Rattle.hose_disk.specs.steps.Disk.{IsOverwritten, Torn}
+use Rattle.hose_disk.specs.steps.Images.{wrote, tried_write}
+use Rattle.hose_disk.specs.steps.Recording.{CallRecord, reads}
 use Rattle.hose_disk.specs.declared.call.DiskCall.TheVariants.{Write}
 use Rattle.hose_disk.proofs.Images.{steps_tried_write, steps_write, torn_same}
 use Rattle.hose_disk.proofs.Calls.{mem_call, on_done, on_failed, step_of_images, time_of}

@@ -1,5 +1,5 @@
 use Rattle.std.proofs.Common.{◌<◌, ◌^◌, List, ℕ, length, rules, subst, sym}
-use Rattle.hose_disk.specs.Images.{IsImage, calls_at}
+use Rattle.hose_disk.specs.steps.Images.{IsImage, calls_at}
 use Rattle.hose_disk.proofs.Picked.{picked_from, picked_image, picked_small, fits_from}
 use Rattle.hose_disk.proofs.recording.Recording.image.Goals as goal
 

@@ -1,7 +1,7 @@
 use Rattle.std.proofs.Common.{rules}
 use Rattle.std.specs.List.Sorted.{IsPermutation, IsNonDecreasingBy}
 use Rattle.std.proofs.lemmas.List.Sorted.{IsNonDecreasingBy-from_sort_by_key}
-use Rattle.hose_graph.specs.Hose.{MakesHose}
+use Rattle.hose_graph.specs.steps.Hose.{MakesHose}
 use Rattle.hose_graph.proofs.Endpoints.{IsHose-sorted}
 use Rattle.hose_graph.proofs.hose.Hose.from_ends.Goals as goal
 

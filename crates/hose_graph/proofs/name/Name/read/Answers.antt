@@ -1,6 +1,7 @@
 use Rattle.std.proofs.Common.{rules, ◌≡◌, ℕ, List, ◌++◌, length, take, drop, replicate, refl, sym, ap, subst}
 use Rattle.std.proofs.lemmas.List.{take_at, drop-replicate}
-use Rattle.hose_graph.specs.Name.{IsName, padded}
+use Rattle.hose_graph.specs.Name.{IsName}
+use Rattle.hose_graph.specs.steps.Name.{padded}
 use Rattle.hose_graph.proofs.name.Name.read.Goals as goal
 
 -- a name written over sixteen zeros is that name, and padded

@@ -1,6 +1,6 @@
 use Rattle.std.proofs.Common.{◌≡◌, ◌++◌, [], ◌∷◌, append_assoc, rules}
 use Rattle.std.proofs.lemmas.List.Elements.{All-rest}
-use Rattle.hose_io.specs.DoorState.{IsFresh}
+use Rattle.hose_io.specs.steps.DoorState.{IsFresh}
 use Rattle.hose_io.proofs.mem_door.MemDoor.new.Goals as goal
 
 pub loop-input-preserved : goal.loop-input-preserved

@@ -1,5 +1,5 @@
 use Rattle.std.proofs.Common.{All, ◌++◌, ◌≡◌}
-use Rattle.hose_io.specs.DoorState.{IsFresh}
+use Rattle.hose_io.specs.steps.DoorState.{IsFresh}
 use Rattle.hose_io.proofs.mem_door.MemDoor.new.Given as goal
 
 abbrev pub invariant-loop-input : goal.invariant-loop-input

@@ -2,9 +2,9 @@ use Rattle.std.proofs.Common.{◌≡◌, ◌∙◌, ◌+◌, inl, inr, length, L
 use Rattle.hose_graph.specs.declared.entry.Entry.{Entry}
 use Rattle.hose_codec.specs.Spelling.{IsEntry}
 use Rattle.hose_codec.proofs.Lengths.{length-spelling}
-use Rattle.hose_journal.specs.Gates.{IsDoubtful}
+use Rattle.hose_journal.specs.steps.Gates.{IsDoubtful}
 use Rattle.hose_journal.specs.Image.{IsClosed}
-use Rattle.hose_journal.specs.Journal.{Account, IsListAmid, IsReady, Stands, with_doubt}
+use Rattle.hose_journal.specs.steps.Journal.{Account, IsListAmid, IsReady, Stands, with_doubt}
 use Rattle.hose_journal.specs.Moments.{LeavesOnly}
 use Rattle.hose_journal.proofs.Accounts.{closed_length, gate_low, opened_lists, stands_added, stands_on}
 use Rattle.hose_journal.proofs.Appends.{before_entry, closed_entry, opened_as, record_is, record_of, until_opened, until_staged}

@@ -1,6 +1,6 @@
 use Rattle.std.proofs.Common.{◌∙◌, ◌+◌, length, ℕ, refl, sym, ap, arith}
-use Rattle.hose_journal.specs.Entries.{IsListOf}
-use Rattle.hose_journal.specs.Journal.{Account, Stands}
+use Rattle.hose_journal.specs.steps.Entries.{IsListOf}
+use Rattle.hose_journal.specs.steps.Journal.{Account, Stands}
 use Rattle.hose_journal.specs.Moments.{LeavesOnly}
 use Rattle.hose_journal.proofs.Accounts.{closed_sure, gate_low, here, seal_length, sealing, stands_sealed}
 use Rattle.hose_journal.proofs.Appends.{opened_as, sealing_opened, sealing_staged}

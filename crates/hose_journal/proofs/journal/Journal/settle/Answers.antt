@@ -1,7 +1,7 @@
 use Rattle.std.proofs.Common.{◌≢◌, rules, refl, arith, None}
-use Rattle.hose_journal.specs.Gates.{IsDoubtful}
+use Rattle.hose_journal.specs.steps.Gates.{IsDoubtful}
 use Rattle.hose_journal.specs.Entries.{entered}
-use Rattle.hose_journal.specs.Journal.{Account, IsListAmid, Stands}
+use Rattle.hose_journal.specs.steps.Journal.{Account, IsListAmid, Stands}
 use Rattle.hose_journal.specs.Moments.{LeavesOnly}
 use Rattle.hose_journal.specs.declared.layout.TheConstants.{CLOSED, OPEN}
 use Rattle.hose_journal.proofs.Accounts.{closed_here, here, in_doubt, revoked, stands_on, stands_kept}

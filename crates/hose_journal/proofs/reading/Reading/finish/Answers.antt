@@ -1,5 +1,5 @@
 use Rattle.std.proofs.Common.{None, sym, subst}
-use Rattle.hose_journal.specs.Journal.{Stands}
+use Rattle.hose_journal.specs.steps.Journal.{Stands}
 use Rattle.hose_journal.specs.declared.journal.Journal.{Journal}
 use Rattle.hose_journal.proofs.Readings.{finished}
 use Rattle.hose_journal.proofs.reading.Reading.finish.Goals as goal

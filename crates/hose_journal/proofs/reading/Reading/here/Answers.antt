@@ -1,5 +1,5 @@
 use Rattle.std.proofs.Common.{subst, List, ℕ}
-use Rattle.hose_journal.specs.AtGate.{IsPart}
+use Rattle.hose_journal.specs.steps.AtGate.{IsPart}
 use Rattle.hose_journal.proofs.Readings.{at_gate}
 use Rattle.hose_journal.proofs.reading.Reading.here.Goals as goal
 

@@ -1,6 +1,6 @@
 use Rattle.std.proofs.Common.{Some, subst}
 use Rattle.std.specs.Prelude.{Err}
-use Rattle.hose_journal.specs.Reading.{HasRead}
+use Rattle.hose_journal.specs.steps.Reading.{HasRead}
 use Rattle.hose_journal.specs.declared.fault.JournalFault.{JournalFault}
 use Rattle.hose_journal.proofs.Readings.{fault_kept}
 use Rattle.hose_journal.proofs.reading.Reading.next.Goals as goal

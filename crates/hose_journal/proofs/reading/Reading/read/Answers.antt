@@ -1,6 +1,6 @@
 use Rattle.std.proofs.Common.{◌∙◌, ◌+◌, ◌<◌, ◌^◌, Option, IfSome, IsFalse, List, ℕ, rules, refl, ap, subst, arith}
 use Rattle.hose_journal.specs.declared.reading.Reading.{Reading}
-use Rattle.hose_journal.specs.Entries.{entries_reader}
+use Rattle.hose_journal.specs.steps.Entries.{entries_reader}
 use Rattle.hose_journal.specs.Image.{IsDamaged}
 use Rattle.hose_journal.proofs.Readings.{reads_end, reads_next, reads_told}
 use Rattle.hose_journal.proofs.reading.Reading.read.Goals as goal

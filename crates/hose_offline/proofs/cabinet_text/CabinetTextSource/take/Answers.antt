@@ -2,7 +2,8 @@ use Rattle.std.proofs.Common.{◌≡◌, ◌+◌, ◌++◌, take, drop, ap, refl
 use Rattle.std.proofs.lemmas.List.{length-take}
 use Rattle.std.proofs.lemmas.Result.{err_from_is_err_and}
 use Rattle.hose_io.specs.Stream.{Gives, IsAtEnd}
-use Rattle.hose_offline.specs.CabinetText.{TextState, text_at, text_stream}
+use Rattle.hose_offline.specs.CabinetText.{text_stream}
+use Rattle.hose_offline.specs.steps.CabinetText.{TextState, text_at}
 use Rattle.hose_offline.proofs.Texts.{HasAsked-none, asked_once, at_end, at_limit, gives_text, read_before, same_stream, texts_read}
 use Rattle.hose_offline.proofs.cabinet_text.CabinetTextSource.take.Goals as goal
 

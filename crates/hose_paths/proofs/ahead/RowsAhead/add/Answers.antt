@@ -1,5 +1,5 @@
 use Rattle.std.proofs.Common.{◌≡◌, ℕ, ◌<◌, length, subst, arith, rules}
-use Rattle.hose_paths.specs.Rows.{IsRowOf}
+use Rattle.hose_paths.specs.steps.Rows.{IsRowOf}
 use Rattle.hose_paths.proofs.Firsts.{first_more}
 use Rattle.hose_paths.proofs.ahead.RowsAhead.add.Goals as goal
 

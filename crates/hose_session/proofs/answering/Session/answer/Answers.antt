@@ -1,4 +1,4 @@
-use Rattle.hose_graph.specs.Naming.{AsksOf}
+use Rattle.hose_graph.specs.steps.Naming.{AsksOf}
 use Rattle.hose_graph.specs.declared.command.Command.TheVariants.{AdmitAfter}
 use Rattle.hose_session.proofs.Exchanging.{holding_exchange, keeping_exchange}
 use Rattle.hose_session.proofs.answering.Session.answer.Goals as goal

@@ -1,7 +1,7 @@
 use Rattle.std.proofs.Common.{◌∙◌, Err, [], ℕ, rules, ap, subst}
 use Rattle.hose_words.specs.Form.{IsChoice}
 use Rattle.hose_words.specs.Grammar.{IsFirst, IsFirstNotAllowed}
-use Rattle.hose_words.specs.Lines.{Shows}
+use Rattle.hose_words.specs.steps.Lines.{Shows}
 use Rattle.hose_words.specs.Words.{words_of}
 use Rattle.hose_words.specs.declared.lines.Line.{Line}
 use Rattle.hose_graph.specs.Network.{Network}

@@ -1,6 +1,6 @@
 use Rattle.std.proofs.Common.{subst, sym}
 use Rattle.hose_law.specs.Transcript.{Stage}
-use Rattle.hose_session.specs.Exchanges.{AnswersAt, IsPhaseAt}
+use Rattle.hose_session.specs.steps.Exchanges.{AnswersAt, IsPhaseAt}
 use Rattle.hose_session.specs.declared.client.Phase.{Phase}
 use Rattle.hose_session.proofs.answering.Session.reply_to.Goals as goal
 

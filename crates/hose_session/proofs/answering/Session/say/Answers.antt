@@ -1,6 +1,6 @@
 use Rattle.std.proofs.Common.{Ok, subst}
 use Rattle.hose_graph.specs.Network.{Network}
-use Rattle.hose_io.specs.Writing.{IsPut}
+use Rattle.hose_io.specs.steps.Writing.{IsPut}
 use Rattle.hose_proto.specs.ReplyText.{line_of, reply_text}
 use Rattle.hose_session.proofs.answering.Session.say.Goals as goal
 

@@ -1,5 +1,5 @@
 use Rattle.std.proofs.Common.{◌≡◌, Option, Some, IfSome, rules, subst}
-use Rattle.hose_session.specs.Exchanges.{ComesAlong}
+use Rattle.hose_session.specs.steps.Exchanges.{ComesAlong}
 use Rattle.hose_session.specs.declared.client.Progress.{Progress}
 use Rattle.hose_session.proofs.Conversing.{comes_on}
 use Rattle.hose_session.proofs.session.ConversationAnswers.answer.Goals as goal

@@ -1,9 +1,9 @@
 use Rattle.std.proofs.Common.{◌∙◌, List, Err, Ok, subst}
 use Rattle.hose_graph.specs.Hose.{Endpoint}
 use Rattle.hose_law.specs.History.{book_of}
-use Rattle.hose_core.specs.Bound.{admission_of}
-use Rattle.hose_core.specs.Planning.{IsPlannedFor}
-use Rattle.hose_shared.specs.Along.{IsNotTried, IsTried, StepsAlong}
+use Rattle.hose_core.specs.steps.Bound.{admission_of}
+use Rattle.hose_core.specs.steps.Planning.{IsPlannedFor}
+use Rattle.hose_shared.specs.steps.Along.{IsNotTried, IsTried, StepsAlong}
 use Rattle.hose_shared.proofs.Bound.{untried_done, untried_names, untried_step}
 use Rattle.hose_shared.proofs.Entries.{stays_along}
 use Rattle.hose_shared.proofs.Passes.{along_on, more_on}

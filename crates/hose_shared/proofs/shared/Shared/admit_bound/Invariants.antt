@@ -1,6 +1,6 @@
 -- The hose is the one that is to be admitted, and the pass has maybe seen more.
 use Rattle.std.proofs.Common.{◌≡◌}
-use Rattle.hose_shared.specs.Sharing.{HasSeenMore}
+use Rattle.hose_shared.specs.steps.Sharing.{HasSeenMore}
 use Rattle.hose_shared.proofs.shared.Shared.admit_bound.Given as goal
 
 abbrev pub invariant-loop : goal.invariant-loop

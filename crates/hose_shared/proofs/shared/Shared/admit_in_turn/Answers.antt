@@ -1,8 +1,8 @@
 use Rattle.std.proofs.Common.{◌∙◌, ap, subst, sym}
-use Rattle.hose_graph.specs.Naming.{NamesPlaces}
+use Rattle.hose_graph.specs.steps.Naming.{NamesPlaces}
 use Rattle.hose_graph.specs.Network.{Network}
 use Rattle.hose_law.specs.Quotes.{none_held}
-use Rattle.hose_core.specs.Bound.{admission_of}
+use Rattle.hose_core.specs.steps.Bound.{admission_of}
 use Rattle.hose_shared.proofs.Entries.{admit_turn, nodes_here}
 use Rattle.hose_shared.proofs.Passes.{along_of}
 use Rattle.hose_shared.proofs.shared.Shared.admit_in_turn.Goals as goal

@@ -1,8 +1,8 @@
 use Rattle.std.proofs.Common.{◌≡◌, ◌∙◌, ap, arith, subst, sym}
-use Rattle.hose_turn.specs.Held.{holder, value_of}
+use Rattle.hose_turn.specs.steps.Held.{holder, value_of}
 use Rattle.hose_turn.specs.Known.{Known}
-use Rattle.hose_shared.specs.Keeping.{StandsShared}
-use Rattle.hose_shared.specs.Turns.{faults_in}
+use Rattle.hose_shared.specs.steps.Keeping.{StandsShared}
+use Rattle.hose_shared.specs.steps.Turns.{faults_in}
 use Rattle.hose_shared.proofs.Passes.{locked_more}
 use Rattle.hose_shared.proofs.shared.Shared.begin_turn.Goals as goal
 

@@ -1,8 +1,8 @@
 use Rattle.std.proofs.Common.{subst, sym}
 use Rattle.hose_graph.specs.Network.{Network}
 use Rattle.hose_law.specs.History.{IsDecidedAt}
-use Rattle.hose_book.specs.GoingOn.{GoesOn}
-use Rattle.hose_store.specs.Commit.{store_books}
+use Rattle.hose_book.specs.steps.GoingOn.{GoesOn}
+use Rattle.hose_store.specs.steps.Commit.{store_books}
 use Rattle.hose_store.proofs.Standing.{run_stands}
 use Rattle.hose_shared.proofs.shared.Shared.close.Goals as goal
 

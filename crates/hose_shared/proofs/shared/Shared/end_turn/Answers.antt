@@ -1,7 +1,7 @@
 use Rattle.std.proofs.Common.{ap, subst}
 use Rattle.std.specs.Prelude.{option_map}
 use Rattle.hose_graph.specs.Network.{IsNetwork}
-use Rattle.hose_shared.specs.Sharing.{SharedBook}
+use Rattle.hose_shared.specs.steps.Sharing.{SharedBook}
 use Rattle.hose_shared.proofs.Turned.{none_stands, none_steps, one_stands, one_steps, turn_above}
 use Rattle.hose_shared.proofs.shared.Shared.end_turn.Goals as goal
 

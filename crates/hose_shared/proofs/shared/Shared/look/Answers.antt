@@ -3,8 +3,8 @@ use Rattle.std.specs.Prelude.{MatchOption}
 use Rattle.hose_law.specs.Book.{Book}
 use Rattle.hose_law.specs.History.{book_of}
 use Rattle.hose_book.specs.Ledger.{Ledger}
-use Rattle.hose_core.specs.Bound.{HasNewest, TellsNewest}
-use Rattle.hose_turn.specs.Held.{holder}
+use Rattle.hose_core.specs.steps.Bound.{HasNewest, TellsNewest}
+use Rattle.hose_turn.specs.steps.Held.{holder}
 use Rattle.hose_turn.specs.Known.{Known}
 use Rattle.hose_shared.proofs.Passes.{locked_more, unlocked_more}
 use Rattle.hose_shared.proofs.shared.Shared.look.Goals as goal

@@ -1,7 +1,7 @@
 use Rattle.std.proofs.Common.{◌∙◌, ap, sym, length}
 use Rattle.hose_law.specs.Book.{Book}
 use Rattle.hose_book.specs.Ledger.{Ledger}
-use Rattle.hose_turn.specs.Held.{holder}
+use Rattle.hose_turn.specs.steps.Held.{holder}
 use Rattle.hose_turn.specs.Known.{Known}
 use Rattle.hose_law.proofs.Epochs.{epoch_of}
 use Rattle.hose_shared.proofs.Passes.{locked_more, unlocked_more}

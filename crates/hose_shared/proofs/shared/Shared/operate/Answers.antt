@@ -1,7 +1,7 @@
 use Rattle.std.proofs.Common.{◌∙◌, Some, ap, refl, sym}
 use Rattle.std.proofs.lemmas.Bool.{false≢true}
 use Rattle.hose_law.specs.Quotes.{none_held}
-use Rattle.hose_core.specs.Serving.{service_command}
+use Rattle.hose_core.specs.steps.Serving.{service_command}
 use Rattle.hose_shared.proofs.Entries.{order_denied, order_starved, order_turn, stays_along}
 use Rattle.hose_law.proofs.Epochs.{epoch_of}
 use Rattle.hose_shared.proofs.Passes.{along_of, more_same}

@@ -1,11 +1,12 @@
 use Rattle.std.proofs.Common.{◌≡◌, ◌++◌, ◌∷◌, [], ◌+◌, Option, ap, subst, sym}
 use Rattle.hose_graph.specs.declared.entry.Entry.{Entry}
 use Rattle.hose_law.specs.Answer.{with_entry}
-use Rattle.hose_turn.specs.Faults.{rise}
-use Rattle.hose_turn.specs.Held.{floor_of, holder, value_of}
-use Rattle.hose_turn.specs.Known.{Known, with_own_entry}
-use Rattle.hose_shared.specs.Keeping.{StandsShared}
-use Rattle.hose_shared.specs.Turns.{faults_in, with_joined}
+use Rattle.hose_turn.specs.steps.Faults.{rise}
+use Rattle.hose_turn.specs.steps.Held.{floor_of, holder, value_of}
+use Rattle.hose_turn.specs.Known.{Known}
+use Rattle.hose_turn.specs.steps.Known.{with_own_entry}
+use Rattle.hose_shared.specs.steps.Keeping.{StandsShared}
+use Rattle.hose_shared.specs.steps.Turns.{faults_in, with_joined}
 use Rattle.hose_shared.proofs.Turned.{none_counted, one_counted, passed_counted}
 use Rattle.hose_shared.proofs.shared.Shared.pass_on.Goals as goal
 

@@ -3,8 +3,8 @@ use Rattle.std.proofs.lemmas.List.{take_at}
 use Rattle.hose_law.specs.Book.{loads_of}
 use Rattle.hose_law.specs.History.{book_of}
 use Rattle.hose_law.specs.Room.{first_links}
-use Rattle.hose_core.specs.Bound.{HasNewest, TellsNewest}
-use Rattle.hose_shared.specs.Sharing.{SharedBook}
+use Rattle.hose_core.specs.steps.Bound.{HasNewest, TellsNewest}
+use Rattle.hose_shared.specs.steps.Sharing.{SharedBook}
 use Rattle.hose_shared.proofs.Bound.{planned_at, planned_bound}
 use Rattle.hose_shared.proofs.shared.Shared.plan.Goals as goal
 

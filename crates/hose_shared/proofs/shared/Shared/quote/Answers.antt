@@ -1,7 +1,7 @@
 use Rattle.std.proofs.Common.{◌≡◌, ◌≤◌, ◌∙◌, IsSome, Some, arith, length, refl, subst, sym}
 use Rattle.hose_law.specs.History.{book_of}
 use Rattle.hose_law.specs.Quotes.{free_number}
-use Rattle.hose_core.specs.Planning.{IsNotPlanned, IsPlannedFor}
+use Rattle.hose_core.specs.steps.Planning.{IsNotPlanned, IsPlannedFor}
 use Rattle.hose_core.proofs.Decided.{unplanned_done}
 use Rattle.hose_core.proofs.HeldQuotes.{free_alike, held_on, held_with}
 use Rattle.hose_shared.proofs.Bound.{unbound}

@@ -1,5 +1,5 @@
 use Rattle.std.proofs.Common.{refl}
-use Rattle.hose_book.specs.GoingOn.{none_yet}
+use Rattle.hose_book.specs.steps.GoingOn.{none_yet}
 use Rattle.hose_shared.proofs.shared.Shared.share.Goals as goal
 
 pub from_ticket-requires : goal.from_ticket-requires

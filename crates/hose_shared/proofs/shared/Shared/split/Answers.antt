@@ -1,6 +1,6 @@
 use Rattle.std.proofs.Common.{length, subst, sym}
 use Rattle.hose_turn.proofs.Places.{no_places}
-use Rattle.hose_shared.specs.Sharing.{IsPassOf}
+use Rattle.hose_shared.specs.steps.Sharing.{IsPassOf}
 use Rattle.hose_shared.proofs.shared.Shared.split.Goals as goal
 
 pub returns-clause-both : goal.returns-clause-both

@@ -2,7 +2,7 @@ use Rattle.std.proofs.Common.{◌≤◌, ◌∙◌, IsSome, None, arith, refl, s
 use Rattle.hose_graph.specs.declared.command.Command.TheVariants.{Take}
 use Rattle.hose_graph.specs.declared.limits.TheConstants.{MOST_QUOTES}
 use Rattle.hose_law.specs.Quotes.{Held, at_number, with_number}
-use Rattle.hose_core.specs.Holding.{AreHeld}
+use Rattle.hose_core.specs.steps.Holding.{AreHeld}
 use Rattle.hose_core.proofs.HeldQuotes.{held_on, held_there, held_with, none_alike}
 use Rattle.hose_shared.proofs.Entries.{no_quote, stale_later, stays_holding, taken_after}
 use Rattle.hose_law.proofs.Epochs.{epoch_of}

@@ -1,11 +1,11 @@
 use Rattle.std.proofs.Common.{◌∙◌, [], ◌∷◌, Some, take, ap, refl, subst, sym}
-use Rattle.hose_graph.specs.Naming.{NamesPlaces}
+use Rattle.hose_graph.specs.steps.Naming.{NamesPlaces}
 use Rattle.hose_graph.specs.Network.{Network}
 use Rattle.hose_graph.specs.declared.command.Command.TheVariants.{Take}
 use Rattle.hose_law.specs.History.{book_of}
 use Rattle.hose_law.specs.Tracks.{Tracks}
-use Rattle.hose_core.specs.Holding.{IsMadeAt}
-use Rattle.hose_turn.specs.Held.{holder}
+use Rattle.hose_core.specs.steps.Holding.{IsMadeAt}
+use Rattle.hose_turn.specs.steps.Held.{holder}
 use Rattle.hose_shared.proofs.Entries.{quote_in_turn, take_turn}
 use Rattle.hose_shared.proofs.Recently.{grounds_since}
 use Rattle.hose_shared.proofs.shared.Shared.take_claimed.Goals as goal

@@ -1,16 +1,16 @@
 use Rattle.std.proofs.Common.{◌≡◌, ◌∙◌, [], Some, ap, length, refl, subst, sym}
-use Rattle.hose_graph.specs.Naming.{NamesPlaces}
+use Rattle.hose_graph.specs.steps.Naming.{NamesPlaces}
 use Rattle.hose_graph.specs.Network.{Network}
 use Rattle.hose_graph.specs.declared.command.Command.TheVariants.{Admit}
 use Rattle.hose_graph.specs.declared.command.Reply.TheVariants.{Memory}
 use Rattle.hose_law.specs.History.{book_of}
 use Rattle.hose_law.specs.Quotes.{HeldQuote, none_held}
 use Rattle.hose_law.specs.Tracks.{Tracks}
-use Rattle.hose_core.specs.Bound.{admission_of}
-use Rattle.hose_core.specs.Holding.{IsMadeAt}
-use Rattle.hose_core.specs.Planning.{AdmitsAtOnce}
-use Rattle.hose_store.specs.Commit.{store_books}
-use Rattle.hose_turn.specs.Held.{holder}
+use Rattle.hose_core.specs.steps.Bound.{admission_of}
+use Rattle.hose_core.specs.steps.Holding.{IsMadeAt}
+use Rattle.hose_core.specs.steps.Planning.{AdmitsAtOnce}
+use Rattle.hose_store.specs.steps.Commit.{store_books}
+use Rattle.hose_turn.specs.steps.Held.{holder}
 use Rattle.hose_shared.proofs.Bound.{claimed_turn, idle_more, idle_turn, memory_step, settled_turn}
 use Rattle.hose_shared.proofs.Entries.{quote_in_turn, quote_there, stays_along}
 use Rattle.hose_shared.proofs.Passes.{along_of, more_on, more_same}

@@ -1,7 +1,8 @@
 use Rattle.std.proofs.Common.{List, ℕ, [], rules, subst}
 use Rattle.hose_journal.specs.Moments.{LeavesOnly}
-use Rattle.hose_journal.specs.Opening.{AddsNoRecord, IsOpened, KeepsList, KeepsOrBegins}
-use Rattle.hose_journal.specs.Reading.{Reads}
+use Rattle.hose_journal.specs.Opening.{AddsNoRecord}
+use Rattle.hose_journal.specs.steps.Opening.{IsOpened, KeepsList, KeepsOrBegins}
+use Rattle.hose_journal.specs.steps.Reading.{Reads}
 use Rattle.hose_store.proofs.Begins.{nothing_begun}
 use Rattle.hose_store.proofs.Histories.{is_digest}
 use Rattle.hose_store.proofs.Openings.{at_opening, refused_open}

@@ -1,7 +1,7 @@
 use Rattle.std.proofs.Common.{subst}
 use Rattle.std.proofs.lemmas.Result.{on_ok_weaker}
-use Rattle.hose_store.specs.Commit.{Closes}
-use Rattle.hose_store.specs.Store.{KeptStore}
+use Rattle.hose_store.specs.steps.Commit.{Closes}
+use Rattle.hose_store.specs.steps.Store.{KeptStore}
 use Rattle.hose_store.proofs.Commits.{closing_amid, closing_images}
 use Rattle.hose_store.proofs.store.Store.close.Goals as goal
 

@@ -1,9 +1,9 @@
 use Rattle.std.proofs.Common.{◌≤◌, length, None, sym}
 use Rattle.hose_graph.specs.declared.limits.TheConstants.{MOST_EPOCH}
-use Rattle.hose_journal.specs.Journal.{Stands}
-use Rattle.hose_store.specs.Opening.{HasGiven}
+use Rattle.hose_journal.specs.steps.Journal.{Stands}
+use Rattle.hose_store.specs.steps.Opening.{HasGiven}
 use Rattle.hose_store.specs.Recovery.{digest_of}
-use Rattle.hose_store.specs.Store.{account_of}
+use Rattle.hose_store.specs.steps.Store.{account_of}
 use Rattle.hose_store.proofs.Histories.{few_in_history, sound_items}
 use Rattle.hose_store.proofs.Openings.{has_recovered}
 use Rattle.hose_store.proofs.store.Store.from_reading.Goals.{After-finish}

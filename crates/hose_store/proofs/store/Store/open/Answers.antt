@@ -2,14 +2,15 @@ use Rattle.std.proofs.Common.{◌≡◌, ◌≤◌, ◌∙◌, List, ℕ, [], le
 use Rattle.hose_graph.specs.Network.{Network}
 use Rattle.hose_graph.specs.declared.limits.TheConstants.{MOST_EPOCH}
 use Rattle.hose_book.specs.Ledger.{Ledger}
-use Rattle.hose_journal.specs.Entries.{IsListOf}
-use Rattle.hose_journal.specs.Journal.{Stands}
+use Rattle.hose_journal.specs.steps.Entries.{IsListOf}
+use Rattle.hose_journal.specs.steps.Journal.{Stands}
 use Rattle.hose_journal.specs.Moments.{LeavesOnly}
-use Rattle.hose_journal.specs.Opening.{IsOpened, KeepsList}
-use Rattle.hose_journal.specs.Reading.{Reads}
-use Rattle.hose_store.specs.Opening.{IsAtOpening, IsOpenedOn, IsRefusedStore, IsStopped}
+use Rattle.hose_journal.specs.steps.Opening.{IsOpened, KeepsList}
+use Rattle.hose_journal.specs.steps.Reading.{Reads}
+use Rattle.hose_store.specs.Opening.{IsAtOpening, IsRefusedStore}
+use Rattle.hose_store.specs.steps.Opening.{IsOpenedOn, IsStopped}
 use Rattle.hose_store.specs.Recovery.{digest_of}
-use Rattle.hose_store.specs.Store.{account_of}
+use Rattle.hose_store.specs.steps.Store.{account_of}
 use Rattle.hose_store.proofs.Histories.{few_in_history, is_digest, sound_items}
 use Rattle.hose_store.proofs.Openings.{at_opening, has_recovered, opened_on, opened_then, read_history, refused_entries, refused_open, sealing_run}
 use Rattle.hose_store.proofs.Readings.{given_first}

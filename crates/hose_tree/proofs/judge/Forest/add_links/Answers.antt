@@ -1,7 +1,7 @@
 use Rattle.std.proofs.Common.{ℕ, ◌+◌, ◌≤◌, [], length, take, get_or, arith}
 use Rattle.std.proofs.lemmas.List.{length-take}
 use Rattle.std.proofs.lemmas.List.Elements.{All-weaker}
-use Rattle.hose_tree.specs.Peeling.{IsPossible}
+use Rattle.hose_tree.specs.steps.Peeling.{IsPossible}
 use Rattle.hose_tree.proofs.Forests.{MOST, forest_more, next_more, room}
 use Rattle.hose_tree.proofs.judge.Forest.add_links.Goals as goal
 

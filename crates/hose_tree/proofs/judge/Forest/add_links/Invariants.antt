@@ -1,5 +1,5 @@
 use Rattle.std.proofs.Common.{[], take}
-use Rattle.hose_tree.specs.Peeling.{IsForestOf}
+use Rattle.hose_tree.specs.steps.Peeling.{IsForestOf}
 use Rattle.hose_tree.proofs.judge.Forest.add_links.Given as goal
 
 abbrev pub invariant-loop-number : goal.invariant-loop-number

@@ -1,4 +1,4 @@
-use Rattle.hose_tree.specs.Peeling.{HasNoLeafBelow, KeepsQuestions}
+use Rattle.hose_tree.specs.steps.Peeling.{HasNoLeafBelow, KeepsQuestions}
 use Rattle.hose_tree.proofs.judge.Forest.peel.Given as goal
 
 abbrev pub invariant-loop-node : goal.invariant-loop-node

@@ -1,5 +1,5 @@
 use Rattle.std.proofs.Common.{◌≢◌, ℕ, ◌+◌, ◌<◌, length, get_or}
-use Rattle.hose_tree.specs.Peeling.{KeepsQuestions}
+use Rattle.hose_tree.specs.steps.Peeling.{KeepsQuestions}
 use Rattle.hose_tree.proofs.judge.Forest.peel_from.Given as goal
 
 -- the leaf of this turn is a node, and no other up to the first one is a leaf

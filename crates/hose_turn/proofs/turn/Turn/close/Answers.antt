@@ -1,7 +1,8 @@
 use Rattle.std.proofs.Common.{rules, ◌≡◌, ◌≤◌, ◌⊎◌, List, ◌∙◌, ap, subst}
 use Rattle.hose_graph.specs.declared.entry.Entry.{Entry}
 use Rattle.hose_turn.specs.Faults.{end_of_count}
-use Rattle.hose_turn.specs.Known.{Known, HasWholeHistory}
+use Rattle.hose_turn.specs.Known.{Known}
+use Rattle.hose_turn.specs.steps.Known.{HasWholeHistory}
 use Rattle.hose_turn.proofs.Steps.{closes}
 use Rattle.hose_turn.proofs.turn.Turn.close.Goals as goal
 

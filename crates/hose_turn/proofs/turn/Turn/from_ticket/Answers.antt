@@ -1,7 +1,7 @@
 use Rattle.std.proofs.Common.{rules, ◌≡◌, ◌<◌, ◌∙◌, ap, sym, subst, refl, arith}
-use Rattle.hose_turn.specs.Faults.{no_rise}
-use Rattle.hose_turn.specs.Known.{first_known}
-use Rattle.hose_turn.specs.Views.{passed_on, known_of, IsAtRest}
+use Rattle.hose_turn.specs.steps.Faults.{no_rise}
+use Rattle.hose_turn.specs.steps.Known.{first_known}
+use Rattle.hose_turn.specs.steps.Views.{passed_on, known_of, IsAtRest}
 use Rattle.hose_turn.proofs.Places.{no_places}
 use Rattle.hose_turn.proofs.Steps.{passes}
 use Rattle.hose_turn.proofs.turn.Turn.from_ticket.Goals as goal

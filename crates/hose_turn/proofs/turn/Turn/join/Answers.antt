@@ -2,8 +2,8 @@ use Rattle.std.proofs.Common.{rules, ◌≡◌, ◌∷◌, [], ◌∙◌, List, 
 use mathlib.Core.List.{IsPrefix}
 use Rattle.hose_graph.specs.declared.entry.Entry.{Entry}
 use Rattle.hose_turn.specs.declared.view.View.{View}
-use Rattle.hose_turn.specs.Places.{HasSomePlaces, AreApart}
-use Rattle.hose_turn.specs.Views.{view_of, glued, settled, IsAtRest}
+use Rattle.hose_turn.specs.steps.Places.{HasSomePlaces, AreApart}
+use Rattle.hose_turn.specs.steps.Views.{view_of, glued, settled, IsAtRest}
 use Rattle.hose_turn.proofs.Places.{rests_both, places_apart}
 use Rattle.hose_turn.proofs.Steps.{joins, settles}
 use Rattle.hose_turn.proofs.turn.Turn.join.Goals as goal

@@ -1,5 +1,5 @@
 use Rattle.std.proofs.Common.{rules, ◌≡◌, ◌∷◌, [], ap, arith}
-use Rattle.hose_turn.specs.Views.{view_of}
+use Rattle.hose_turn.specs.steps.Views.{view_of}
 use Rattle.hose_turn.proofs.Steps.{splits}
 use Rattle.hose_turn.proofs.turn.Turn.split.Goals as goal
 

@@ -1,7 +1,7 @@
 use Rattle.std.proofs.Common.{rules, ap, sym, subst, ◌≤◌}
 use Rattle.hose_turn.proofs.Steps.{passes}
 use Rattle.hose_turn.proofs.Faults.{rise_fits}
-use Rattle.hose_turn.specs.Faults.{rise}
+use Rattle.hose_turn.specs.steps.Faults.{rise}
 use Rattle.hose_turn.proofs.turn.Turn.unlock.Goals as goal
 
 pub fetch_add-mine-requires : goal.fetch_add-mine-requires

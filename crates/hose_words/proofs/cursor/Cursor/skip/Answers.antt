@@ -1,6 +1,6 @@
 use Rattle.std.proofs.Common.{◌≡◌, ◌∙◌, ℕ, ◌+◌, ◌<◌, ◌≤◌, List, [], Bor, Option, Some, None, IfSome, IfNone, drop, length, sym, ap, arith, length-drop}
 use Rattle.std.proofs.lemmas.List.{drop-drop}
-use Rattle.hose_words.specs.Cursor.{Position, Took}
+use Rattle.hose_words.specs.steps.Cursor.{Position, Took}
 use Rattle.hose_words.proofs.cursor.Cursor.skip.Goals as goal
 
 -- where words are left, one more is passed over

@@ -1,9 +1,9 @@
 use Rattle.std.proofs.Common.{◌≤◌, ◌∙◌, nat_lt, length, refl, sym, ap, arith, rules, ⊎_elim}
 use Rattle.std.proofs.lemmas.Bool.{MatchBool-at_true, cases_lt}
 use Rattle.std.proofs.lemmas.Result.{err_from_is_err_and}
-use Rattle.hose_io.specs.Calls.{none_yet}
-use Rattle.hose_words.specs.Intake.{reader_of, TakesBytes, MeetsEnd}
-use Rattle.hose_words.specs.Kept.{ReaderState}
+use Rattle.hose_io.specs.steps.Calls.{none_yet}
+use Rattle.hose_words.specs.steps.Intake.{reader_of, TakesBytes, MeetsEnd}
+use Rattle.hose_words.specs.steps.Kept.{ReaderState}
 use Rattle.hose_words.specs.declared.lines.TheConstants.{INPUT_LIMIT}
 use Rattle.hose_words.proofs.Coming.{HasPassed, HasPassed-from, HasCome-more, HasCome-none, IsNext-line, IsNext-last, IsNext-fault}
 use Rattle.hose_words.proofs.intake.LineIntake.advance.Goals.{After-drop_long-is_long}

@@ -1,5 +1,5 @@
 use Rattle.std.proofs.Common.{◌-◌, ◌^◌}
-use Rattle.hose_words.specs.Intake.{reader_of}
+use Rattle.hose_words.specs.steps.Intake.{reader_of}
 use Rattle.hose_words.proofs.Coming.{HasCome}
 use Rattle.hose_words.proofs.intake.LineIntake.advance.Given as goal
 

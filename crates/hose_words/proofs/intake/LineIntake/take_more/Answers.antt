@@ -1,5 +1,5 @@
 use Rattle.std.proofs.Common.{Ok, ap, refl, rules}
-use Rattle.hose_io.specs.Calls.{none_yet}
+use Rattle.hose_io.specs.steps.Calls.{none_yet}
 use Rattle.hose_words.proofs.Coming.{MeetsEnd-now}
 use Rattle.hose_words.proofs.intake.LineIntake.take_more.Goals as goal
 

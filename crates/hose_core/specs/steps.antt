@@ -1,0 +1,8 @@
+-- Steps of proofs: what no clause of the top calls names.
+pub mod Bound
+pub mod Claiming
+pub mod Holding
+pub mod Planning
+pub mod Serving
+pub mod Stepping
+pub mod Telling

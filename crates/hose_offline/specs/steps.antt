@@ -1,0 +1,21 @@
+-- Steps of proofs: what no clause of the top calls names.
+pub mod AuditOutcome
+pub mod CabinetText
+pub mod CheckOutcome
+pub mod Fault
+pub mod Following
+pub mod GenOutcome
+pub mod Generating
+pub mod Journal
+pub mod JsonRead
+pub mod Moving
+pub mod Parts
+pub mod PriceOutcome
+pub mod ProveOutcome
+pub mod ServingOnDisk
+pub mod SheetLine
+pub mod ShipOutcome
+pub mod Talk
+pub mod Talking
+pub mod TalkingOnDisk
+pub mod Tally

@@ -1,0 +1,6 @@
+-- Steps of proofs: what no clause of the top calls names.
+pub mod EndWords
+pub mod Fields
+pub mod Reading
+pub mod ReplyLines
+pub mod ReplyText

@@ -1,0 +1,104 @@
+-- What is read of the words of commands and replies.
+use Rattle.std.specs.Prelude.{◌≡◌, ◌⊎◌, ℕ, ◌+◌, ◌<◌, ◌≤◌, List, [], ◌∷◌, ◌++◌, Option, IfNone, IfSome, Any, codes, decimal, length, map}
+use Rattle.std.specs.List.Sorted.{IsStrictlyIncreasing}
+use Rattle.hose_words.specs.steps.Cursor.{Position, IsWrong}
+use Rattle.hose_words.specs.Form.{Form, Fits64, TellsItems, finish, number, this}
+use Rattle.hose_words.specs.Grammar.{IsFirst}
+use Rattle.hose_graph.specs.Amounts.{ReservedLink, amount_of, link_of}
+use Rattle.hose_graph.specs.Ascending.{firsts}
+use Rattle.hose_graph.specs.Hose.{IsEnd, Endpoint, node_of}
+use Rattle.hose_graph.specs.Network.{Network, IsLinkOf, IsNodeOf}
+use Rattle.hose_graph.specs.Limits.{most_ends}
+use Rattle.hose_proto.specs.declared.fault.ReadFault.{ReadFault}
+use Rattle.hose_proto.specs.declared.fault.ReadFault.TheVariants.{Bad}
+
+-- A word that is told is the first of those to come that a form does not allow. Want of memory
+-- tells nothing of them.
+pub record IsFaultOf (form : Form) (old : Position) (fault : ReadFault) : Type 0 where
+  pub word : (number : ℕ) → fault ≡ Bad number → IsWrong form old number
+
+-- `at N`
+abbrev pub at_form : Form
+at_form = this (codes "at") (number finish)
+
+-- `ID at N`
+abbrev pub id_form : Form
+id_form = number at_form
+
+-- `ID cost C at N`, and what may stand after that
+abbrev pub cost_form : Form → Form
+cost_form form = number (this (codes "cost") (number (this (codes "at") (number form))))
+
+-- a number, a cost and an epoch
+abbrev pub cost_words : ℕ → ℕ → ℕ → List (List ℕ)
+cost_words id cost at = decimal id ∷ codes "cost" ∷ decimal cost ∷ codes "at" ∷ decimal at ∷ []
+
+-- an endpoint at a node of the network
+pub record IsEndOf (network : Network) (end : Endpoint) : Type 0 where
+  pub is_end : IsEnd end
+  pub is_node : IsNodeOf network (node_of end)
+
+-- ---- lists
+
+-- no item yet, or items that may stand in a list
+abbrev pub AreSoFar : {A : Type 0} → (List A → Type 0) → List A → Type 0
+AreSoFar fine items = (items ≡ []) ⊎ fine items
+
+-- The next word tells no item more of a list of so many at least; or the line ends before they are
+-- there. This is the word's number.
+pub record EndsList {A : Type 0} (word_of : A → List ℕ) (fine : List A → Type 0) (least : ℕ)
+    (items : List A) (old : Position) (number : ℕ) : Type 0 where
+  pub none : ¬ IsFirst
+      (λ word. TellsItems word_of fine (map word_of items ++ word ∷ [])) old.left
+  pub few : old.left ≡ [] → length items < least
+  pub at : number ≡ old.read + 1
+
+-- A word tells an item that may come next; or it tells none.
+pub record TellsNext {A : Type 0} (word_of : A → List ℕ) (may_come : A → Type 0) (word : List ℕ)
+    (told : Option A) : Type 0 where
+  pub some : IfSome told (λ item. (word ≡ word_of item) × may_come item)
+  pub none : IfNone told ((item : A) → word ≡ word_of item → may_come item → ⊥)
+
+-- A word tells one item more of a list; or no list goes on with it.
+pub record TellsMore {A : Type 0} (word_of : A → List ℕ) (fine : List A → Type 0) (items : List A)
+    (word : List ℕ) (told : Option A) : Type 0 where
+  pub some : IfSome told (λ item. (word ≡ word_of item) × fine (items ++ item ∷ []))
+  pub none : IfNone told (¬ TellsItems word_of fine (map word_of items ++ word ∷ []))
+
+-- an endpoint may come after others, which stand in any order
+pub record IsNewEnd (network : Network) (ends : List Endpoint) (end : Endpoint) : Type 0 where
+  pub is_end : IsEndOf network end
+  pub is_new : ¬ Any (λ earlier. node_of earlier ≡ node_of end) ends
+  pub room : length ends < most_ends
+
+-- an endpoint may come after others, in order
+pub record IsNextEnd (network : Network) (ends : List Endpoint) (end : Endpoint) : Type 0 where
+  pub is_end : IsEndOf network end
+  pub ascending : IsStrictlyIncreasing (firsts ends ++ node_of end ∷ [])
+  pub room : length ends < most_ends
+
+-- an amount may come after others
+pub record IsNextPair (network : Network) (pairs : List ReservedLink) (pair : ReservedLink)
+    : Type 0 where
+  pub link : IsLinkOf network (link_of pair)
+  pub amount : Fits64 (amount_of pair)
+  pub ascending : IsStrictlyIncreasing (firsts pairs ++ link_of pair ∷ [])
+
+-- a node may come after others
+pub record IsNextNode (network : Network) (nodes : List ℕ) (node : ℕ) : Type 0 where
+  pub is_node : IsNodeOf network node
+  pub ascending : IsStrictlyIncreasing (nodes ++ node ∷ [])
+
+-- a number may come after others
+pub record IsNextNumber (numbers : List ℕ) (number : ℕ) : Type 0 where
+  pub fits : Fits64 number
+  pub ascending : IsStrictlyIncreasing (numbers ++ number ∷ [])
+
+-- The next word tells no item more of a list, and is not the word that ends it once it has so many
+-- items. This is the word's number.
+pub record MissesUntil {A : Type 0} (word_of : A → List ℕ) (fine : List A → Type 0) (least : ℕ)
+    (last : List ℕ) (items : List A) (old : Position) (number : ℕ) : Type 0 where
+  pub none : ¬ IsFirst
+      (λ word. TellsItems word_of fine (map word_of items ++ word ∷ [])) old.left
+  pub no_last : ¬ IsFirst (λ word. (word ≡ last) × (least ≤ length items)) old.left
+  pub at : number ≡ old.read + 1

@@ -1,0 +1,114 @@
+-- Exchanges: a line of a session and its reply, one after another.
+use Rattle.std.specs.Prelude.{◌≡◌, ℕ, ◌+◌, ◌≤◌, All, Bool, true, List, ◌++◌, length, Option, None, Some, Result, Ok, Err}
+use Rattle.hose_words.specs.steps.Lines.{Shows}
+use Rattle.hose_words.specs.declared.lines.Line.{Line}
+use Rattle.hose_graph.specs.Network.{Network}
+use Rattle.hose_graph.specs.declared.command.Reply.{Reply}
+use Rattle.hose_graph.specs.declared.entry.Entry.{Entry}
+use Rattle.hose_law.specs.Quotes.{Held}
+use Rattle.hose_law.specs.Script.{disks_in, one_if_disk}
+use Rattle.hose_law.specs.Transcript.{IsPlainReply, IsSessionStep, IsTranscript, SessionLine, Stage}
+use Rattle.hose_law.specs.Transcript.SessionLine.{Greets}
+use Rattle.hose_law.specs.Transcript.Stage.{Left, Refused, Serving, Waiting}
+use Rattle.hose_core.specs.steps.Holding.{AreHeld}
+use Rattle.hose_shared.specs.steps.Along.{HasEntryAt}
+use Rattle.hose_shared.specs.steps.Sharing.{IsPassOf, IsSamePass, SharedBook}
+use Rattle.hose_turn.specs.Known.{Known}
+use Rattle.hose_session.specs.steps.Ending.{over_at}
+use Rattle.hose_session.specs.SessionLines.{SaysFirst, SaysLater}
+use Rattle.hose_session.specs.declared.client.Client.{Client}
+use Rattle.hose_session.specs.declared.client.Phase.{Phase}
+use Rattle.hose_session.specs.declared.client.Phase.TheVariants as phase
+use Rattle.hose_session.specs.declared.client.Progress.{Progress}
+
+-- An exchange: a line was answered while a pass went on, from each place that it had seen, at one
+-- that it has seen then.
+pub record IsExchange (network : Network) (old new : Known) (stage : Stage) (said : SessionLine)
+    (reply : Reply) (next : Stage) : Type 0 where
+  pub added : List ℕ
+  pub step : (from : ℕ) → from ≤ length old.seen → (after : ℕ) × (after ≤ length new.seen)
+      × IsSessionStep network 0 new.seen stage said reply next from after added
+  pub entries : All (HasEntryAt network new.seen) added
+  pub same : IsSamePass old new
+  pub own : new.own ≡ old.own ++ added
+  pub faults : old.faults + one_if_disk reply ≤ new.faults
+
+-- A line of a client who holds this was answered, and the client is served on, with these quotes.
+pub record ServesClientOn (network : Network) (old new : Known) (client client' : Client)
+    (held : Held) (said : SessionLine) (reply : Reply) : Type 0 where
+  pub left : Held
+  pub exchange : IsExchange network old new (Serving client.name held) said reply
+      (Serving client.name left)
+  pub holds : AreHeld network 0 new.seen left client'.quotes
+  pub name : client'.name ≡ client.name
+
+-- whatever bytes a line shows say this
+abbrev pub ShownSays : (List ℕ → SessionLine → Type 0) → Line → SessionLine → Type 0
+ShownSays Is line said = (bytes : List ℕ) → Shows line bytes → Is bytes said
+
+-- a first line is a greeting, or is refused with this reply
+abbrev pub IsGreetedBy : Line → Result (List ℕ) Reply → Type 0
+IsGreetedBy line (Ok name) = ShownSays SaysFirst line (Greets name)
+IsGreetedBy line (Err reply) = (said : SessionLine) × ShownSays SaysFirst line said
+    × IsPlainReply said reply
+
+-- ---- how far a session is
+
+-- a phase is so far at a history: its customer's quotes are those that it holds
+abbrev pub IsPhaseAt : Network → List Entry → Phase → Stage → Type 0
+IsPhaseAt network history phase.Waiting stage = stage ≡ Waiting
+IsPhaseAt network history (phase.Serving client) stage = (held : Held)
+    × (stage ≡ Serving client.name held) × AreHeld network 0 history held client.quotes
+IsPhaseAt network history phase.Refused stage = stage ≡ Refused
+IsPhaseAt network history phase.Left stage = stage ≡ Left
+
+-- a session is so far at what its pass has seen
+abbrev pub IsAt : Network → Progress → Stage → Type 0
+IsAt network progress stage = IsPhaseAt network progress.pass.seen progress.phase stage
+
+-- what a line may say at a stage
+abbrev pub SaysAt : Network → Stage → List ℕ → SessionLine → Type 0
+SaysAt network Waiting bytes said = SaysFirst bytes said
+SaysAt network (Serving customer held) bytes said = SaysLater network bytes said
+SaysAt network Refused bytes said = ⊥
+SaysAt network Left bytes said = ⊥
+
+-- a line was answered at a stage while a pass went on, and the session is so far then
+pub record AnswersAt (network : Network) (old : Known) (new : Progress) (stage : Stage)
+    (line : Line) (reply : Reply) : Type 0 where
+  pub said : SessionLine
+  pub next : Stage
+  pub says : ShownSays (SaysAt network stage) line said
+  pub exchange : IsExchange network old new.pass stage said reply next
+  pub at : IsAt network new next
+
+-- it can be served: its pass is one of the shared book, and it is at a stage
+abbrev pub CanBeServed : SharedBook → Progress → Type 0
+CanBeServed shared progress =
+    IsPassOf shared progress.pass × (stage : Stage) × IsAt shared.network progress stage
+
+-- no line is answered any more
+abbrev pub is_over : Option Progress → Bool
+is_over (Some progress) = over_at progress.phase
+is_over None = true
+
+-- ---- from the start on
+
+-- Lines were answered while a pass went on: the transcript along all that it has seen then.
+pub record GoesAlong (network : Network) (old new : Known) (lines : List SessionLine)
+    (replies : List Reply) (stage : Stage) (own : List ℕ) : Type 0 where
+  pub last : ℕ
+  pub transcript : IsTranscript network 0 new.seen (length old.seen) lines replies stage last own
+  pub reached : last ≤ length new.seen
+  pub entries : All (HasEntryAt network new.seen) own
+  pub same : IsSamePass old new
+  pub owns : new.own ≡ old.own ++ own
+  pub disks : old.faults + disks_in replies ≤ new.faults
+
+-- what the lines of a session that is so far and their replies have come to
+pub record ComesAlong (network : Network) (first : Known) (progress : Progress)
+    (lines : List SessionLine) (replies : List Reply) : Type 0 where
+  pub stage : Stage
+  pub own : List ℕ
+  pub along : GoesAlong network first progress.pass lines replies stage own
+  pub at : IsAt network progress stage

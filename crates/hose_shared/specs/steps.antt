@@ -1,0 +1,6 @@
+-- Steps of proofs: what no clause of the top calls names.
+pub mod Along
+pub mod Closing
+pub mod Keeping
+pub mod Sharing
+pub mod Turns

@@ -1,0 +1,8 @@
+-- Steps of proofs: what no clause of the top calls names.
+pub mod Becoming
+pub mod Beginning
+pub mod Commit
+pub mod Faults
+pub mod Opening
+pub mod Replaying
+pub mod Store

@@ -1,0 +1,44 @@
+-- What a pass knows, as callers see it: steps of proofs.
+use Rattle.std.specs.Prelude.{List, [], ◌∷◌, ◌++◌, length}
+use mathlib.Core.List.{IsPrefix}
+use Rattle.atomic_table.specs.Seated.{TableId}
+use Rattle.hose_graph.specs.declared.entry.Entry.{Entry}
+use Rattle.hose_turn.specs.declared.view.Origin.{Origin}
+use Rattle.hose_turn.specs.steps.Limits.{all_shares}
+use Rattle.hose_turn.specs.Places.{HasPlaces}
+use Rattle.hose_turn.specs.steps.Places.{HasSomePlaces}
+use Rattle.hose_turn.specs.Known.{Known}
+
+-- what the first pass knows
+abbrev pub first_known : TableId → Origin → Known
+first_known turn origin = record {
+  turn = turn;
+  origin = origin;
+  share = all_shares;
+  seen = origin.since;
+  own = [];
+  faults = 0;
+}
+
+-- What a pass knows once it counted an entry: it has seen the entry, whose place is the number of
+-- entries before it.
+abbrev pub with_own_entry : Known → Entry → Known
+with_own_entry known entry = record known {
+  seen = known.seen ++ entry ∷ [];
+  own = known.own ++ length known.seen ∷ [];
+}
+
+-- Each of the pass's own places is that of an entry after the first list that the pass has seen,
+-- and none stands twice.
+abbrev pub HasOwnPlaces : Known → Type 0
+HasOwnPlaces known =
+    HasSomePlaces (length known.origin.since) (length known.seen) known.own
+
+-- The value stands for the history, which begins with the first list and with what the pass has
+-- seen. Each entry after the first list is the pass's own.
+pub record HasWholeHistory {S : Type 0} (stands : Origin → List Entry → S → Type 0) (pass : Known)
+    (history : List Entry) (value : S) : Type 0 where
+  pub stood : stands pass.origin history value
+  pub since : IsPrefix pass.origin.since history
+  pub seen : IsPrefix pass.seen history
+  pub own : HasPlaces (length pass.origin.since) (length history) pass.own

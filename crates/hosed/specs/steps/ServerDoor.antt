@@ -1,0 +1,95 @@
+-- What serving the connections of a door comes to, and what it does to the journal: steps of
+-- proofs.
+use Rattle.std.specs.Prelude.{◌≡◌, ◌⊎◌, ℕ, List, length, Option, IfSome, Result, Err, is_err, is_some, ⊤}
+use mathlib.Core.List.{IsPrefix}
+use Rattle.hose_io.specs.declared.Failed.{Failed}
+use Rattle.hose_graph.specs.Network.{Network}
+use Rattle.hose_graph.specs.declared.entry.Entry.{Entry}
+use Rattle.hose_law.specs.History.{IsDecided, IsDecidedAt}
+use Rattle.hose_disk.specs.steps.Disk.{IsCalled}
+use Rattle.hose_disk.specs.declared.disk.Disk.{Ghosts as DiskGhosts}
+use Rattle.hose_store.specs.Beginning.{HasLeft}
+use Rattle.hose_store.specs.steps.Beginning.{StandsFor}
+use Rattle.hose_store.specs.steps.Commit.{Closes}
+use Rattle.hose_store.specs.Recovery.{IsHistoryOf}
+use Rattle.hose_store.specs.steps.Store.{KeptStore}
+use Rattle.hose_turn.specs.Known.{Known}
+use Rattle.hose_offline.specs.OnDisk.{opening_of}
+use Rattle.hose_offline.specs.Parts.{Tellings}
+use Rattle.hose_offline.specs.steps.Parts.{held}
+use Rattle.hose_offline.specs.ServingOnDisk.{IsNotServed}
+use Rattle.hose_offline.specs.declared.fault.Fault.{Fault}
+use Rattle.hose_offline.specs.declared.outside.Outside.{Outside}
+use Rattle.hosed.specs.declared.server.ServerEnd.{ServerEnd}
+use Rattle.hosed.specs.declared.words.ServeRequest.{ServeRequest}
+use Rattle.hosed.specs.ServerDoor.{DoorSeen, DoorTask, IsServedAlong, OutsideDoor, ServerProgress, ServesBook, ServesByJournal, Speaks, spoken}
+
+-- ---- what a server says
+
+-- what the request says of the door
+abbrev pub door_task : ServeRequest → DoorTask
+door_task request = record { port = request.port; connections = request.connections }
+
+-- what is lent to a server
+abbrev pub door_beside : {I O C E : Type 0} → Outside I O C E → DoorSeen → OutsideDoor I O C
+door_beside outside door = record { others = held outside; door = door }
+
+-- ---- the store that is shared
+
+-- the store was just opened on a disk, which stood for this history as it was read
+pub record IsOpening {E : Type 0} (disk : DiskGhosts E) (was : E) (network : Network)
+    (since : List Entry) (store : KeptStore E) : Type 0 where
+  pub read : IfSome (disk.content was) (IsHistoryOf network since)
+  pub stands : StandsFor disk IsDecidedAt (disk.may_leave was) (opening_of disk network since was)
+      since store
+
+-- A store was just opened on a disk that had these images and this content at this moment, and
+-- stood for this history.
+pub record OpensAt {E : Type 0} (disk : DiskGhosts E) (Had : List ℕ → Type 0)
+    (content : Option (List ℕ)) (moment : ℕ) (network : Network) (since : List Entry)
+    (store : KeptStore E) : Type 0 where
+  pub read : IfSome content (IsHistoryOf network since)
+  pub stands : StandsFor disk IsDecidedAt Had (record {
+    since = since;
+    network = network;
+    moment = moment;
+    tells = is_some content;
+  }) since store
+
+-- The store was closed, which left the disk so.
+pub record IsClosedOn {E : Type 0} (disk : DiskGhosts E) (store : KeptStore E) (left : E) :
+    Type 0 where
+  pub closing : Result ⊤ Failed
+  pub closes : Closes disk store left closing
+  pub call : IsCalled (disk.frame store.journal.disk) (disk.frame left) closing
+
+-- ---- on a disk
+
+-- A disk was kept from its opening, when it stood for the first history, to its closing, when it
+-- stands for what this is now. All entries since are decided.
+pub record IsKeptOn {E : Type 0} (disk : DiskGhosts E) (was left : E) (made : ServerProgress)
+    (closing : Result ⊤ Failed) : Type 0 where
+  pub read : IfSome (disk.content was) (IsHistoryOf made.network made.since)
+  pub begins : IsPrefix made.since made.history
+  pub decided : IsDecided made.network 0 (length made.since) made.history
+  pub told : (disk.frame left).has_failed ≡ is_err closing
+  pub leaves : HasLeft disk IsDecidedAt (disk.may_leave was)
+      (opening_of disk made.network made.since was) made.history left closing
+
+-- what serving by a store comes to on its disk
+abbrev pub ServesByStore : {E : Type 0} → DiskGhosts E → E → E → Network
+    → (Known → Result ⊤ Failed → Type 0) → Result ServerEnd Fault → Type 0
+ServesByStore disk was left network Along came =
+    ServesBook network (IsKeptOn disk was left) (disk.frame left).faults Along came
+
+-- ---- in a cabinet
+
+-- No store was opened on the journal, which is told why, and nothing was said; or one was.
+abbrev pub ServesConnections : {I O C E : Type 0} → Tellings I O C E → List ℕ → DoorTask
+    → OutsideDoor I O C → OutsideDoor I O C → Network → Result ServerEnd Fault → Type 0
+ServesConnections tells name task before after network came =
+    ((why : Fault) × (came ≡ Err why) × IsNotServed tells.cabinet tells.disk name
+    before.others.cabinet after.others.cabinet network (Err why) × (spoken after ≡ spoken before))
+    ⊎ (ServesByJournal tells name before.others.cabinet after.others.cabinet network
+    (IsServedAlong task.connections before.door after.door) came
+    × Speaks tells.sink task.port (spoken before) (spoken after) came)
