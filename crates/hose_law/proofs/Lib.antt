@@ -14,6 +14,7 @@ pub mod Fronts
 mod Halves
 pub mod Joined
 mod LeastRoot
+pub mod Lines
 pub mod LiveIds
 pub mod Lives
 pub mod Numbers

@@ -1,4 +1,4 @@
--- Scripts and histories that go on by one line.
+-- Histories that go on by one entry.
 use Rattle.std.proofs.Common.{◌≡◌, ℕ, zero, suc, ◌+◌, Bool, true, false, List, [], ◌∷◌, ◌++◌, length, Option, None, Some, refl, sym, subst, arith}
 use Rattle.hose_graph.specs.declared.entry.Entry.{Entry}
 use Rattle.hose_graph.specs.declared.command.Command.{Command}
@@ -9,8 +9,8 @@ use Rattle.hose_graph.specs.Network.{Network}
 use Rattle.hose_law.specs.Book.{Book}
 use Rattle.hose_law.specs.History.{AreFrom, EntryKind, next_book, book_after, book_of, opening_book, IsSound, IsSoundAt, IsDecidedAt, IsSoundFrom, IsDecided}
 use Rattle.hose_law.specs.Answer.{IsPlannedAnswer, IsAnswer, IsOperatorAnswer, IsServiceAnswer, IsTakeAnswer}
-use Rattle.hose_law.specs.Quotes.{at_number, Held, HeldQuote, Holdings}
-use Rattle.hose_law.specs.Script.{ReadLine, IsLineStep, IsScript, disks_in, one_if_disk}
+use Rattle.hose_law.specs.Quotes.{at_number, Held, HeldQuote}
+use Rattle.hose_law.specs.Script.{disks_in, one_if_disk}
 
 -- the book after one entry more
 pub book_after_push : (book : Book) (entries : List Entry) (entry : Entry) → book_after book (entries ++ entry ∷ []) ≡ next_book (book_after book entries) entry
@@ -101,22 +101,7 @@ decided_push network epoch since history entry decided at sound = record {
   decided = from_push IsDecidedAt network (opening_book epoch) since history entry decided.decided at;
 }
 
--- a script, and a step of one line more from its last history, are a script
-pub script_push : (network : Network) (epoch : ℕ) (history : List Entry) (holdings : Holdings) (lines : List ReadLine) (replies : List Reply) (middle : List Entry) (between : Holdings) (line : ReadLine) (reply : Reply)
-    (last : List Entry) (left : Holdings)
-    → IsScript network epoch history holdings lines replies middle between → IsLineStep network epoch middle between line reply last left
-    → IsScript network epoch history holdings (lines ++ line ∷ []) (replies ++ reply ∷ []) last left
-script_push network epoch history holdings [] [] middle between line reply last left script step = (
-  last,
-  left,
-  subst (λ (h : List Entry). IsLineStep network epoch h holdings line reply last left) script.0 (subst (λ (h : Holdings). IsLineStep network epoch middle h line reply last left) script.1 step),
-  (refl, refl),
-)
-script_push network epoch history holdings (first ∷ lines) (answer ∷ replies) middle between line reply last left script step =
-    (script.0, script.1, script.2, script_push network epoch script.0 script.1 lines replies middle between line reply last left script.3 step)
-script_push network epoch history holdings [] (answer ∷ replies) middle between line reply last left script step = absurd script
-script_push network epoch history holdings (first ∷ lines) [] middle between line reply last left script step = absurd script
-
+-- a reply more tells its failures of the disk
 pub disks_push : (replies : List Reply) (reply : Reply) → disks_in (replies ++ reply ∷ []) ≡ disks_in replies + one_if_disk reply
 disks_push [] reply = refl
 disks_push (first ∷ replies) reply = omega (arith, disks_push replies reply)

@@ -1,5 +1,5 @@
 -- Transcripts along histories that go on.
-use Rattle.std.proofs.Common.{◌≡◌, inl, inr, ℕ, ◌+◌, ◌≤◌, List, length, take, sym, subst, ap, ◌∙◌, arith}
+use Rattle.std.proofs.Common.{◌≡◌, inl, inr, ℕ, ◌+◌, ◌≤◌, List, [], length, take, sym, subst, ap, ◌∙◌, arith}
 use Rattle.std.proofs.lemmas.List.{take-append-le}
 use mathlib.Core.List.{IsPrefix}
 use Rattle.hose_graph.specs.declared.entry.Entry.{Entry}
@@ -8,10 +8,11 @@ use Rattle.hose_graph.specs.declared.command.Reply.{Reply}
 use Rattle.hose_graph.specs.Network.{Network}
 use Rattle.hose_law.specs.Answer.{IsStep}
 use Rattle.hose_law.specs.Quotes.{Held}
-use Rattle.hose_law.specs.Transcript.{IsSessionStep, IsPlacedStep, IsTranscript, no_line, line_more, SessionLine, Stage}
+use Rattle.hose_law.specs.Transcript.{IsSessionStep, IsPlacedStep, IsTranscript, IsTranscriptStep, SessionLine, SessionState, Stage, session_state}
 use Rattle.hose_law.specs.Transcript.SessionLine.{Greets, Asks, Leaves, IsBad, IsLong, Unread}
 use Rattle.hose_law.specs.Transcript.Stage.{Waiting, Serving, Refused, Left}
 use Rattle.hose_law.proofs.Fronts.{prefix_length}
+use Rattle.hose_law.proofs.Lines.{steps_weaker}
 
 pub front_longer : (history next : List Entry) (place : ℕ) → IsPrefix history next → place ≤ length history → take place history ≡ take place next
 front_longer history next place (rest, same) there = sym (take-append-le place history rest there) ∙ ap (take place) same
@@ -52,7 +53,5 @@ module _ (network : Network) (epoch : ℕ) (history longer : List Entry) (prefix
   step_longer Left line reply next from after own is = is
 
   -- a transcript along a history is one along a longer one
-  pub transcript_longer : (from : ℕ) {lines : List SessionLine} {replies : List Reply} {stage : Stage} {place : ℕ} {own : List ℕ}
-      → IsTranscript network epoch history from lines replies stage place own → IsTranscript network epoch longer from lines replies stage place own
-  transcript_longer from no_line = no_line
-  transcript_longer from (line_more line reply added before is) = line_more line reply added (transcript_longer from before) (step_longer _ line reply _ _ _ added is)
+  pub transcript_longer : (from : ℕ) (lines : List SessionLine) (replies : List Reply) (last : SessionState) → IsTranscript network epoch history from lines replies last → IsTranscript network epoch longer from lines replies last
+  transcript_longer from lines replies last = steps_weaker (IsTranscriptStep network epoch history) (IsTranscriptStep network epoch longer) (λ line reply old new step. (step.0, step_longer old.stage line reply new.stage old.place new.place step.0 step.1, step.2)) lines replies (session_state Waiting from []) last

@@ -25,10 +25,10 @@ use Rattle.hose_law.specs.Room.{room_of, safe_links}
 use Rattle.hose_law.specs.Answer.{AreVpnsOf, IsNewest, IsPlannedAnswer, IsAdmitAnswer, IsAfterAnswer, IsQuoteAnswer, IsTakingAnswer, IsTakeAnswer, IsReleaseAnswer, IsShowAnswer, IsVpnsAnswer, IsLinkAnswer, IsOperatorAnswer, IsServiceAnswer, IsAnswer, IsStep, IsStepOfKind, with_entry}
 use Rattle.hose_law.specs.Service.{LinkStands, is_out}
 use Rattle.hose_law.specs.steps.Service.{service_entry}
-use Rattle.hose_law.specs.Quotes.{Held, HeldQuote, Holdings, at_number, free_number, with_held, with_number}
+use Rattle.hose_law.specs.Quotes.{Held, HeldQuote, at_number, free_number, with_held, with_number}
 use Rattle.hose_law.specs.ReplyKind.{ReplyKind, IsDiskKind, IsMemoryKind, kind_of}
 use Rattle.hose_law.specs.ReplyKind.ReplyKind.{ByTheBook, ForDisk, ForMemory, ForNoCommand}
-use Rattle.hose_law.specs.Script.{ReadLine, Asks, IsForDisk, IsForMemory, IsLineStep, IsScript, WithoutDisk, WithoutMemory}
+use Rattle.hose_law.specs.Script.{ReadLine, Asks, IsForDisk, IsForMemory, IsLineStep, IsScript, ScriptState, WithoutDisk, WithoutMemory}
 
 -- A kind of answers relates a reply and what comes of it: the entry that joins the history, or what is held then.
 module _ {X : Type 0} where
@@ -429,30 +429,34 @@ answered network epoch history customer held command reply next after answers st
     at ForMemory answers is = absurd (answers.0 tt)
     at ForNoCommand answers is = absurd is
 
--- a line has one step that is not for want of memory or a failure of the disk
-line_unique : (network : Network) → IsNetwork network → (epoch : ℕ) (history : List Entry) (holdings : Holdings) (line : ReadLine) (reply other : Reply) (replies others : List Reply) (next last : List Entry) (after left : Holdings)
-    → IsLineStep network epoch history holdings line reply next after → IsLineStep network epoch history holdings line other last left → AllAnswer (reply ∷ replies) → AllAnswer (other ∷ others)
-    → (reply ≡ other) × (next ≡ last) × (after ≡ left)
-line_unique network is epoch history holdings (Asks customer command) reply other replies others next last after left one two all also =
-    let held : Held = holdings customer in
-    let mine = answered network epoch history customer held command reply next one.0 (first_answers reply replies all) one.1 in
-    let theirs = answered network epoch history customer held command other last two.0 (first_answers other others also) two.1 in
-    let same = answer_unique network is epoch history customer held command reply other mine.0 theirs.0 one.0 two.0 mine.1 theirs.1 in
-    (same.0, mine.2 ∙ ap (with_entry history) same.1 ∙ sym theirs.2, one.2 ∙ ap (with_held holdings customer) same.2 ∙ sym two.2)
-line_unique network is epoch history holdings line reply other replies others next last after left one two all also = (one.0 ∙ sym two.0, one.1 ∙ sym two.1, one.2 ∙ sym two.2)
+-- a script is at one place where both parts are the same
+state_same : (one two : ScriptState) → one.history ≡ two.history → one.holdings ≡ two.holdings → one ≡ two
+state_same one two history holdings = λ i. record { history = history i; holdings = holdings i }
 
--- Without want of memory and failures of the disk the replies of a script are the only ones, and so is the history that it leads to.
-pub script_unique : (network : Network) → IsNetwork network → (epoch : ℕ) (history : List Entry) (holdings : Holdings) (lines : List ReadLine) (replies others : List Reply) (last end : List Entry) (left kept : Holdings)
-    → IsScript network epoch history holdings lines replies last left → IsScript network epoch history holdings lines others end kept → AllAnswer replies → AllAnswer others
+-- a line has one step that is not for want of memory or a failure of the disk
+line_unique : (network : Network) → IsNetwork network → (epoch : ℕ) (line : ReadLine) (reply other : Reply) (replies others : List Reply) (old new last : ScriptState)
+    → IsLineStep network epoch line reply old new → IsLineStep network epoch line other old last → AllAnswer (reply ∷ replies) → AllAnswer (other ∷ others)
+    → (reply ≡ other) × (new ≡ last)
+line_unique network is epoch (Asks customer command) reply other replies others old new last one two all also =
+    let history = old.history in
+    let held : Held = old.holdings customer in
+    let mine = answered network epoch history customer held command reply new.history one.0 (first_answers reply replies all) one.1 in
+    let theirs = answered network epoch history customer held command other last.history two.0 (first_answers other others also) two.1 in
+    let same = answer_unique network is epoch history customer held command reply other mine.0 theirs.0 one.0 two.0 mine.1 theirs.1 in
+    (same.0, state_same new last (mine.2 ∙ ap (with_entry history) same.1 ∙ sym theirs.2) (one.2 ∙ ap (with_held old.holdings customer) same.2 ∙ sym two.2))
+line_unique network is epoch line reply other replies others old new last one two all also = (one.0 ∙ sym two.0, one.1 ∙ sym two.1)
+
+-- Without want of memory and failures of the disk the replies of a script are the only ones, and so is what it leads to.
+pub script_unique : (network : Network) → IsNetwork network → (epoch : ℕ) (lines : List ReadLine) (replies others : List Reply) (first last end : ScriptState)
+    → IsScript network epoch lines replies first last → IsScript network epoch lines others first end → AllAnswer replies → AllAnswer others
     → (replies ≡ others) × (last ≡ end)
-script_unique network is epoch history holdings [] [] [] last end left kept one two all also = (refl, one.0 ∙ sym two.0)
-script_unique network is epoch history holdings (line ∷ lines) (reply ∷ replies) (other ∷ others) last end left kept one two all also =
-    let same = line_unique network is epoch history holdings line reply other replies others one.0 two.0 one.1 two.1 one.2 two.2 all also in
-    let from_history : IsScript network epoch one.0 two.1 lines others end kept = subst (λ (h : List Entry). IsScript network epoch h two.1 lines others end kept) (sym same.1) two.3 in
-    let goes_on : IsScript network epoch one.0 one.1 lines others end kept = subst (λ (h : Holdings). IsScript network epoch one.0 h lines others end kept) (sym same.2) from_history in
-    let rest = script_unique network is epoch one.0 one.1 lines replies others last end left kept one.3 goes_on (all_after reply replies all) (all_after other others also) in
+script_unique network is epoch [] [] [] first last end one two all also = (refl, one ∙ sym two)
+script_unique network is epoch (line ∷ lines) (reply ∷ replies) (other ∷ others) first last end one two all also =
+    let same = line_unique network is epoch line reply other replies others first one.0 two.0 one.1 two.1 all also in
+    let goes_on : IsScript network epoch lines others one.0 end = subst (λ (state : ScriptState). IsScript network epoch lines others state end) (sym same.1) two.2 in
+    let rest = script_unique network is epoch lines replies others one.0 last end one.2 goes_on (all_after reply replies all) (all_after other others also) in
     (ap (λ (r : Reply). r ∷ replies) same.0 ∙ ap (λ (rs : List Reply). other ∷ rs) rest.0, rest.1)
-script_unique network is epoch history holdings [] (reply ∷ replies) others last end left kept one two all also = absurd one
-script_unique network is epoch history holdings [] [] (other ∷ others) last end left kept one two all also = absurd two
-script_unique network is epoch history holdings (line ∷ lines) [] others last end left kept one two all also = absurd one
-script_unique network is epoch history holdings (line ∷ lines) (reply ∷ replies) [] last end left kept one two all also = absurd two
+script_unique network is epoch [] (reply ∷ replies) others first last end one two all also = absurd one
+script_unique network is epoch [] [] (other ∷ others) first last end one two all also = absurd two
+script_unique network is epoch (line ∷ lines) [] others first last end one two all also = absurd one
+script_unique network is epoch (line ∷ lines) (reply ∷ replies) [] first last end one two all also = absurd two

@@ -6,6 +6,7 @@ pub mod Carries
 pub mod Cheapest
 pub mod Decision
 pub mod History
+pub mod Lines
 pub mod Live
 pub mod Matrix
 pub mod Plan

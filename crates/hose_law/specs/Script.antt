@@ -6,6 +6,7 @@ use Rattle.hose_graph.specs.declared.command.Reply.{Reply}
 use Rattle.hose_graph.specs.declared.command.Reply.TheVariants.{Memory, Bad, Long}
 use Rattle.hose_graph.specs.Network.{Network}
 use Rattle.hose_law.specs.Answer.{IsStep}
+use Rattle.hose_law.specs.Lines.{AreSteps}
 use Rattle.hose_law.specs.ReplyKind.{IsDiskKind, IsMemoryKind, failures_of, kind_of}
 use Rattle.hose_law.specs.Quotes.{Held, Holdings, with_held}
 
@@ -24,27 +25,27 @@ IsFixedReply (IsBad word) reply = reply ≡ Bad word
 IsFixedReply IsLong reply = reply ≡ Long
 IsFixedReply Unread reply = reply ≡ Memory
 
+-- where a script is: the history, and what each customer holds
+pub record ScriptState : Type 0 where
+  pub history : List Entry
+  pub holdings : Holdings
+
+-- where a script is, of its parts
+abbrev pub script_state : List Entry → Holdings → ScriptState
+script_state history holdings = record { history = history; holdings = holdings }
+
 -- One line of a script: a step of its customer's command, or a reply that changes nothing.
-abbrev pub IsLineStep : Network → ℕ → List Entry → Holdings → ReadLine → Reply → List Entry
-    → Holdings → Type 0
-IsLineStep network epoch history holdings (Asks customer command) reply next after =
-    (held : Held)
-    × IsStep network epoch history customer (holdings customer) command reply next held
-    × (after ≡ with_held holdings customer held)
-IsLineStep network epoch history holdings line reply next after =
-    IsFixedReply line reply × (next ≡ history) × (after ≡ holdings)
+abbrev pub IsLineStep : Network → ℕ → ReadLine → Reply → ScriptState → ScriptState → Type 0
+IsLineStep network epoch (Asks customer command) reply old new = (held : Held)
+    × IsStep network epoch old.history customer (old.holdings customer) command reply new.history
+    held
+    × (new.holdings ≡ with_held old.holdings customer held)
+IsLineStep network epoch line reply old new = IsFixedReply line reply × (new ≡ old)
 
 -- The lines, in order, are steps one after the other, from a history and what is held there on to a
 -- history and what is held then.
-abbrev pub IsScript : Network → ℕ → List Entry → Holdings → List ReadLine → List Reply → List Entry
-    → Holdings → Type 0
-IsScript network epoch history holdings [] [] last left = (last ≡ history) × (left ≡ holdings)
-IsScript network epoch history holdings (line ∷ lines) (reply ∷ replies) last left =
-    (next : List Entry) × (after : Holdings)
-    × IsLineStep network epoch history holdings line reply next after
-    × IsScript network epoch next after lines replies last left
-IsScript network epoch history holdings [] (reply ∷ replies) last left = ⊥
-IsScript network epoch history holdings (line ∷ lines) [] last left = ⊥
+abbrev pub IsScript : Network → ℕ → List ReadLine → List Reply → ScriptState → ScriptState → Type 0
+IsScript network epoch = AreSteps (IsLineStep network epoch)
 
 -- the reply is for want of memory
 abbrev pub IsForMemory : Reply → Type 0

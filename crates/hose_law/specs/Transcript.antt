@@ -6,6 +6,7 @@ use Rattle.hose_graph.specs.declared.command.Reply.{Reply}
 use Rattle.hose_graph.specs.declared.command.Reply.TheVariants.{Bad, Bye, Long, Memory, Welcome}
 use Rattle.hose_graph.specs.Network.{Network}
 use Rattle.hose_law.specs.Answer.{IsStep}
+use Rattle.hose_law.specs.Lines.{AreSteps}
 use Rattle.hose_law.specs.Quotes.{Held, none_held}
 
 -- A line of a session as it was read: the greeting with a customer's name, a command, the line that
@@ -70,14 +71,28 @@ IsSessionStep network epoch history Left line reply next from after own = ⊥
 IsSessionStep network epoch history stage line reply next from after own =
     IsPlainReply line reply × (next ≡ stage_after stage line) × (after ≡ from) × (own ≡ [])
 
--- The lines and the replies of a session along a history from a place on, how far it is then, the
--- last place, and the places of its own entries, in order. The places never go back.
-pub data IsTranscript (network : Network) (epoch : ℕ) (history : List Entry) (from : ℕ)
-    : List SessionLine → List Reply → Stage → ℕ → List ℕ → Type 0 where
-  no_line : IsTranscript network epoch history from [] [] Waiting from []
-  line_more : {lines : List SessionLine} {replies : List Reply} {stage next : Stage}
-      {place after : ℕ} {own : List ℕ} (line : SessionLine) (reply : Reply) (added : List ℕ)
-      → IsTranscript network epoch history from lines replies stage place own
-      → IsSessionStep network epoch history stage line reply next place after added
-      → IsTranscript network epoch history from (lines ++ line ∷ []) (replies ++ reply ∷ [])
-      next after (own ++ added)
+-- how far a session is along a history: its stage, its place there, and the places of its own
+-- entries, in order
+pub record SessionState : Type 0 where
+  pub stage : Stage
+  pub place : ℕ
+  pub own : List ℕ
+
+-- how far a session is, of its parts
+abbrev pub session_state : Stage → ℕ → List ℕ → SessionState
+session_state stage place own = record { stage = stage; place = place; own = own }
+
+-- One line of a session that is so far is answered, and it is so far then. The place never goes
+-- back.
+abbrev pub IsTranscriptStep : Network → ℕ → List Entry → SessionLine → Reply → SessionState
+    → SessionState → Type 0
+IsTranscriptStep network epoch history line reply old new = (added : List ℕ)
+    × IsSessionStep network epoch history old.stage line reply new.stage old.place new.place added
+    × (new.own ≡ old.own ++ added)
+
+-- The lines and the replies of a session along a history from a place on, and how far it is then.
+abbrev pub IsTranscript : Network → ℕ → List Entry → ℕ → List SessionLine → List Reply
+    → SessionState → Type 0
+IsTranscript network epoch history from lines replies last =
+    AreSteps (IsTranscriptStep network epoch history) lines replies (session_state Waiting from [])
+    last

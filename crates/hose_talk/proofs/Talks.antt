@@ -17,8 +17,8 @@ use Rattle.hose_words.specs.declared.lines.LineFault.{LineFault}
 use Rattle.hose_words.specs.declared.lines.LineFault.TheVariants as line_fault
 use Rattle.hose_words.proofs.Saying.{flat_map-last, met_fault, rose_now, said_all, said_enough, said_more, said_none, said_until, takes_line}
 use Rattle.hose_talk.specs.steps.Said.{ComesOn}
-use Rattle.hose_talk.specs.Talk.{AllOut, LastCut, TalksUpTo}
-use Rattle.hose_talk.specs.steps.Talk.{Exchanges, HasTalked, KeepsFault, TakesReply, TalksByReader}
+use Rattle.hose_talk.specs.Talk.{AllOut, LastCut, Talk, TalksUpTo, talk}
+use Rattle.hose_talk.specs.steps.Talk.{Exchanges, HasTalked, KeepsFault, TakesReply, TalksByReader, terms_of}
 use Rattle.hose_talk.specs.steps.TalkFaults.{of_line}
 use Rattle.hose_talk.specs.declared.answers.Answers.{Ghosts}
 use Rattle.hose_talk.specs.declared.talking.TalkEnd.TheVariants as talk_end
@@ -38,72 +38,71 @@ not_past value taken below = ((λ is. absurd (cc is)), (λ more. absurd (omega (
 
 module _ {A R S O : Type 0} (by : Ghosts A R) (source : SourceGhosts S) (sink : SinkGhosts O) where
   -- a line that was read was answered
-  pub answered_line : (old new : Reader S) (now last : A) (shown : Line) (reply : R) (puts : List ℕ → Type 0) → IsNext source old new (Ok (Some shown)) → ((from : by.origin) → ComesOn (by.says (by.about now)) (by.comes from) shown now last reply)
-      → by.about last ≡ by.about now → puts (by.text (by.about last) reply) → TakesReply by source sink old new now last puts
-  answered_line old new now last shown reply puts next answers about out = record {
+  pub answered_line : (old new : Talk (Reader S) O A) (shown : Line) (reply : R) (puts : List ℕ → Type 0) → IsNext source old.lines new.lines (Ok (Some shown)) → ((from : by.origin) → ComesOn (by.says (by.about old.by)) (by.comes from) shown old.by new.by reply)
+      → by.about new.by ≡ by.about old.by → puts (by.text (by.about new.by) reply) → TakesReply by source sink old new puts
+  answered_line old new shown reply puts next answers about out = record {
     reply = reply;
     answers = λ from lines replies came.
         let more = answers from lines replies came in
-        (more.0, takes_line source old new shown (λ bytes. by.says (by.about now) lines bytes more.0) next more.1, more.2);
+        (more.0, takes_line source old.lines new.lines shown (λ bytes. by.says (by.about old.by) lines bytes more.0) next more.1, more.2);
     out = subst (λ (subject : by.subject). puts (by.text subject reply)) about out;
     progress = next.progress;
   }
 
   -- reading met a fault
-  pub exchanges_read : (old new : Reader S) (output : O) (now : A) (met : LineFault) → old.fault ≡ None → IsNext source old new (Err met) → Exchanges by source sink old new output output now now (Err (of_line met))
-  exchanges_read old new output now line_fault.Read none next = (met_fault source old new line_fault.Read none next, rose_now source old new none (next.read refl), refl, refl)
-  exchanges_read old new output now line_fault.TooLong none next = (met_fault source old new line_fault.TooLong none next, refl, refl)
+  pub exchanges_read : (old : Talk (Reader S) O A) (new : Reader S) (met : LineFault) → old.lines.fault ≡ None → IsNext source old.lines new (Err met) → Exchanges by source sink old (talk new old.output old.by) (Err (of_line met))
+  exchanges_read old new line_fault.Read none next = (met_fault source old.lines new line_fault.Read none next, rose_now source old.lines new none (next.read refl), refl, refl)
+  exchanges_read old new line_fault.TooLong none next = (met_fault source old.lines new line_fault.TooLong none next, refl, refl)
 
   -- ---- line after line
 
   module _ (from : by.origin) where
-    pub nothing_talked : (reader : Reader S) (output : O) (first : A) → by.comes from [] [] first → HasTalked by source sink from reader reader output output first first
-    nothing_talked reader output first begins = record {
+    pub nothing_talked : (start : Talk (Reader S) O A) → by.comes from [] [] start.by → HasTalked by source sink from start start
+    nothing_talked start begins = record {
       lines = [];
       replies = [];
-      said = said_none (by.says (by.about first)) reader.pending (source.content reader.source);
+      said = said_none (by.says (by.about start.by)) start.lines.pending (source.content start.lines.source);
       comes = begins;
-      out = Grows-nil (sink.content output);
+      out = Grows-nil (sink.content start.output);
     }
 
-    module _ (start now new : Reader S) (before middle after : O) (first was last : A) (about : by.about was ≡ by.about first) (talked : HasTalked by source sink from start now before middle first was) (still : IsStillReading source sink start now before middle)
-        (goes_on : by.over was ≡ false) where
+    module _ (start now new : Talk (Reader S) O A) (about : by.about now.by ≡ by.about start.by) (talked : HasTalked by source sink from start now) (still : IsStillReading source sink start.lines now.lines start.output now.output) (goes_on : by.over now.by ≡ false) where
       abbrev Taken : (List ℕ → Type 0) → Type 0
-      Taken puts = TakesReply by source sink now new was last puts
+      Taken puts = TakesReply by source sink now new puts
 
       abbrev Says : List by.said → List ℕ → by.said → Type 0
-      Says = by.says (by.about first)
+      Says = by.says (by.about start.by)
 
       abbrev text : R → List ℕ
-      text = by.text (by.about first)
+      text = by.text (by.about start.by)
 
       abbrev UpTo : (List ℕ → List ℕ → List ℕ → Type 0) → (List R → Type 0) → Type 0
-      UpTo = TalksUpTo (λ stops lines. SaysUpTo source start new Says lines stops) (by.comes from) last
+      UpTo = TalksUpTo (terms_of by from start.by (λ stops lines. SaysUpTo source start.lines new.lines Says lines stops)) new.by
 
       -- a line more is answered
-      pub talked_more : Taken (Grows (sink.content middle) (sink.content after)) → HasTalked by source sink from start new before after first last
+      pub talked_more : Taken (Grows (sink.content now.output) (sink.content new.output)) → HasTalked by source sink from start new
       talked_more taken =
           let more = taken.answers from talked.lines talked.replies talked.comes in
           record {
             lines = talked.lines ++ more.0 ∷ [];
             replies = talked.replies ++ taken.reply ∷ [];
-            said = said_more source Says start now new talked.lines talked.said still.reads more.0 (λ bytes. by.says (by.about was) talked.lines bytes more.0) more.1 (λ bytes is. subst (λ (subject : by.subject). by.says subject talked.lines bytes more.0) about is);
+            said = said_more source Says start.lines now.lines new.lines talked.lines talked.said still.reads more.0 (λ bytes. by.says (by.about now.by) talked.lines bytes more.0) more.1 (λ bytes is. subst (λ (subject : by.subject). by.says subject talked.lines bytes more.0) about is);
             comes = more.2;
-            out = subst (Grows (sink.content before) (sink.content after)) (sym (flat_map-last text talked.replies taken.reply))
-                (Grows-append (sink.content before) (sink.content middle) (sink.content after) (flat_map text talked.replies) (text taken.reply) talked.out
-                (subst (λ (subject : by.subject). Grows (sink.content middle) (sink.content after) (by.text subject taken.reply)) about taken.out));
+            out = subst (Grows (sink.content start.output) (sink.content new.output)) (sym (flat_map-last text talked.replies taken.reply))
+                (Grows-append (sink.content start.output) (sink.content now.output) (sink.content new.output) (flat_map text talked.replies) (text taken.reply) talked.out
+                (subst (λ (subject : by.subject). Grows (sink.content now.output) (sink.content new.output) (by.text subject taken.reply)) about taken.out));
           }
 
       -- a line more is taken, and its reply is cut off
-      talked_cut : Taken (GrowsInPart (sink.content middle) (sink.content after)) → UpTo IsLeftOver (LastCut text sink before after)
+      talked_cut : Taken (GrowsInPart (sink.content now.output) (sink.content new.output)) → UpTo IsLeftOver (LastCut text sink start.output new.output)
       talked_cut taken =
           let more = taken.answers from talked.lines talked.replies talked.comes in
-          let out = subst (λ (subject : by.subject). GrowsInPart (sink.content middle) (sink.content after) (by.text subject taken.reply)) about taken.out in
+          let out = subst (λ (subject : by.subject). GrowsInPart (sink.content now.output) (sink.content new.output) (by.text subject taken.reply)) about taken.out in
           record {
             lines = talked.lines ++ more.0 ∷ [];
             replies = talked.replies ++ taken.reply ∷ [];
-            said = said_enough source Says start new _
-                (said_more source Says start now new talked.lines talked.said still.reads more.0 (λ bytes. by.says (by.about was) talked.lines bytes more.0) more.1 (λ bytes is. subst (λ (subject : by.subject). by.says subject talked.lines bytes more.0) about is));
+            said = said_enough source Says start.lines new.lines _
+                (said_more source Says start.lines now.lines new.lines talked.lines talked.said still.reads more.0 (λ bytes. by.says (by.about now.by) talked.lines bytes more.0) more.1 (λ bytes is. subst (λ (subject : by.subject). by.says subject talked.lines bytes more.0) about is));
             comes = more.2;
             out = (
               talked.replies,
@@ -111,64 +110,63 @@ module _ {A R S O : Type 0} (by : Ghosts A R) (source : SourceGhosts S) (sink : 
               refl,
               out.0,
               out.1,
-              Grows-append (sink.content before) (sink.content middle) (sink.content after) (flat_map text talked.replies) (take out.0 (text taken.reply)) talked.out out.2,
+              Grows-append (sink.content start.output) (sink.content now.output) (sink.content new.output) (flat_map text talked.replies) (take out.0 (text taken.reply)) talked.out out.2,
             );
           }
 
       -- no line more is taken
-      talked_up_to : (stops : List ℕ → List ℕ → List ℕ → Type 0) → SaysUpTo source start new Says talked.lines stops → after ≡ middle → last ≡ was → UpTo stops (AllOut text sink before after)
+      talked_up_to : (stops : List ℕ → List ℕ → List ℕ → Type 0) → SaysUpTo source start.lines new.lines Says talked.lines stops → new.output ≡ now.output → new.by ≡ now.by → UpTo stops (AllOut text sink start.output new.output)
       talked_up_to stops said same stays = record {
         lines = talked.lines;
         replies = talked.replies;
         said = said;
         comes = subst (by.comes from talked.lines talked.replies) (sym stays) talked.comes;
-        out = subst (λ (o : O). Grows (sink.content before) (sink.content o) (flat_map text talked.replies)) (sym same) talked.out;
+        out = subst (λ (o : O). Grows (sink.content start.output) (sink.content o) (flat_map text talked.replies)) (sym same) talked.out;
       }
 
-      held_on : ReadsOn source now new → new.fault ≢ Some line_fault.Read → source.frame new.source ≡ source.frame start.source
-      held_on reads unread = reads.unfailed unread ∙ source_held source sink start now before middle still
+      held_on : ReadsOn source now.lines new.lines → new.lines.fault ≢ Some line_fault.Read → source.frame new.lines.source ≡ source.frame start.lines.source
+      held_on reads unread = reads.unfailed unread ∙ source_held source sink start.lines now.lines start.output now.output still
 
-      still_open : last ≡ was → by.over last ≡ false
+      still_open : new.by ≡ now.by → by.over new.by ≡ false
       still_open stays = ap by.over stays ∙ goes_on
 
       -- reading met a fault, and nothing more is out
-      until : (met : LineFault) → StopsReading source now new met → after ≡ middle → last ≡ was → UpTo (StopsAfterLines met) (AllOut text sink before after)
-      until met stops same stays = talked_up_to (StopsAfterLines met) (said_until source Says start now new talked.lines talked.said still.reads met still.none stops) same stays
+      until : (met : LineFault) → StopsReading source now.lines new.lines met → new.output ≡ now.output → new.by ≡ now.by → UpTo (StopsAfterLines met) (AllOut text sink start.output new.output)
+      until met stops same stays = talked_up_to (StopsAfterLines met) (said_until source Says start.lines now.lines new.lines talked.lines talked.said still.reads met still.none stops) same stays
 
       -- a fault ends it
-      pub talks_fault : (why : TalkFault) → ReadsOn source now new → Exchanges by source sink now new middle after was last (Err why) → TalksByReader by source sink from start new before after first last (Err why)
-      talks_fault talk_fault.Read reads line = ((until line_fault.Read line.0 line.2 line.3, still_open line.3), rw (source_held source sink start now before middle still) at line.1, ap sink.frame line.2 ∙ still.held)
+      pub talks_fault : (why : TalkFault) → ReadsOn source now.lines new.lines → Exchanges by source sink now new (Err why) → TalksByReader by source sink from start new (Err why)
+      talks_fault talk_fault.Read reads line = ((until line_fault.Read line.0 line.2 line.3, still_open line.3), rw (source_held source sink start.lines now.lines start.output now.output still) at line.1, ap sink.frame line.2 ∙ still.held)
       talks_fault talk_fault.TooLong reads line = ((until line_fault.TooLong line.0 line.1 line.2, still_open line.2), held_on reads (λ read. cc (line.0.kept, read)), ap sink.frame line.1 ∙ still.held)
       talks_fault talk_fault.Write reads line = (talked_cut line.0, held_on reads (λ read. cc (line.1, read)), rw still.held at line.2)
 
       -- no line is left
-      pub talks_all : ReadsOn source now new → Exchanges by source sink now new middle after was last (Ok false) → TalksByReader by source sink from start new before after first last (Ok talk_end.Input)
+      pub talks_all : ReadsOn source now.lines new.lines → Exchanges by source sink now new (Ok false) → TalksByReader by source sink from start new (Ok talk_end.Input)
       talks_all reads line = (
-        (talked_up_to IsAllTaken (said_all source Says start now new talked.lines talked.said still.reads line.0) line.2 line.3, still_open line.3),
+        (talked_up_to IsAllTaken (said_all source Says start.lines now.lines new.lines talked.lines talked.said still.reads line.0) line.2 line.3, still_open line.3),
         held_on reads (λ read. cc (line.1, read)),
         ap sink.frame line.2 ∙ still.held,
       )
 
     -- no line is answered any more
-    pub talks_over : (start now : Reader S) (before middle : O) (first was : A) → HasTalked by source sink from start now before middle first was → IsStillReading source sink start now before middle → by.over was ≡ true
-        → TalksByReader by source sink from start now before middle first was (Ok talk_end.Over)
-    talks_over start now before middle first was talked still over = (
+    pub talks_over : (start now : Talk (Reader S) O A) → HasTalked by source sink from start now → IsStillReading source sink start.lines now.lines start.output now.output → by.over now.by ≡ true → TalksByReader by source sink from start now (Ok talk_end.Over)
+    talks_over start now talked still over = (
       (
         record {
           lines = talked.lines;
           replies = talked.replies;
-          said = said_enough source (by.says (by.about first)) start now talked.lines talked.said;
+          said = said_enough source (by.says (by.about start.by)) start.lines now.lines talked.lines talked.said;
           comes = talked.comes;
           out = talked.out;
         },
         over,
       ),
-      source_held source sink start now before middle still,
+      source_held source sink start.lines now.lines start.output now.output still,
       still.held,
     )
 
   -- the fault that ended it is kept
-  pub keeps_fault : (start now new : Reader S) (before middle after : O) (was last : A) → IsStillReading source sink start now before middle → (why : TalkFault) → Exchanges by source sink now new middle after was last (Err why) → KeepsFault start new (Err why)
-  keeps_fault start now new before middle after was last still talk_fault.Read line = (line.0.kept, still.reads.ended line.0.before_end)
-  keeps_fault start now new before middle after was last still talk_fault.TooLong line = (line.0.kept, still.reads.ended line.0.before_end)
-  keeps_fault start now new before middle after was last still talk_fault.Write line = line.1
+  pub keeps_fault : (start now new : Talk (Reader S) O A) → IsStillReading source sink start.lines now.lines start.output now.output → (why : TalkFault) → Exchanges by source sink now new (Err why) → KeepsFault start.lines new.lines (Err why)
+  keeps_fault start now new still talk_fault.Read line = (line.0.kept, still.reads.ended line.0.before_end)
+  keeps_fault start now new still talk_fault.TooLong line = (line.0.kept, still.reads.ended line.0.before_end)
+  keeps_fault start now new still talk_fault.Write line = line.1

@@ -14,6 +14,19 @@ use Rattle.hose_talk.specs.declared.talking.TalkEnd.TheVariants as talk_end
 use Rattle.hose_talk.specs.declared.talking.TalkFault.{TalkFault}
 use Rattle.hose_talk.specs.declared.talking.TalkFault.TheVariants as talk_fault
 
+-- ---- where a talk is
+
+-- where a talk is: what is read, as an input or a reader of its lines, what is written, and what
+-- the answers come from
+pub record Talk (L O A : Type 0) : Type 0 where
+  pub lines : L
+  pub output : O
+  pub by : A
+
+-- what is read, what is written, and what the answers come from, as one
+abbrev pub talk : {L O A : Type 0} → L → O → A → Talk L O A
+talk lines output by = record { lines = lines; output = output; by = by }
+
 -- ---- all lines
 
 -- what a text says, as far as its lines are answered: these lines; the relation says how the text
@@ -27,14 +40,22 @@ abbrev pub TellsOf : {L : Type 0} → (List L → List ℕ → L → Type 0) →
 TellsOf Says old new stops lines = WhereTold old new (λ text left.
     (rest : List ℕ) × SayLines Says text lines rest × stops text rest left)
 
+-- the terms of a talk: what its text tells, what lines and their replies come to, whether no line
+-- is answered any more, and the text of a reply
+pub record Terms (L A R : Type 0) : Type 1 where
+  pub tells : Telling L
+  pub comes : List L → List R → A → Type 0
+  pub over : A → Bool
+  pub text : R → List ℕ
+
 -- Lines were answered, as far as `stops` says, and they and their replies have come to this. `puts`
 -- says how much is out of the replies.
-pub record TalksUpTo {L A R : Type 0} (tells : Telling L) (Comes : List L → List R → A → Type 0)
-    (last : A) (stops : List ℕ → List ℕ → List ℕ → Type 0) (puts : List R → Type 0) : Type 0 where
+pub record TalksUpTo {L A R : Type 0} (terms : Terms L A R) (last : A)
+    (stops : List ℕ → List ℕ → List ℕ → Type 0) (puts : List R → Type 0) : Type 0 where
   pub lines : List L
   pub replies : List R
-  pub said : tells stops lines
-  pub comes : Comes lines replies last
+  pub said : terms.tells stops lines
+  pub comes : terms.comes lines replies last
   pub out : puts replies
 
 module _ {R O : Type 0} (text : R → List ℕ) (sink : SinkGhosts O) (output output' : O) where
@@ -49,23 +70,22 @@ module _ {R O : Type 0} (text : R → List ℕ) (sink : SinkGhosts O) (output ou
       × Grows (sink.content output) (sink.content output')
       (flat_map text whole ++ take count (text last))
 
--- A talk over an input and an output, whose text tells this; lines and their replies come to
--- `Comes`, and where it is `over` no line is answered any more.
-module _ {L A R S O : Type 0} (source : SourceGhosts S) (sink : SinkGhosts O) (tells : Telling L)
-    (Comes : List L → List R → A → Type 0) (over : A → Bool) (text : R → List ℕ) (input input' : S)
-    (output output' : O) (last : A) where
+-- A talk over an input, on these terms.
+module _ {L A R S O : Type 0} (source : SourceGhosts S) (sink : SinkGhosts O)
+    (terms : Terms L A R) (old new : Talk S O A) where
   -- the input did not fail
   abbrev pub ReadingWorked : Type 0
-  ReadingWorked = source.frame input' ≡ source.frame input
+  ReadingWorked = source.frame new.lines ≡ source.frame old.lines
 
   -- the output did not fail
   abbrev pub WritingWorked : Type 0
-  WritingWorked = sink.frame output' ≡ sink.frame output
+  WritingWorked = sink.frame new.output ≡ sink.frame old.output
 
   -- all replies to the lines before this end are out, and another line would be answered or not
   abbrev pub TalksOut : (List ℕ → List ℕ → List ℕ → Type 0) → Bool → Type 0
   TalksOut stops no_more =
-      TalksUpTo tells Comes last stops (AllOut text sink output output') × (over last ≡ no_more)
+      TalksUpTo terms new.by stops (AllOut terms.text sink old.output new.output)
+      × (terms.over new.by ≡ no_more)
 
   -- What a talk comes to: each line has its reply, and no more is to come; or no line is answered
   -- any more; or reading met a fault, or the output failed in a reply.
@@ -73,9 +93,9 @@ module _ {L A R S O : Type 0} (source : SourceGhosts S) (sink : SinkGhosts O) (t
   TalksTo (Ok talk_end.Input) = TalksOut IsAllTaken false × ReadingWorked × WritingWorked
   TalksTo (Ok talk_end.Over) = TalksOut IsLeftOver true × ReadingWorked × WritingWorked
   TalksTo (Err talk_fault.Read) = TalksOut (StopsAfterLines line_fault.Read) false
-      × Rose (source.frame input) (source.frame input') × WritingWorked
+      × Rose (source.frame old.lines) (source.frame new.lines) × WritingWorked
   TalksTo (Err talk_fault.TooLong) = TalksOut (StopsAfterLines line_fault.TooLong) false
       × ReadingWorked × WritingWorked
   TalksTo (Err talk_fault.Write) =
-      TalksUpTo tells Comes last IsLeftOver (LastCut text sink output output')
-      × ReadingWorked × Rose (sink.frame output) (sink.frame output')
+      TalksUpTo terms new.by IsLeftOver (LastCut terms.text sink old.output new.output)
+      × ReadingWorked × Rose (sink.frame old.output) (sink.frame new.output)

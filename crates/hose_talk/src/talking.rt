@@ -3,6 +3,7 @@ ghost use Rattle.std.specs.Prelude.{◌≡◌, ◌↔◌, ◌+◌, ◌<◌, ◌�
 ghost use Rattle.hose_io.specs.Frame.{Stays};
 ghost use Rattle.hose_io.specs.Stream.{Gives};
 ghost use Rattle.hose_words.specs.steps.Reading.{ReadsOn};
+ghost use Rattle.hose_talk.specs.Talk.{talk};
 ghost use Rattle.hose_talk.specs.steps.Talk.{Exchanges, KeepsFault, TalksByInput, TalksByReader};
 
 use crate::Answers;
@@ -63,8 +64,8 @@ pub fn hold_talk<A: Answers, S: Source, O: Sink>(
 ) -> Result<TalkEnd, TalkFault>
     requires { A.fits answers.old }
     ensures talks { (from : A.origin) → A.comes from [] [] answers.old
-        → TalksByInput A.Answers S.Source O.Sink from source.old source.new output.old output.new
-        answers.old answers.new result }
+        → TalksByInput A.Answers S.Source O.Sink from (talk source.old output.old answers.old)
+        (talk source.new output.new answers.new) result }
     ensures takes { (bytes : List ℕ) × Gives (S.content source.old) (S.content source.new) bytes
         × (length bytes ≤ INPUT_LIMIT + 1)
         × ((result ≡ Err TalkFault.TooLong) ↔ (INPUT_LIMIT < length bytes)) }
@@ -90,8 +91,8 @@ pub fn converse<A: Answers, S: Source, O: Sink>(
     requires limit { lines.old.taken ≤ INPUT_LIMIT }
     requires no_fault { lines.old.fault ≡ None }
     ensures talks { (from : A.origin) → A.comes from [] [] answers.old
-        → TalksByReader A.Answers S.Source O.Sink from lines.old lines.new output.old output.new
-        answers.old answers.new result }
+        → TalksByReader A.Answers S.Source O.Sink from (talk lines.old output.old answers.old)
+        (talk lines.new output.new answers.new) result }
     ensures fault { KeepsFault lines.old lines.new result }
     ensures about { A.about answers.new ≡ A.about answers.old }
     ensures fits { A.fits answers.new }
@@ -117,8 +118,8 @@ fn exchange<A: Answers, S: Source, O: Sink>(
     requires fits { A.fits answers.old }
     requires goes_on { A.over answers.old ≡ false }
     requires no_fault { lines.old.fault ≡ None }
-    ensures exchanges { Exchanges A.Answers S.Source O.Sink lines.old lines.new
-        output.old output.new answers.old answers.new result }
+    ensures exchanges { Exchanges A.Answers S.Source O.Sink
+        (talk lines.old output.old answers.old) (talk lines.new output.new answers.new) result }
     ensures about { A.about answers.new ≡ A.about answers.old }
     ensures fits { A.fits answers.new }
     ensures too_long { (result ≡ Err TalkFault.TooLong) ↔ (INPUT_LIMIT < lines.new.taken) }

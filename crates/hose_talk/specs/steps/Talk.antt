@@ -14,66 +14,85 @@ use Rattle.hose_talk.specs.declared.answers.Answers.{Ghosts}
 use Rattle.hose_talk.specs.declared.talking.TalkEnd.{TalkEnd}
 use Rattle.hose_talk.specs.declared.talking.TalkFault.{TalkFault}
 use Rattle.hose_talk.specs.declared.talking.TalkFault.TheVariants as talk_fault
-use Rattle.hose_talk.specs.Talk.{AllOut, TalksTo, TellsOf}
+use Rattle.hose_talk.specs.Talk.{AllOut, Talk, talk, TalksTo, Telling, TellsOf, Terms}
+
+-- ---- where a talk is
+
+-- a talk over the source of its reader
+abbrev pub over_source : {S O A : Type 0} → Talk (Reader S) O A → Talk S O A
+over_source held = talk held.lines.source held.output held.by
 
 -- ---- a line
 
-module _ {A R S O : Type 0} (by : Ghosts A R) (source : SourceGhosts S) (sink : SinkGhosts O) where
+module _ {A R S O : Type 0} (by : Ghosts A R) (source : SourceGhosts S) (sink : SinkGhosts O)
+    (old new : Talk (Reader S) O A) where
   -- The first line that was to come was taken and answered: whatever the lines before it had come
   -- to comes on by it. `puts` says how much is out of the text of its reply.
-  pub record TakesReply (old new : Reader S) (now last : A) (puts : List ℕ → Type 0) : Type 0 where
+  pub record TakesReply (puts : List ℕ → Type 0) : Type 0 where
     pub reply : R
     pub answers : (from : by.origin) (lines : List by.said) (replies : List R)
-        → by.comes from lines replies now → (said : by.said)
-        × TakesLine source old new (λ bytes. by.says (by.about now) lines bytes said)
-        × by.comes from (lines ++ said ∷ []) (replies ++ reply ∷ []) last
-    pub out : puts (by.text (by.about now) reply)
-    pub progress : length new.pending + old.taken < length old.pending + new.taken
+        → by.comes from lines replies old.by → (said : by.said)
+        × TakesLine source old.lines new.lines
+        (λ bytes. by.says (by.about old.by) lines bytes said)
+        × by.comes from (lines ++ said ∷ []) (replies ++ reply ∷ []) new.by
+    pub out : puts (by.text (by.about old.by) reply)
+    pub progress : length new.lines.pending + old.lines.taken
+        < length old.lines.pending + new.lines.taken
 
   -- What the next line comes to: it has its reply; or there is none; or reading met a fault, and
   -- nothing is out; or the output failed in the reply.
-  abbrev pub Exchanges : Reader S → Reader S → O → O → A → A → Result Bool TalkFault → Type 0
-  Exchanges old new output output' now last (Ok true) =
-      TakesReply old new now last (Grows (sink.content output) (sink.content output'))
-      × (new.fault ≡ None) × (sink.frame output' ≡ sink.frame output)
-  Exchanges old new output output' now last (Ok false) =
-      IsOver source old new × (new.fault ≡ None) × (output' ≡ output) × (last ≡ now)
-  Exchanges old new output output' now last (Err talk_fault.Read) =
-      StopsReading source old new line_fault.Read
-      × Rose (source.frame old.source) (source.frame new.source) × (output' ≡ output)
-      × (last ≡ now)
-  Exchanges old new output output' now last (Err talk_fault.TooLong) =
-      StopsReading source old new line_fault.TooLong × (output' ≡ output) × (last ≡ now)
-  Exchanges old new output output' now last (Err talk_fault.Write) =
-      TakesReply old new now last (GrowsInPart (sink.content output) (sink.content output'))
-      × (new.fault ≡ None) × Rose (sink.frame output) (sink.frame output')
+  abbrev pub Exchanges : Result Bool TalkFault → Type 0
+  Exchanges (Ok true) = TakesReply (Grows (sink.content old.output) (sink.content new.output))
+      × (new.lines.fault ≡ None) × (sink.frame new.output ≡ sink.frame old.output)
+  Exchanges (Ok false) = IsOver source old.lines new.lines × (new.lines.fault ≡ None)
+      × (new.output ≡ old.output) × (new.by ≡ old.by)
+  Exchanges (Err talk_fault.Read) = StopsReading source old.lines new.lines line_fault.Read
+      × Rose (source.frame old.lines.source) (source.frame new.lines.source)
+      × (new.output ≡ old.output) × (new.by ≡ old.by)
+  Exchanges (Err talk_fault.TooLong) = StopsReading source old.lines new.lines line_fault.TooLong
+      × (new.output ≡ old.output) × (new.by ≡ old.by)
+  Exchanges (Err talk_fault.Write) =
+      TakesReply (GrowsInPart (sink.content old.output) (sink.content new.output))
+      × (new.lines.fault ≡ None) × Rose (sink.frame old.output) (sink.frame new.output)
 
 -- ---- all lines
+
+-- the terms of who answers, from an origin on, as it was at first, where a text tells this
+abbrev pub terms_of : {A R : Type 0} (by : Ghosts A R) → by.origin → A → Telling by.said
+    → Terms by.said A R
+terms_of by from first tells = record {
+  tells = tells;
+  comes = by.comes from;
+  over = by.over;
+  text = by.text (by.about first);
+}
 
 module _ {A R S O : Type 0} (by : Ghosts A R) (source : SourceGhosts S) (sink : SinkGhosts O)
     (from : by.origin) where
   -- Lines that were to come were answered, and the replies are out.
-  pub record HasTalked (start now : Reader S) (output output' : O) (first last : A) : Type 0 where
+  pub record HasTalked (old new : Talk (Reader S) O A) : Type 0 where
     pub lines : List by.said
     pub replies : List R
-    pub said : WhereTold (source.content start.source) (source.content now.source)
-        (λ was left. SayLines (by.says (by.about first)) (start.pending ++ was) lines
-        (now.pending ++ left))
-    pub comes : by.comes from lines replies last
-    pub out : AllOut (by.text (by.about first)) sink output output' replies
+    pub said : WhereTold (source.content old.lines.source) (source.content new.lines.source)
+        (λ was left. SayLines (by.says (by.about old.by)) (old.lines.pending ++ was) lines
+        (new.lines.pending ++ left))
+    pub comes : by.comes from lines replies new.by
+    pub out : AllOut (by.text (by.about old.by)) sink old.output new.output replies
 
   -- what a talk comes to, from its origin on, over the lines that a reader is to give
-  abbrev pub TalksByReader : Reader S → Reader S → O → O → A → A → Result TalkEnd TalkFault
+  abbrev pub TalksByReader : Talk (Reader S) O A → Talk (Reader S) O A → Result TalkEnd TalkFault
       → Type 0
-  TalksByReader start now output output' first last = TalksTo source sink
-      (λ stops lines. SaysUpTo source start now (by.says (by.about first)) lines stops)
-      (by.comes from) by.over (by.text (by.about first)) start.source now.source output output' last
+  TalksByReader old new = TalksTo source sink
+      (terms_of by from old.by
+      (λ stops lines. SaysUpTo source old.lines new.lines (by.says (by.about old.by)) lines stops))
+      (over_source old) (over_source new)
 
   -- what a talk comes to, from its origin on, over all that an input is to give
-  abbrev pub TalksByInput : S → S → O → O → A → A → Result TalkEnd TalkFault → Type 0
-  TalksByInput input input' output output' first last = TalksTo source sink
-      (TellsOf (by.says (by.about first)) (source.content input) (source.content input'))
-      (by.comes from) by.over (by.text (by.about first)) input input' output output' last
+  abbrev pub TalksByInput : Talk S O A → Talk S O A → Result TalkEnd TalkFault → Type 0
+  TalksByInput old new = TalksTo source sink
+      (terms_of by from old.by
+      (TellsOf (by.says (by.about old.by)) (source.content old.lines) (source.content new.lines)))
+      old new
 
 -- A reader has kept the fault of reading that ended a talk, if one did, and met it before the end
 -- of its source.

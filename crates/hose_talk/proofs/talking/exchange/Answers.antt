@@ -3,6 +3,7 @@ use Rattle.std.proofs.lemmas.Result.{err_from_is_err_and}
 use Rattle.hose_io.specs.Stream.{Grows}
 use Rattle.hose_io.specs.Writing.{GrowsInPart}
 use Rattle.hose_words.specs.steps.Lines.{IsNext}
+use Rattle.hose_talk.specs.Talk.{talk}
 use Rattle.hose_talk.specs.steps.TalkFaults.{of_line}
 use Rattle.hose_talk.specs.declared.talking.TalkFault.TheVariants.{Write}
 use Rattle.hose_talk.proofs.Talks.{answered_line, exchanges_read}
@@ -15,7 +16,7 @@ returns-in_err-line-clause-exchanges g c =
     let next = subst (IsNext g.S.Source c.args.lines.now new) c.in_err-line.was c.next.follows.holds-at-none in
     let told = err_from_is_err_and c.from_residual.result c.from_residual.ensures.1 in
     let is : c.from_residual.result ≡ Err (of_line met) = told.1 ∙ ap Err told.2 in
-    rw is (exchanges_read g.A.Answers g.S.Source g.O.Sink c.args.lines.now new c.args.output.now c.args.answers.now met c.requires.no_fault next)
+    rw is (exchanges_read g.A.Answers g.S.Source g.O.Sink (talk c.args.lines.now c.args.output.now c.args.answers.now) new met c.requires.no_fault next)
 
 pub returns-in_err-put-clause-exchanges : goal.returns-in_err-put-clause-exchanges
 returns-in_err-put-clause-exchanges g c =
@@ -25,7 +26,7 @@ returns-in_err-put-clause-exchanges g c =
     let told = err_from_is_err_and c.from_residual-in_err-put.result c.from_residual-in_err-put.ensures.1 in
     let is : c.from_residual-in_err-put.result ≡ Err Write = told.1 ∙ ap Err told.2 in
     rw is (
-      answered_line g.A.Answers g.S.Source g.O.Sink c.args.lines.now new c.args.answers.now c.answer-reply.new.self c.in-Some.line c.answer-reply.result (GrowsInPart (g.O.Sink.content c.args.output.now) (g.O.Sink.content c.put.new.output)) next
+      answered_line g.A.Answers g.S.Source g.O.Sink (talk c.args.lines.now c.args.output.now c.args.answers.now) (talk new c.put.new.output c.answer-reply.new.self) c.in-Some.line c.answer-reply.result (GrowsInPart (g.O.Sink.content c.args.output.now) (g.O.Sink.content c.put.new.output)) next
           c.answer-reply.ensures.answers c.answer-reply.ensures.about put.err,
       next.fault.1,
       put.met.failed (refl {a = true}),
@@ -36,7 +37,7 @@ returns-clause-exchanges g c =
     let new = c.next.follows.lender-at-none in
     let next = subst (IsNext g.S.Source c.args.lines.now new) (c.in_ok-line.was ∙ ap Ok c.in-Some.is) c.next.follows.holds-at-none in
     let put = c.in_ok-put.ensures in (
-      answered_line g.A.Answers g.S.Source g.O.Sink c.args.lines.now new c.args.answers.now c.answer-reply.new.self c.in-Some.line c.answer-reply.result (Grows (g.O.Sink.content c.args.output.now) (g.O.Sink.content c.put.new.output)) next
+      answered_line g.A.Answers g.S.Source g.O.Sink (talk c.args.lines.now c.args.output.now c.args.answers.now) (talk new c.put.new.output c.answer-reply.new.self) c.in-Some.line c.answer-reply.result (Grows (g.O.Sink.content c.args.output.now) (g.O.Sink.content c.put.new.output)) next
           c.answer-reply.ensures.answers c.answer-reply.ensures.about put.ok,
       next.fault.1,
       put.met.ok,
