@@ -33,8 +33,6 @@ first_more network links rows new first more is = record {
 }
 
 -- as many rows as nodes are all rows
-pub all_rows : (network other : Network) (links set : List Bool) (rows : List Distances) → AreFirstRows network links rows → length rows ≡ length network.nodes
-    → network ≡ other → links ≡ set → AreRows other set rows
-all_rows network other links set rows first all same equal =
-    subst (λ (n : Network). AreRows n set rows) same
-    (subst (λ (s : List Bool). AreRows network s rows) equal (record { places = all; each = first.each }))
+pub all_rows : (network : Network) (links : List Bool) (rows : List Distances) → AreFirstRows network links rows → length rows ≡ length network.nodes
+    → AreRows network links rows
+all_rows network links rows first all = record { places = all; each = first.each }

@@ -1,8 +1,10 @@
 // Rows that are made one after another, ahead of being asked for.
 ghost use Rattle.std.specs.Prelude.{◌≡◌, ◌↔◌, ◌≤◌, [], IfOk, IfSome, IsTrue, length};
+ghost use Rattle.hose_paths.specs.steps.Alike.{AreCostAlike};
 ghost use Rattle.hose_paths.specs.steps.Rows.{AreRows};
 
 use crate::RowMaker;
+use crate::alike::are_cost_alike;
 use crate::heap::HeapRows;
 use hose_graph::{Row, Topology};
 use hose_links::LinkSet;
@@ -92,12 +94,13 @@ impl RowsAhead {
         self.rows.len() == self.top.nodes() as usize
     }
 
-    // Whether they are over this set of this network's links.
+    // Whether they are over this set of the links of this network, or of one that has the same
+    // rows.
     fn is_over(&self, top: &Topology, links: &LinkSet) -> bool
         ensures { IsTrue result
-            ↔ ((self.now.network ≡ top.now) × (self.now.links ≡ links.now)) }
+            ↔ (AreCostAlike self.now.network top.now × (self.now.links ≡ links.now)) }
     {
         // The sets are the shorter ones to compare.
-        self.links.same(links) && self.top.same(top)
+        self.links.same(links) && are_cost_alike(&self.top, top)
     }
 }

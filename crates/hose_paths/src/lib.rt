@@ -24,6 +24,7 @@ ghost use Rattle.hose_law.specs.Row.{IsRow};
 ghost use Rattle.hose_paths.specs.steps.Rows.{AreRows};
 
 mod ahead;
+mod alike;
 mod chains;
 mod entries;
 mod heap;

@@ -2,9 +2,11 @@
 ghost use Rattle.std.specs.Prelude.{◌≡◌, ◌<◌, ◌↔◌, IfOk, IfSome, IsTrue, length};
 ghost use Rattle.hose_graph.specs.steps.Row.{HasBoundedDistances};
 ghost use Rattle.hose_law.specs.Row.{IsRow};
+ghost use Rattle.hose_paths.specs.steps.Alike.{AreCostAlike};
 ghost use Rattle.hose_paths.specs.steps.Rows.{AreRows, IsRowOf};
 
 use crate::ahead::RowsAhead;
+use crate::alike::are_cost_alike;
 use crate::heap::HeapRows;
 use crate::{MadeRow, RowMaker};
 use hose_graph::{Row, Topology};
@@ -54,13 +56,14 @@ impl RowTable {
         })
     }
 
-    /// Whether its rows are over this set of this network's links.
+    /// Whether its rows are over this set of the links of this network, or of one that has the same
+    /// rows: as many nodes, and links that join the same nodes at the same costs.
     pub fn is_over(&self, top: &Topology, links: &LinkSet) -> bool
         ensures { IsTrue result
-            ↔ ((self.now.network ≡ top.now) × (self.now.links ≡ links.now)) }
+            ↔ (AreCostAlike self.now.network top.now × (self.now.links ≡ links.now)) }
     {
         // The sets are the shorter ones to compare.
-        self.links.same(links) && self.top.same(top)
+        self.links.same(links) && are_cost_alike(&self.top, top)
     }
 
     /// Whether its rows are over this set of its network's links.

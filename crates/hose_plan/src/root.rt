@@ -1,8 +1,8 @@
 // The root of a hose: the node from which it costs least.
-ghost use Rattle.std.specs.Prelude.{◌≡◌, ℕ, ◌+◌, ◌-◌, ◌*◌, ◌<◌, ◌≤◌, ◌^◌, ◌↔◌, length, All, IfOk, IfSome, IsTrue, OnOk};
+ghost use Rattle.std.specs.Prelude.{◌≡◌, ◌≢◌, ℕ, ◌+◌, ◌-◌, ◌*◌, ◌<◌, ◌≤◌, ◌^◌, ◌↔◌, length, All, IfNone, IfOk, IfSome, IsTrue, OnOk};
 ghost use Rattle.hose_graph.specs.Hose.{IsHose};
 ghost use Rattle.hose_graph.specs.Network.{IsNetwork};
-ghost use Rattle.hose_graph.specs.Row.{distance_of};
+ghost use Rattle.hose_graph.specs.Row.{Distances, distance_of};
 ghost use Rattle.hose_graph.specs.steps.Row.{HasBoundedDistances, IsWithinReach};
 ghost use Rattle.hose_law.specs.steps.Plan.{AreNodes};
 ghost use Rattle.hose_law.specs.Row.{IsRow};
@@ -101,9 +101,12 @@ pub fn root_row(
 // The distances from a root among some, where they are there.
 fn row_among<'m>(top: &Topology, links: &LinkSet, made: &'m [Row], root: u32) -> Option<&'m Row>
     requires made { AreDistancesOver top.now links.now made.now }
-    ensures { IfSome result (λ row. HasDistances top.now links.now root row.now) }
+    ensures found { IfSome result (λ row. HasDistances top.now links.now root row.now) }
+    ensures none { IfNone result (All (λ (row : Distances). row.root ≢ root) made.now) }
 {
-    let place = made.iter().position(|row| row.root == root)?;
+    let Some(place) = made.iter().position(|row| row.root == root) else {
+        return None;
+    };
     Some(&made[place])
 }
 

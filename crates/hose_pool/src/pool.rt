@@ -1,5 +1,6 @@
 // A maker of rows that asks several workers at once.
 ghost use Rattle.std.specs.Prelude.{◌≡◌, ◌≤◌, IfOk, length};
+ghost use Rattle.hose_paths.specs.steps.Alike.{AreCostAlike};
 ghost use Rattle.hose_pool.specs.steps.Shareable.{IsShared};
 ghost use Rattle.hose_pool.specs.declared.rows.TheConstants.{MOST_WORKERS};
 
@@ -24,7 +25,7 @@ impl<T: Sync> Shareable for T {
 /// A maker of rows for embeddings and tests alone, as the program makes its table at its start. It
 /// has several workers at once make the rows of all nodes over all links of a network, the first
 /// time that it is asked for one. It keeps them, and gives copies of them until it is asked over
-/// another network. Over fewer links it makes each row when it is asked.
+/// a network that has others. Over fewer links it makes each row when it is asked.
 ///
 /// A contract sees it as the number of its workers.
 #[derive(Drop)]
@@ -95,7 +96,7 @@ fn take_or_make<T: Threads + Sync>(
 ) -> Result<RowTable, AllocError>
     requires workers { (1 ≤ workers) × (workers ≤ MOST_WORKERS) }
     requires places { length links.now ≡ length top.now.links }
-    ensures network { IfOk result (λ kept. kept.network ≡ top.now) }
+    ensures network { IfOk result (λ kept. AreCostAlike kept.network top.now) }
     ensures links { IfOk result (λ kept. kept.links ≡ links.now) }
 {
     // What is kept of others goes before new rows take memory.
