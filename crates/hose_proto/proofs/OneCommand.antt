@@ -1,92 +1,82 @@
 -- Words ask for one command at most, and then none of them is wrong.
-use Rattle.std.proofs.Common.{◌≡◌, ◌⊎◌, ◌∙◌, ℕ, List, [], decimal, get_or, map, drop, refl, sym, ap, subst, inl, inr, arith, Result, Ok, Err, IfOk}
+use Rattle.std.proofs.Common.{◌≡◌, ◌⊎◌, ◌∙◌, ℕ, List, [], ◌∷◌, decimal, map, drop, refl, sym, ap, subst, inl, inr, arith, Result, Ok, Err, IfOk}
 use Rattle.std.specs.List.Sorted.{IsPermutation}
-use Rattle.hose_words.specs.Form.{grammar_of}
+use Rattle.std.proofs.lemmas.Fmt.{decimal_injective}
+use Rattle.std.proofs.lemmas.List.Sorted.{length_permutation}
+use Rattle.hose_words.specs.steps.Cursor.{Position, Took}
+use Rattle.hose_words.specs.Form.{finish, grammar_of}
 use Rattle.hose_words.specs.Grammar.{IsFirstNotAllowed}
 use Rattle.hose_words.proofs.Passing.{Passes, pass_branch, pass_finish, pass_list, pass_place}
-use Rattle.hose_graph.specs.Hose.{IsHose}
-use Rattle.hose_graph.specs.Network.{Network, IsNetwork}
-use Rattle.hose_graph.specs.declared.command.Command.{Command}
-use Rattle.hose_graph.specs.declared.command.Command.TheVariants.{Admit, AdmitAfter, Quote, Take, Release, Show, Vpns, Link, Down, Up}
-use Rattle.std.proofs.lemmas.List.Sorted.{length_permutation}
-use Rattle.hose_proto.specs.Command.{AreEndsOf, IsCommand, command_form, command_grammar, ends_form}
 use Rattle.hose_graph.specs.steps.Naming.{AsksOf}
+use Rattle.hose_graph.specs.Network.{Network, IsNetwork, IsLinkOf}
+use Rattle.hose_graph.specs.declared.command.Command.{Command}
+use Rattle.hose_proto.specs.Command.{AreEndsOf, Asked, AskedValues, Asks, IsCommand, IsId, an_id, asked_form, command_form, command_grammar, command_told, ends_form, nothing, one_link, the_hose, verb_asked, verb_word}
 use Rattle.hose_proto.specs.declared.fault.ReadFault.{ReadFault}
 use Rattle.hose_proto.specs.declared.fault.ReadFault.TheVariants as fault
 use Rattle.hose_proto.specs.declared.verb.Verb.{Verb}
 use Rattle.hose_proto.specs.declared.verb.Verb.TheVariants as verb
-use Rattle.hose_proto.proofs.Back.{end_spelled, ends_back, number_back, number_spelled, told}
+use Rattle.hose_proto.proofs.Back.{end_spelled, ends_back}
 use Rattle.hose_proto.proofs.Hoses.{ends_of_hose, one_hose}
 use Rattle.hose_proto.proofs.Items.{new_ends_closed}
-use Rattle.hose_proto.proofs.Words.{links_apart, verb_of, verbs_apart}
+use Rattle.hose_proto.proofs.Words.{links_apart, verbs_apart}
 
--- ---- the command of words
+-- ---- what is read of words
 
--- the command by its first word, with its endpoints in the order of the words
-abbrev command_by : Network → Verb → List (List ℕ) → Command
-command_by network verb.Admit words = Admit (map (end_spelled network) (drop 1 words))
-command_by network verb.AdmitAfter words = AdmitAfter (told words 1) (map (end_spelled network) (drop 2 words))
-command_by network verb.Quote words = Quote (map (end_spelled network) (drop 1 words))
-command_by network verb.Take words = Take (told words 1)
-command_by network verb.Release words = Release (told words 1)
-command_by network verb.Show words = Show (told words 1)
-command_by network verb.Vpns words = Vpns
-command_by network verb.Link words = Link (told words 1)
-command_by network verb.Down words = Down (told words 1)
-command_by network verb.Up words = Up (told words 1)
+-- a number came, and the fields after it
+pub asks_id : (network : Network) (asked : Asked) (values : AskedValues asked) {old new : Position} {id : ℕ} → Took old new (decimal id) → IsId id → Asks network asked values new.left → Asks network (an_id asked) (id, values) old.left
+asks_id network asked values {old} {new} {id} took is asks = subst (Asks network (an_id asked) (id, values)) (sym took.cut) (refl, is, asks)
 
-abbrev command_of : Network → List (List ℕ) → Command
-command_of network words = command_by network (verb_of (get_or words 0 [])) words
+-- a link came, and the fields after it
+pub asks_link : (network : Network) (asked : Asked) (values : AskedValues asked) {old new : Position} {link : ℕ} → Took old new (decimal link) → IsLinkOf network link → Asks network asked values new.left
+    → Asks network (one_link asked) (link, values) old.left
+asks_link network asked values {old} {new} {link} took is asks = subst (Asks network (one_link asked) (link, values)) (sym took.cut) (refl, is, asks)
 
--- the one command is the other but for the order of endpoints
-abbrev IsOrdered : Command → Command → Type 0
-IsOrdered (Admit ends) command = (hose : List (ℕ × ℕ)) × (command ≡ Admit hose) × IsPermutation ends hose × IsHose hose
-IsOrdered (AdmitAfter known ends) command = (hose : List (ℕ × ℕ)) × (command ≡ AdmitAfter known hose) × IsPermutation ends hose × IsHose hose
-IsOrdered (Quote ends) command = (hose : List (ℕ × ℕ)) × (command ≡ Quote hose) × IsPermutation ends hose × IsHose hose
-IsOrdered other command = command ≡ other
-
--- so it is one command at most
-ordered_unique : (command one other : Command) → IsOrdered command one → IsOrdered command other → one ≡ other
-ordered_unique (Admit ends) one other (hose, is, moved, sound) (hose', is', moved', sound') =
-    is ∙ ap Admit (one_hose ends hose hose' moved moved' sound sound') ∙ sym is'
-ordered_unique (AdmitAfter known ends) one other (hose, is, moved, sound) (hose', is', moved', sound') =
-    is ∙ ap (AdmitAfter known) (one_hose ends hose hose' moved moved' sound sound') ∙ sym is'
-ordered_unique (Quote ends) one other (hose, is, moved, sound) (hose', is', moved', sound') =
-    is ∙ ap Quote (one_hose ends hose hose' moved moved' sound sound') ∙ sym is'
-ordered_unique command one other is is' = is ∙ sym is'
+-- the first word of a command came, and its fields after it
+pub command_of : {network : Network} {words : List (List ℕ)} {came : Verb} (verb : Verb) (values : AskedValues (verb_asked verb)) → came ≡ verb → Asks network (verb_asked verb) values words
+    → IsCommand network (verb_word came ∷ words) (command_told verb values)
+command_of {network} {words} {came} verb values same asks = record { verb = verb; values = values; first = ap verb_word same; asks = asks; is = refl }
 
 module _ (network : Network) (is : IsNetwork network) where
+  -- ---- words ask for one thing
+
   -- endpoints are found again from their words
   ends_found : (words : List (List ℕ)) (hose : List (ℕ × ℕ)) (are : AreEndsOf network words hose) → map (end_spelled network) words ≡ are.ends
   ends_found words hose are =
       let new = ends_of_hose network are.ends hose are.same_ends are.is_hose in
       ap (map (end_spelled network)) are.spelled ∙ ends_back network is are.ends (λ k d below. record { is_end = new.within k d below; is_node = new.nodes k d below })
 
-  -- words that ask for a command lead back to it
-  command_back : (words : List (List ℕ)) (command : Command) → IsCommand network words command → IsOrdered (command_of network words) command
-  command_back words (Admit hose) (ends, cut, are) =
-      subst (λ w. IsOrdered (command_of network w) (Admit hose)) (sym cut)
-      (subst (λ (e : List (ℕ × ℕ)). IsOrdered (Admit e) (Admit hose)) (sym (ends_found ends hose are)) (hose, refl, are.same_ends, are.is_hose.is_hose))
-  command_back words (AdmitAfter known hose) (ends, cut, within, are) =
-      subst (λ w. IsOrdered (command_of network w) (AdmitAfter known hose)) (sym cut)
-      (subst (λ (e : List (ℕ × ℕ)). IsOrdered (AdmitAfter (number_spelled (decimal known)) e) (AdmitAfter known hose)) (sym (ends_found ends hose are))
-      (hose, ap (λ n. AdmitAfter n hose) (sym (number_back known (omega (arith, within)))), are.same_ends, are.is_hose.is_hose))
-  command_back words (Quote hose) (ends, cut, are) =
-      subst (λ w. IsOrdered (command_of network w) (Quote hose)) (sym cut)
-      (subst (λ (e : List (ℕ × ℕ)). IsOrdered (Quote e) (Quote hose)) (sym (ends_found ends hose are)) (hose, refl, are.same_ends, are.is_hose.is_hose))
-  command_back words (Take quote) (cut, within) =
-      subst (λ w. IsOrdered (command_of network w) (Take quote)) (sym cut) (ap Take (sym (number_back quote (omega (arith, within)))))
-  command_back words (Release id) (cut, within) =
-      subst (λ w. IsOrdered (command_of network w) (Release id)) (sym cut) (ap Release (sym (number_back id (omega (arith, within)))))
-  command_back words (Show id) (cut, within) =
-      subst (λ w. IsOrdered (command_of network w) (Show id)) (sym cut) (ap Show (sym (number_back id (omega (arith, within)))))
-  command_back words Vpns cut = subst (λ w. IsOrdered (command_of network w) Vpns) (sym cut) refl
-  command_back words (Link link) (cut, within) =
-      subst (λ w. IsOrdered (command_of network w) (Link link)) (sym cut) (ap Link (sym (number_back link (omega (arith, within, is.few_links)))))
-  command_back words (Down link) (cut, within) =
-      subst (λ w. IsOrdered (command_of network w) (Down link)) (sym cut) (ap Down (sym (number_back link (omega (arith, within, is.few_links)))))
-  command_back words (Up link) (cut, within) =
-      subst (λ w. IsOrdered (command_of network w) (Up link)) (sym cut) (ap Up (sym (number_back link (omega (arith, within, is.few_links)))))
+  one_of_ends : (words : List (List ℕ)) (hose other : List (ℕ × ℕ)) → AreEndsOf network words hose → AreEndsOf network words other → hose ≡ other
+  one_of_ends words hose other are are' =
+      let same : are.ends ≡ are'.ends = sym (ends_found words hose are) ∙ ends_found words other are' in
+      one_hose are.ends hose other are.same_ends (subst (λ (ends : List (ℕ × ℕ)). IsPermutation ends other) (sym same) are'.same_ends) are.is_hose.is_hose are'.is_hose.is_hose
+
+  -- the words of fields tell one thing
+  asks_once : (asked : Asked) (words : List (List ℕ)) (one other : AskedValues asked) → Asks network asked one words → Asks network asked other words → one ≡ other
+  asks_once nothing words one other asks asks' = refl
+  asks_once (an_id asked) [] (id, one) (id', other) (none, _, _) asks' = absurd none
+  asks_once (an_id asked) (word ∷ words) (id, one) (id', other) (told, within, asks) (told', within', asks') =
+      let same = decimal_injective id id' (omega (arith, within)) (omega (arith, within')) (sym told ∙ told') in
+      let more = asks_once asked words one other asks asks' in
+      λ i. (same i, more i)
+  asks_once (one_link asked) [] (link, one) (link', other) (none, _, _) asks' = absurd none
+  asks_once (one_link asked) (word ∷ words) (link, one) (link', other) (told, there, asks) (told', there', asks') =
+      let same = (links_apart network is).apart link link' there there' (sym told ∙ told') in
+      let more = asks_once asked words one other asks asks' in
+      λ i. (same i, more i)
+  asks_once the_hose words one other asks asks' = one_of_ends words one other asks asks'
+
+  -- so does a command's first word with them
+  same_command : (one other : Verb) (words : List (List ℕ)) (values : AskedValues (verb_asked one)) → one ≡ other → Asks network (verb_asked one) values words
+      → (others : AskedValues (verb_asked other)) → Asks network (verb_asked other) others words → command_told one values ≡ command_told other others
+  same_command one other words values same asks =
+      subst (λ verb. (others : AskedValues (verb_asked verb)) → Asks network (verb_asked verb) others words → command_told one values ≡ command_told verb others) same
+      (λ others asks'. ap (command_told one) (asks_once (verb_asked one) words values others asks asks'))
+
+  one_command : (words : List (List ℕ)) (one other : Command) → IsCommand network words one → IsCommand network words other → one ≡ other
+  one_command [] one other asks asks' = absurd asks.first
+  one_command (word ∷ words) one other asks asks' =
+      let same = verbs_apart.apart asks.verb asks'.verb tt tt (sym asks.first ∙ asks'.first) in
+      asks.is ∙ same_command asks.verb asks'.verb words asks.values same asks.asks asks'.values asks'.asks ∙ sym asks'.is
 
   -- ---- a command is not wrong
 
@@ -95,32 +85,23 @@ module _ (network : Network) (is : IsNetwork network) where
       subst (Passes (ends_form network)) (sym are.spelled)
       (pass_list (new_ends_closed network) (omega (arith, are.is_hose.is_hose.counted.enough, length_permutation are.ends hose are.same_ends)) (ends_of_hose network are.ends hose are.same_ends are.is_hose))
 
+  pass_asked : (asked : Asked) (words : List (List ℕ)) (values : AskedValues asked) → Asks network asked values words → Passes (asked_form network asked) words
+  pass_asked nothing words values none = subst (Passes finish) (sym none) pass_finish
+  pass_asked (an_id asked) [] (id, values) (none, _, _) = absurd none
+  pass_asked (an_id asked) (word ∷ words) (id, values) (told, within, asks) = pass_place (id, told, within) (pass_asked asked words values asks)
+  pass_asked (one_link asked) [] (link, values) (none, _, _) = absurd none
+  pass_asked (one_link asked) (word ∷ words) (link, values) (told, there, asks) =
+      subst (λ w. Passes (asked_form network (one_link asked)) (w ∷ words)) (sym told) (pass_branch link there (links_apart network is) (pass_asked asked words values asks))
+  pass_asked the_hose words hose are = pass_ends words hose are
+
   pass_command : (words : List (List ℕ)) (command : Command) → IsCommand network words command → Passes (command_form network) words
-  pass_command words (Admit hose) (ends, cut, are) =
-      subst (Passes (command_form network)) (sym cut) (pass_branch verb.Admit tt verbs_apart (pass_ends ends hose are))
-  pass_command words (AdmitAfter known hose) (ends, cut, within, are) =
-      subst (Passes (command_form network)) (sym cut) (pass_branch verb.AdmitAfter tt verbs_apart (pass_place (known, refl, within) (pass_ends ends hose are)))
-  pass_command words (Quote hose) (ends, cut, are) =
-      subst (Passes (command_form network)) (sym cut) (pass_branch verb.Quote tt verbs_apart (pass_ends ends hose are))
-  pass_command words (Take quote) (cut, within) =
-      subst (Passes (command_form network)) (sym cut) (pass_branch verb.Take tt verbs_apart (pass_place (quote, refl, within) pass_finish))
-  pass_command words (Release id) (cut, within) =
-      subst (Passes (command_form network)) (sym cut) (pass_branch verb.Release tt verbs_apart (pass_place (id, refl, within) pass_finish))
-  pass_command words (Show id) (cut, within) =
-      subst (Passes (command_form network)) (sym cut) (pass_branch verb.Show tt verbs_apart (pass_place (id, refl, within) pass_finish))
-  pass_command words Vpns cut = subst (Passes (command_form network)) (sym cut) (pass_branch verb.Vpns tt verbs_apart pass_finish)
-  pass_command words (Link link) (cut, within) =
-      subst (Passes (command_form network)) (sym cut) (pass_branch verb.Link tt verbs_apart (pass_branch link within (links_apart network is) pass_finish))
-  pass_command words (Down link) (cut, within) =
-      subst (Passes (command_form network)) (sym cut) (pass_branch verb.Down tt verbs_apart (pass_branch link within (links_apart network is) pass_finish))
-  pass_command words (Up link) (cut, within) =
-      subst (Passes (command_form network)) (sym cut) (pass_branch verb.Up tt verbs_apart (pass_branch link within (links_apart network is) pass_finish))
+  pass_command [] command asks = absurd asks.first
+  pass_command (word ∷ words) command asks =
+      subst (λ w. Passes (command_form network) (w ∷ words)) (sym asks.first) (pass_branch asks.verb tt verbs_apart (pass_asked (verb_asked asks.verb) words asks.values asks.asks))
 
 -- words spell one hose at most
 pub ends_unique : (network : Network) (words : List (List ℕ)) (hose other : List (ℕ × ℕ)) → IsNetwork network → AreEndsOf network words hose → AreEndsOf network words other → hose ≡ other
-ends_unique network words hose other is are are' =
-    let same : are.ends ≡ are'.ends = sym (ends_found network is words hose are) ∙ ends_found network is words other are' in
-    one_hose are.ends hose other are.same_ends (subst (λ (ends : List (ℕ × ℕ)). IsPermutation ends other) (sym same) are'.same_ends) are.is_hose.is_hose are'.is_hose.is_hose
+ends_unique network words hose other is are are' = one_of_ends network is words hose other are are'
 
 -- where words spell a hose, none of them is wrong
 pub ends_not_wrong : (network : Network) (words : List (List ℕ)) (hose : List (ℕ × ℕ)) (place : ℕ) → IsNetwork network → AreEndsOf network words hose
@@ -129,8 +110,7 @@ ends_not_wrong network words hose place is are wrong = (pass_ends network is wor
 
 -- words ask for one command at most
 pub command_unique : (network : Network) (words : List (List ℕ)) (one other : Command) → IsNetwork network → IsCommand network words one → IsCommand network words other → one ≡ other
-command_unique network words one other is asks asks' =
-    ordered_unique (command_of network words) one other (command_back network is words one asks) (command_back network is words other asks')
+command_unique network words one other is asks asks' = one_command network is words one other asks asks'
 
 -- where words ask for a command, none of them is wrong
 pub command_not_wrong : (network : Network) (words : List (List ℕ)) (command : Command) (place : ℕ) → IsNetwork network → IsCommand network words command
@@ -148,18 +128,16 @@ asked_for network words (Err fault.Memory) is ok bad command asks = inr refl
 -- ---- what a command names
 
 -- the nodes and the link that a command names are the network's, and a number to be released is one that there can be
-asks_of : (network : Network) (words : List (List ℕ)) (command : Command) → IsCommand network words command → AsksOf network command
-asks_of network words (Admit hose) (ends, cut, are) = are.is_hose.nodes
-asks_of network words (AdmitAfter known hose) (ends, cut, within, are) = (within.1, are.is_hose.nodes)
-asks_of network words (Quote hose) (ends, cut, are) = are.is_hose.nodes
-asks_of network words (Take quote) asks = tt
-asks_of network words (Release id) asks = asks.1.1
-asks_of network words (Show id) asks = tt
-asks_of network words Vpns cut = tt
-asks_of network words (Link link) (cut, within) = within
-asks_of network words (Down link) (cut, within) = within
-asks_of network words (Up link) (cut, within) = within
+asks_of : (network : Network) (words : List (List ℕ)) (verb : Verb) (values : AskedValues (verb_asked verb)) → Asks network (verb_asked verb) values words → AsksOf network (command_told verb values)
+asks_of network words verb.Admit hose are = are.is_hose.nodes
+asks_of network words verb.AdmitAfter (known, hose) (_, within, are) = (within.1, are.is_hose.nodes)
+asks_of network words verb.Quote hose are = are.is_hose.nodes
+asks_of network words verb.Release (id, _) (_, within, _) = within.1
+asks_of network words verb.Link (link, _) (_, there, _) = there
+asks_of network words verb.Down (link, _) (_, there, _) = there
+asks_of network words verb.Up (link, _) (_, there, _) = there
+asks_of network words other values asks = tt
 
 pub read_asks_of : {E : Type 0} (network : Network) (words : List (List ℕ)) (read : Result Command E) → IfOk read (IsCommand network words) → IfOk read (AsksOf network)
-read_asks_of network words (Ok command) asks = asks_of network words command asks
+read_asks_of network words (Ok command) asks = subst (AsksOf network) (sym asks.is) (asks_of network (drop 1 words) asks.verb asks.values asks.asks)
 read_asks_of network words (Err fault) asks = tt

@@ -1,8 +1,8 @@
 -- Commands as words: `admit NAME:RATE ..`, `admit-after K NAME:RATE ..`, `quote NAME:RATE ..`,
 -- `take Q`, `release ID`, `show ID`, `vpns`, `link L`, `down L` and `up L`.
-use Rattle.std.specs.Prelude.{◌≡◌, ℕ, ◌≤◌, List, [], ◌∷◌, All, ⊤, map, codes, decimal, length, IsPermutation}
+use Rattle.std.specs.Prelude.{◌≡◌, ℕ, ◌≤◌, List, [], All, ⊤, map, codes, decimal, drop, length, IsPermutation}
 use Rattle.hose_words.specs.Form.{Form, finish, place, branch, list, Each, TellsNumber, IsWithin, grammar_of}
-use Rattle.hose_words.specs.Grammar.{Grammar}
+use Rattle.hose_words.specs.Grammar.{Grammar, IsFirst}
 use Rattle.hose_graph.specs.Hose.{IsEnd, HasDistinctNodes, Endpoint, node_of}
 use Rattle.hose_graph.specs.Network.{Network, IsLinkOf, IsNodeOf}
 use Rattle.hose_graph.specs.declared.command.Command.{Command}
@@ -11,6 +11,62 @@ use Rattle.hose_graph.specs.Limits.{least_ends, most_ends, most_epoch}
 use Rattle.hose_proto.specs.Places.{IsHoseOf, end_word}
 use Rattle.hose_proto.specs.declared.verb.Verb.{Verb}
 use Rattle.hose_proto.specs.declared.verb.Verb.TheVariants as verb
+
+-- ---- the table
+
+-- the fields after the first word of a command
+pub data Asked : Type 0 where
+  -- nothing more
+  nothing : Asked
+  -- the number of a VPN or of a quote
+  an_id : Asked → Asked
+  -- the number of a link
+  one_link : Asked → Asked
+  -- the endpoints of a hose, in any order, to the end of the line
+  the_hose : Asked
+
+-- the first word of each command, and the fields after it
+abbrev pub verb_line : Verb → List ℕ × Asked
+verb_line verb.Admit = (codes "admit", the_hose)
+verb_line verb.AdmitAfter = (codes "admit-after", an_id the_hose)
+verb_line verb.Quote = (codes "quote", the_hose)
+verb_line verb.Take = (codes "take", an_id nothing)
+verb_line verb.Release = (codes "release", an_id nothing)
+verb_line verb.Show = (codes "show", an_id nothing)
+verb_line verb.Vpns = (codes "vpns", nothing)
+verb_line verb.Link = (codes "link", one_link nothing)
+verb_line verb.Down = (codes "down", one_link nothing)
+verb_line verb.Up = (codes "up", one_link nothing)
+
+-- the first word of a command
+abbrev pub verb_word : Verb → List ℕ
+verb_word verb = (verb_line verb).0
+
+-- the fields after the first word of a command
+abbrev pub verb_asked : Verb → Asked
+verb_asked verb = (verb_line verb).1
+
+-- what the fields of a command tell
+abbrev pub AskedValues : Asked → Type 0
+AskedValues nothing = ⊤
+AskedValues (an_id asked) = ℕ × AskedValues asked
+AskedValues (one_link asked) = ℕ × AskedValues asked
+AskedValues the_hose = List Endpoint
+
+-- the command of a first word and of what the fields after it tell
+abbrev pub command_told : (verb : Verb) → AskedValues (verb_asked verb) → Command
+command_told verb.Admit hose = Admit hose
+command_told verb.AdmitAfter (known, hose) = AdmitAfter known hose
+command_told verb.Quote hose = Quote hose
+command_told verb.Take (quote, _) = Take quote
+command_told verb.Release (id, _) = Release id
+command_told verb.Show (id, _) = Show id
+command_told verb.Vpns _ = Vpns
+command_told verb.Link (link, _) = Link link
+command_told verb.Down (link, _) = Down link
+command_told verb.Up (link, _) = Up link
+
+-- ---- what words ask for
 
 -- the number of a VPN or of a quote, whether there is one or not, or 0
 abbrev pub IsId : ℕ → Type 0
@@ -24,26 +80,25 @@ pub record AreEndsOf (network : Network) (words : List (List ℕ)) (hose : List 
   pub same_ends : IsPermutation ends hose
   pub is_hose : IsHoseOf network hose
 
--- the words ask for a command
-abbrev pub IsCommand : Network → List (List ℕ) → Command → Type 0
-IsCommand network words (Admit hose) =
-    (ends : List (List ℕ)) × (words ≡ codes "admit" ∷ ends) × AreEndsOf network ends hose
-IsCommand network words (AdmitAfter known hose) =
-    (ends : List (List ℕ)) × (words ≡ codes "admit-after" ∷ decimal known ∷ ends) × IsId known
-    × AreEndsOf network ends hose
-IsCommand network words (Quote hose) =
-    (ends : List (List ℕ)) × (words ≡ codes "quote" ∷ ends) × AreEndsOf network ends hose
-IsCommand network words (Take quote) =
-    (words ≡ codes "take" ∷ decimal quote ∷ []) × IsId quote
-IsCommand network words (Release id) = (words ≡ codes "release" ∷ decimal id ∷ []) × IsId id
-IsCommand network words (Show id) = (words ≡ codes "show" ∷ decimal id ∷ []) × IsId id
-IsCommand network words Vpns = words ≡ codes "vpns" ∷ []
-IsCommand network words (Link link) =
-    (words ≡ codes "link" ∷ decimal link ∷ []) × IsLinkOf network link
-IsCommand network words (Down link) =
-    (words ≡ codes "down" ∷ decimal link ∷ []) × IsLinkOf network link
-IsCommand network words (Up link) =
-    (words ≡ codes "up" ∷ decimal link ∷ []) × IsLinkOf network link
+-- the words are those of fields that tell this
+abbrev pub Asks : Network → (asked : Asked) → AskedValues asked → List (List ℕ) → Type 0
+Asks network nothing values words = words ≡ []
+Asks network (an_id asked) (id, values) words =
+    IsFirst (λ word. word ≡ decimal id) words × IsId id
+    × Asks network asked values (drop 1 words)
+Asks network (one_link asked) (link, values) words =
+    IsFirst (λ word. word ≡ decimal link) words × IsLinkOf network link
+    × Asks network asked values (drop 1 words)
+Asks network the_hose hose words = AreEndsOf network words hose
+
+-- The words ask for a command: they are its first word and those of the fields after it.
+pub record IsCommand (network : Network) (words : List (List ℕ)) (command : Command)
+    : Type 0 where
+  pub verb : Verb
+  pub values : AskedValues (verb_asked verb)
+  pub first : IsFirst (λ word. word ≡ verb_word verb) words
+  pub asks : Asks network (verb_asked verb) values (drop 1 words)
+  pub is : command ≡ command_told verb values
 
 -- ---- what is not allowed
 
@@ -58,43 +113,17 @@ pub record AreNewEnds (network : Network) (ends : List Endpoint) : Type 0 where
 abbrev pub ends_form : Network → Form
 ends_form network = list (end_word network) (AreNewEnds network) least_ends
 
--- `K`, and the endpoints of a hose
-abbrev pub known_ends_form : Network → Form
-known_ends_form network = place (TellsNumber IsId) (ends_form network)
-
--- `ID` or `Q`
-abbrev pub sole_id_form : Form
-sole_id_form = place (TellsNumber IsId) finish
-
--- `L`
-abbrev pub sole_link_form : Network → Form
-sole_link_form network = branch (IsLinkOf network) decimal (λ _. finish)
-
--- the first word of a command
-abbrev pub verb_word : Verb → List ℕ
-verb_word verb.Admit = codes "admit"
-verb_word verb.AdmitAfter = codes "admit-after"
-verb_word verb.Quote = codes "quote"
-verb_word verb.Take = codes "take"
-verb_word verb.Release = codes "release"
-verb_word verb.Show = codes "show"
-verb_word verb.Vpns = codes "vpns"
-verb_word verb.Link = codes "link"
-verb_word verb.Down = codes "down"
-verb_word verb.Up = codes "up"
+-- the grammar of the fields of a command
+abbrev pub asked_form : Network → Asked → Form
+asked_form network nothing = finish
+asked_form network (an_id asked) = place (TellsNumber IsId) (asked_form network asked)
+asked_form network (one_link asked) =
+    branch (IsLinkOf network) decimal (λ _. asked_form network asked)
+asked_form network the_hose = ends_form network
 
 -- what may stand after the first word
 abbrev pub verb_form : Network → Verb → Form
-verb_form network verb.Admit = ends_form network
-verb_form network verb.AdmitAfter = known_ends_form network
-verb_form network verb.Quote = ends_form network
-verb_form network verb.Take = sole_id_form
-verb_form network verb.Release = sole_id_form
-verb_form network verb.Show = sole_id_form
-verb_form network verb.Vpns = finish
-verb_form network verb.Link = sole_link_form network
-verb_form network verb.Down = sole_link_form network
-verb_form network verb.Up = sole_link_form network
+verb_form network verb = asked_form network (verb_asked verb)
 
 -- a command
 abbrev pub command_form : Network → Form
@@ -104,15 +133,13 @@ command_form network = branch Each verb_word (verb_form network)
 abbrev pub command_grammar : Network → Grammar
 command_grammar network = grammar_of (command_form network)
 
+-- the fields of a command have endpoints, which take memory to read
+abbrev pub HaveEnds : Asked → Type 0
+HaveEnds nothing = ⊥
+HaveEnds (an_id asked) = HaveEnds asked
+HaveEnds (one_link asked) = HaveEnds asked
+HaveEnds the_hose = ⊤
+
 -- the commands that take memory to read
 abbrev pub TakesMemory : Verb → Type 0
-TakesMemory verb.Admit = ⊤
-TakesMemory verb.AdmitAfter = ⊤
-TakesMemory verb.Quote = ⊤
-TakesMemory verb.Take = ⊥
-TakesMemory verb.Release = ⊥
-TakesMemory verb.Show = ⊥
-TakesMemory verb.Vpns = ⊥
-TakesMemory verb.Link = ⊥
-TakesMemory verb.Down = ⊥
-TakesMemory verb.Up = ⊥
+TakesMemory verb = HaveEnds (verb_asked verb)

@@ -1,23 +1,22 @@
 // Commands read from words.
-ghost use Rattle.std.specs.Prelude.{◌≡◌, ◌⊎◌, ℕ, List, ◌+◌, ◌≤◌, ◌↔◌, [], ◌∷◌, codes, decimal, length, drop, Ok, Err, IfOk, IfErr, IsTrue, Any};
-ghost use Rattle.hose_words.specs.steps.Cursor.{IsWrong};
+ghost use Rattle.std.specs.Prelude.{◌≡◌, ◌⊎◌, ℕ, List, ◌+◌, ◌≤◌, ◌↔◌, [], length, drop, Ok, Err, IfOk, IfErr, IsTrue, Any};
 ghost use Rattle.hose_words.specs.Form.{IsChoice, grammar_of};
 ghost use Rattle.hose_words.specs.Grammar.{IsFirst, IsFirstNotAllowed};
 ghost use Rattle.hose_words.specs.Words.{words_of};
 ghost use Rattle.hose_graph.specs.Hose.{Endpoint, node_of};
-ghost use Rattle.hose_graph.specs.Network.{IsNetwork, IsLinkOf};
+ghost use Rattle.hose_graph.specs.Network.{IsNetwork};
 ghost use Rattle.hose_graph.specs.declared.command.Command.{Command};
-ghost use Rattle.hose_proto.specs.Command.{AreEndsOf, AreNewEnds, IsId, IsCommand, TakesMemory, command_form, command_grammar, ends_form, known_ends_form, verb_form, sole_id_form, sole_link_form, verb_word};
+ghost use Rattle.hose_proto.specs.Command.{AreEndsOf, AreNewEnds, IsCommand, TakesMemory, command_form, command_grammar, ends_form, verb_word};
 ghost use Rattle.hose_proto.specs.Places.{end_word};
 ghost use Rattle.hose_proto.specs.steps.Reading.{IsFaultOf, IsNewEnd, TellsNext};
 ghost use Rattle.hose_graph.specs.steps.Naming.{AsksOf};
 
 use crate::fault::ReadFault;
 use crate::lists::{Items, read_items};
-use crate::places::{endpoint, read_link_number};
-use crate::verb::Verb;
-use hose_graph::{Command, Endpoint, Hose, LEAST_ENDS, MOST_ENDS, MOST_EPOCH, Topology};
-use hose_words::{Cursor, WrongWord};
+use crate::places::endpoint;
+use crate::verb::read_after;
+use hose_graph::{Command, Endpoint, Hose, LEAST_ENDS, MOST_ENDS, Topology};
+use hose_words::Cursor;
 use std::alloc::Global;
 
 /// The command that the words of a line after its first `from` ask for.
@@ -87,70 +86,6 @@ fn read_words(alloc: Global, top: &Topology, words: &mut Cursor<'_>) -> Result<C
     read_after(alloc, top, verb, words)
 }
 
-// The command of a verb and the words after it.
-fn read_after(
-    alloc: Global,
-    top: &Topology,
-    verb: Verb,
-    words: &mut Cursor<'_>,
-) -> Result<Command, ReadFault>
-    requires { IsNetwork top.now }
-    ensures ok { IfOk result (IsCommand top.now (verb_word verb ∷ words.old.left)) }
-    ensures bad { IfErr result (IsFaultOf (verb_form top.now verb) words.old) }
-    ensures memory { result ≡ Err ReadFault.Memory → TakesMemory verb }
-{
-    match verb {
-        Verb::Admit => Ok(Command::Admit(read_hose(alloc, top, words)?)),
-        Verb::AdmitAfter => read_bound(alloc, top, words),
-        Verb::Quote => Ok(Command::Quote(read_hose(alloc, top, words)?)),
-        Verb::Take => Ok(Command::Take(read_id(words)?)),
-        Verb::Release => Ok(Command::Release(read_id(words)?)),
-        Verb::Show => Ok(Command::Show(read_id(words)?)),
-        Verb::Vpns => {
-            words.finish()?;
-            Ok(Command::Vpns)
-        }
-        Verb::Link => Ok(Command::Link(read_link(top, words)?)),
-        Verb::Down => Ok(Command::Down(read_link(top, words)?)),
-        Verb::Up => Ok(Command::Up(read_link(top, words)?)),
-    }
-}
-
-// After `admit-after`.
-fn read_bound(alloc: Global, top: &Topology, words: &mut Cursor<'_>) -> Result<Command, ReadFault>
-    requires { IsNetwork top.now }
-    ensures ok { IfOk result (IsCommand top.now (codes "admit-after" ∷ words.old.left)) }
-    ensures bad { IfErr result (IsFaultOf (known_ends_form top.now) words.old) }
-{
-    let known = words.number_within(0, MOST_EPOCH)?;
-    let hose = read_hose(alloc, top, words)?;
-    Ok(Command::AdmitAfter { known, hose })
-}
-
-// The number of a VPN or of a quote that stands alone after a command's first word.
-fn read_id(words: &mut Cursor<'_>) -> Result<u64, WrongWord>
-    ensures ok { IfOk result (λ id. words.old.left ≡ decimal id ∷ []) }
-    ensures is_id { IfOk result IsId }
-    ensures wrong { IfErr result (λ wrong. IsWrong sole_id_form words.old wrong.number) }
-{
-    let id = words.number_within(0, MOST_EPOCH)?;
-    words.finish()?;
-    Ok(id)
-}
-
-// The number of a link that stands alone after a command's first word.
-fn read_link(top: &Topology, words: &mut Cursor<'_>) -> Result<u32, WrongWord>
-    requires { IsNetwork top.now }
-    ensures ok { IfOk result (λ link. words.old.left ≡ decimal link ∷ []) }
-    ensures is_link { IfOk result (IsLinkOf top.now) }
-    ensures wrong { IfErr result
-        (λ wrong. IsWrong (sole_link_form top.now) words.old wrong.number) }
-{
-    let link = read_link_number(top, words)?;
-    words.finish()?;
-    Ok(link)
-}
-
 /// The hose of the endpoints `NAME:RATE` that are left of a line. They may stand in any order.
 pub fn read_hose(alloc: Global, top: &Topology, words: &mut Cursor<'_>) -> Result<Hose, ReadFault>
     ensures ok { IfOk result (AreEndsOf top.now words.old.left) }
@@ -169,7 +104,11 @@ pub fn read_hose(alloc: Global, top: &Topology, words: &mut Cursor<'_>) -> Resul
 }
 
 // Reads the words of endpoints, where it is known that `top` is a network.
-fn read_ends(alloc: Global, top: &Topology, words: &mut Cursor<'_>) -> Result<Hose, ReadFault>
+pub(crate) fn read_ends(
+    alloc: Global,
+    top: &Topology,
+    words: &mut Cursor<'_>,
+) -> Result<Hose, ReadFault>
     requires { IsNetwork top.now }
     ensures ok { IfOk result (AreEndsOf top.now words.old.left) }
     ensures bad { IfErr result (IsFaultOf (ends_form top.now) words.old) }

@@ -6,7 +6,7 @@ ghost use Rattle.hose_io.specs.steps.Gather.{IsAdded};
 ghost use Rattle.hose_io.specs.steps.Writing.{IsPut};
 ghost use Rattle.hose_graph.specs.Hose.{node_of};
 ghost use Rattle.hose_graph.specs.Network.{Network, IsLinkOf, IsNodeOf};
-ghost use Rattle.hose_graph.specs.declared.command.Reply.TheVariants.{LinkState, Refused, Shown, Vpns};
+ghost use Rattle.hose_graph.specs.declared.command.Reply.TheVariants.{LinkState, Refused, Shown, Stale, Vpns};
 ghost use Rattle.hose_proto.specs.Fields.{a_number, a_service, no_more, pair_word, words_told};
 ghost use Rattle.hose_proto.specs.steps.ReplyLines.{IsOfKind, IsReply};
 ghost use Rattle.hose_proto.specs.ReplyText.{line_of, node_text, reply_text, spaced};
@@ -64,14 +64,14 @@ fn add_reply<S: Sink>(gather: &mut Gather, sink: &mut S, top: &Topology, reply: 
             at,
             hose,
             amounts,
-        } => add_shown(gather, sink, top, (*id, *cost, *at), hose, amounts),
+        } => add_shown(gather, sink, top, (*id, *cost, *at), (hose, amounts)),
         Reply::Vpns { at, ids } => add_vpns(gather, sink, *at, ids),
         Reply::LinkState {
             link,
             load,
             out,
             at,
-        } => add_state(gather, sink, top, *link, *load, (*out, *at)),
+        } => add_state(gather, sink, top, (*link, *load), (*out, *at)),
         _ => add_short(gather, sink, reply),
     }
 }
@@ -84,7 +84,7 @@ fn add_short<S: Sink>(gather: &mut Gather, sink: &mut S, reply: &Reply)
 {
     match reply {
         Reply::Welcome { at } => add_last(gather, sink, b"welcome at ", *at),
-        Reply::Stale { seen, now } => add_numbers(gather, sink, b"stale ", *seen, b" ", *now),
+        Reply::Stale { seen, now } => add_stale(gather, sink, *seen, *now),
         Reply::Released { id, at } => add_at(gather, sink, b"released ", *id, *at),
         Reply::NoVpn { id, at } => add_at(gather, sink, b"no vpn ", *id, *at),
         Reply::NoQuote { quote, at } => add_at(gather, sink, b"no quote ", *quote, *at),
@@ -118,28 +118,22 @@ fn add_last<S: Sink>(gather: &mut Gather, sink: &mut S, words: &[u8], number: u6
     gather.add_numbered(sink, words, number);
 }
 
-// Adds some words and the number after them, and once more, at the end of a line.
-fn add_numbers<S: Sink>(
-    gather: &mut Gather,
-    sink: &mut S,
-    words: &[u8],
-    number: u64,
-    more: &[u8],
-    other: u64,
-)
-    ensures { IsAdded S.Sink gather.old sink.old gather.new sink.new
-        (words.now ++ (decimal number ++ (more.now ++ (decimal other ++ [])))) }
-{
-    gather.add_numbered(sink, words, number);
-    gather.add_numbered(sink, more, other);
-}
-
 // Adds some words and the number after them, and an epoch, at the end of a line.
 fn add_at<S: Sink>(gather: &mut Gather, sink: &mut S, words: &[u8], number: u64, at: u64)
     ensures { IsAdded S.Sink gather.old sink.old gather.new sink.new
         (words.now ++ (decimal number ++ spaced (codes "at" ∷ decimal at ∷ []))) }
 {
-    add_numbers(gather, sink, words, number, b" at ", at);
+    gather.add_numbered(sink, words, number);
+    gather.add_numbered(sink, b" at ", at);
+}
+
+// Adds the epoch of a quote, and that of the last change of what it rests on.
+fn add_stale<S: Sink>(gather: &mut Gather, sink: &mut S, seen: u64, now: u64)
+    ensures { (network : Network) → IsAdded S.Sink gather.old sink.old gather.new sink.new
+        (reply_text network (Stale seen now)) }
+{
+    gather.add_numbered(sink, b"stale ", seen);
+    gather.add_numbered(sink, b" ", now);
 }
 
 // Adds some words, a number, a cost and an epoch, and links with their amounts.
@@ -179,14 +173,14 @@ fn add_shown<S: Sink>(
     sink: &mut S,
     top: &Topology,
     costed: (u64, u64, u64),
-    hose: &Hose,
-    amounts: &Amounts,
+    lists: (&Hose, &Amounts),
 )
-    requires { All (λ end. IsNodeOf top.now (node_of end)) hose.now }
-    ensures { IsAdded S.Sink gather.old sink.old gather.new sink.new
-        (reply_text top.now (Shown costed.0 costed.1 costed.2 hose.now amounts.now)) }
+    requires { All (λ end. IsNodeOf top.now (node_of end)) lists.0.now }
+    ensures { IsAdded S.Sink gather.old sink.old gather.new sink.new (reply_text top.now
+        (Shown costed.0 costed.1 costed.2 lists.entry.0.now lists.entry.1.now)) }
 {
     let (id, cost, at) = costed;
+    let (hose, amounts) = lists;
     gather.add_numbered(sink, b"vpn ", id);
     add_at(gather, sink, b" cost ", cost, at);
     gather.add(sink, b" ends");
@@ -221,14 +215,14 @@ fn add_state<S: Sink>(
     gather: &mut Gather,
     sink: &mut S,
     top: &Topology,
-    link: u64,
-    load: u64,
+    loaded: (u64, u64),
     service: (bool, u64),
 )
-    requires { IsLinkOf top.now link }
+    requires { IsLinkOf top.now loaded.0 }
     ensures { IsAdded S.Sink gather.old sink.old gather.new sink.new
-        (reply_text top.now (LinkState link load service.0 service.1)) }
+        (reply_text top.now (LinkState loaded.0 loaded.1 service.0 service.1)) }
 {
+    let (link, load) = loaded;
     // The call tells the proof that each network has few links, so that their numbers fit.
     let _links = top.links();
     gather.add_numbered(sink, b"link ", link);

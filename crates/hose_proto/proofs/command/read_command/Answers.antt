@@ -1,9 +1,9 @@
-use Rattle.std.proofs.Common.{◌≡◌, ◌∙◌, ℕ, List, [], drop, ap, refl, subst, arith}
+use Rattle.std.proofs.Common.{◌≡◌, ◌∙◌, ℕ, List, [], drop, ap, refl, subst, sym, arith}
 use Rattle.std.proofs.lemmas.Result.{IfErr-at_err}
 use Rattle.hose_words.specs.steps.Cursor.{Position}
 use Rattle.hose_words.specs.Grammar.{IsFirstNotAllowed}
 use Rattle.hose_words.specs.Words.{words_of}
-use Rattle.hose_proto.specs.Command.{command_form, command_grammar}
+use Rattle.hose_proto.specs.Command.{IsCommand, command_form, command_grammar}
 use Rattle.hose_proto.specs.steps.Reading.{IsFaultOf}
 use Rattle.hose_proto.proofs.command.read_command.Goals as goal
 
@@ -15,3 +15,8 @@ returns-clause-bad c word told =
     let left : start.left ≡ drop c.args.from (words_of c.args.line.now) = ap (λ (p : Position). p.left) c.skip.ensures ∙ ap (λ (p : Position). drop c.args.from p.left) c.new-words.ensures in
     let read : start.read ≡ c.args.from = omega (arith, ap (λ (p : Position). p.read) c.skip.ensures, ap (λ (p : Position). p.read) c.new-words.ensures) in
     (wrong.place, omega (arith, wrong.at, read), subst (λ (words : List (List ℕ)). IsFirstNotAllowed (command_grammar network) [] words wrong.place) left wrong.wrong)
+
+pub returns-clause-asked : goal.returns-clause-asked
+returns-clause-asked c command asks =
+    let left : c.skip.new.self.left ≡ drop c.args.from (words_of c.args.line.now) = ap (λ (p : Position). p.left) c.skip.ensures ∙ ap (λ (p : Position). drop c.args.from p.left) c.new-words.ensures in
+    c.read_command_at.ensures.asked command (subst (λ (words : List (List ℕ)). IsCommand c.args.top.now words command) (sym left) asks)

@@ -1,7 +1,7 @@
 use Rattle.hose_proto.proofs.reply_text.add_short.Goals as goal
 
 pub returns-in-Stale : goal.returns-in-Stale
-returns-in-Stale g c network = rw c.in-Stale.is c.add_numbers.ensures
+returns-in-Stale g c network = rw c.in-Stale.is (c.add_stale.ensures network)
 
 pub returns-in-Released : goal.returns-in-Released
 returns-in-Released g c network = rw c.in-Released.is c.add_at.ensures

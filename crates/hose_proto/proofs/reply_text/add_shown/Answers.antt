@@ -9,8 +9,8 @@ use Rattle.hose_proto.proofs.reply_text.add_shown.Goals as goal
 pub returns : goal.returns
 returns g c =
     let network = c.args.top.now in
-    let hose = c.args.hose.now in
-    let amounts = c.args.amounts.now in
+    let hose = c.args.lists.0.now in
+    let amounts = c.args.lists.1.now in
     let costed = c.args.costed in
     let front = codes "cost" ∷ decimal costed.1 ∷ codes "at" ∷ decimal costed.2 ∷ [] in
     let ends = codes "ends" ∷ map (end_word network) hose in

@@ -8,8 +8,8 @@ pub returns : goal.returns
 returns g c =
     let network = c.args.top.now in
     let about = words_of_link network (Some c.link.result) in
-    let load = codes "load" ∷ decimal c.args.load ∷ [] in
+    let load = codes "load" ∷ decimal c.args.loaded.1 ∷ [] in
     let service = words_told network (a_service (a_number no_more)) (c.args.service.0, (c.args.service.1, tt)) in
     let link = added_link network (Some c.link.result) c.add_link.ensures in
-    let rest = added_words load service (added_last (codes " load ") (decimal c.args.load) c.add_numbered-2.ensures) (c.add_service.ensures network) in
-    rw c.link.ensures.value (added_after (codes "link ") (decimal c.args.link) (spaced (about ++ (load ++ service))) c.add_numbered.ensures (added_words about (load ++ service) link rest))
+    let rest = added_words load service (added_last (codes " load ") (decimal c.args.loaded.1) c.add_numbered-2.ensures) (c.add_service.ensures network) in
+    rw c.link.ensures.value (added_after (codes "link ") (decimal c.args.loaded.0) (spaced (about ++ (load ++ service))) c.add_numbered.ensures (added_words about (load ++ service) link rest))
