@@ -6,10 +6,9 @@ use Rattle.std.proofs.lemmas.Fmt.{decimal_injective}
 use Rattle.std.proofs.lemmas.List.Elements.{All-tail}
 use Rattle.hose_words.specs.Words.{words_of}
 use Rattle.hose_graph.specs.Network.{Network, IsNetwork}
-use Rattle.hose_graph.specs.declared.command.Command.TheVariants.{Admit}
 use Rattle.hose_proto.specs.Command.{AreEndsOf}
 use Rattle.hose_proto.proofs.Back.{number_back, number_spelled, map_back}
-use Rattle.hose_proto.proofs.OneCommand.{command_unique}
+use Rattle.hose_proto.proofs.OneCommand.{ends_unique}
 use Rattle.hose_cert.specs.CertLine.{CertLine, IsLine, IsSpaced, IsSpelled, SaysLine, cost_line, end_line, hose_line, numbers_from, pot_line, use_line, without_line}
 use Rattle.hose_cert.specs.steps.CertLine.{statement_line}
 use Rattle.hose_cert.specs.steps.Judging.{AreUpToMost}
@@ -118,9 +117,7 @@ module _ (network : Network) (is : IsNetwork network) where
 
   said_once : (words : List (List ℕ)) (said one other : CertLine) → IsSaidBy network words said one → IsSaidBy network words said other → one ≡ other
   said_once words (hose_line none) one other (hose, same, ends) (hose', same', ends') =
-      let asked : Admit hose ≡ Admit hose' = command_unique network _ (Admit hose) (Admit hose') is (drop 1 words, refl, ends) (drop 1 words, refl, ends') in
-      let equal : hose ≡ hose' = cc asked in
-      same ∙ ap hose_line equal ∙ sym same'
+      same ∙ ap hose_line (ends_unique network (drop 1 words) hose hose' is ends ends') ∙ sym same'
   said_once words said one other same same' = same ∙ sym same'
 
   pub spelled_once : (words : List (List ℕ)) (one other : CertLine) → IsSpelled network words one → IsSpelled network words other → one ≡ other

@@ -66,7 +66,7 @@ use judging::judge;
 use reading::{read_text, refuse};
 pub use statement::{LINE_NUMBERS, MOST_NUMBER, law_limits};
 use std::alloc::Global;
-use writing::{Linked, put_plan};
+use writing::{Linked, Planned, put_plan};
 
 /// What is found of a text.
 #[derive(Drop)]
@@ -151,5 +151,9 @@ pub fn put_certificate<S: Sink, R: RowMaker>(
         return Ok(false);
     };
     let linked = Linked { top, links: &links };
-    put_plan(alloc, sink, &linked, hose, &amounts, rows)
+    let planned = Planned {
+        hose,
+        amounts: &amounts,
+    };
+    put_plan(alloc, sink, &linked, &planned, rows)
 }

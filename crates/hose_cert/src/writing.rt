@@ -34,31 +34,46 @@ pub(crate) struct Linked<'a> {
     pub(crate) links: &'a LinkSet,
 }
 
+// A hose, and what its plan reserves.
+#[derive(Clone, Copy)]
+pub(crate) struct Planned<'a> {
+    pub(crate) hose: &'a Hose,
+    pub(crate) amounts: &'a Amounts,
+}
+
+// The distances from a root, and the number that stands in place of each that is not there.
+#[derive(Clone, Copy)]
+struct RootNumbers<'a> {
+    dist: &'a [Option<u64>],
+    most: u64,
+}
+
 // Writes the certificate of the hose's plan over all links.
 pub(crate) fn put_plan<S: Sink, R: RowMaker>(
     alloc: Global,
     sink: &mut S,
     linked: &Linked<'_>,
-    hose: &Hose,
-    amounts: &Amounts,
+    planned: &Planned<'_>,
     rows: &mut R,
 ) -> Result<bool, ProveFault>
     requires network { IsNetwork linked.now.top.now }
-    requires hose { IsHose hose.now }
-    requires nodes { AreNodes linked.now.top.now hose.now }
+    requires hose { IsHose planned.now.hose.now }
+    requires nodes { AreNodes linked.now.top.now planned.now.hose.now }
     requires links { linked.now.links.now ≡ all_links linked.now.top.now }
     requires plan { IsCanonicalPlan linked.now.top.now (all_links linked.now.top.now)
-        hose.now amounts.now }
-    requires on_links { AreOnLinks linked.now.top.now amounts.now }
-    requires few { length amounts.now ≤ MOST_TREE_LINKS }
-    requires amounts { All (λ pair. amount_of pair ≤ MOST_AMOUNT) amounts.now }
-    ensures writes { Writes S.Sink linked.now.top.now hose.now sink.old sink.new result }
+        planned.now.hose.now planned.now.amounts.now }
+    requires on_links { AreOnLinks linked.now.top.now planned.now.amounts.now }
+    requires few { length planned.now.amounts.now ≤ MOST_TREE_LINKS }
+    requires amounts { All (λ pair. amount_of pair ≤ MOST_AMOUNT) planned.now.amounts.now }
+    ensures writes { Writes S.Sink linked.now.top.now planned.now.hose.now sink.old sink.new
+        result }
     ensures stays { Stays (S.frame sink.old) (S.frame sink.new) }
 {
     let top = linked.top;
+    let amounts = planned.amounts;
     let cost = cost(top, amounts);
     let mut gather = Gather::new();
-    add_first_lines(&mut gather, sink, top, hose, amounts.pairs(), cost);
+    add_first_lines(&mut gather, sink, top, planned.hose, amounts.pairs(), cost);
     if let Err(error) = add_roots(alloc, &mut gather, sink, linked, cost, rows) {
         // The lines that were made before are whole, and go out.
         gather.finish(sink)?;
@@ -139,7 +154,11 @@ fn add_roots<S: Sink, R: RowMaker>(
     let top = linked.top;
     for root in 0..top.nodes() {
         let row = rows.row(alloc, top, linked.links, root)?;
-        add_root(gather, sink, top, root, &row.dist, most);
+        let distances = RootNumbers {
+            dist: &row.dist,
+            most,
+        };
+        add_root(gather, sink, top, root, &distances);
     }
     Ok(())
 }
@@ -150,20 +169,22 @@ fn add_root<S: Sink>(
     sink: &mut S,
     top: &Topology,
     root: u32,
-    dist: &[Option<u64>],
-    most: u64,
+    distances: &RootNumbers<'_>,
 )
-    requires { length dist.now ≡ length top.now.nodes }
-    ensures { IsAdded S.Sink gather.old sink.old gather.new sink.new
-        (certificate_text top.now (root_lines top.now root (numbers_of most dist.now))) }
+    requires { length distances.now.dist.now ≡ length top.now.nodes }
+    ensures { IsAdded S.Sink gather.old sink.old gather.new sink.new (certificate_text top.now
+        (root_lines top.now root (numbers_of distances.now.most distances.now.dist.now))) }
 {
     let nodes = top.nodes();
     let blocks = (nodes + (LINE_NUMBERS - 1)) / LINE_NUMBERS;
     for block in 0..blocks {
         let from = block * LINE_NUMBERS;
         let count = LINE_NUMBERS.min(nodes - from);
-        let part = &dist[from as usize..(from + count) as usize];
-        add_block(gather, sink, root, from, part, most);
+        let part = RootNumbers {
+            dist: &distances.dist[from as usize..(from + count) as usize],
+            most: distances.most,
+        };
+        add_block(gather, sink, root, from, &part);
     }
 }
 
@@ -173,15 +194,14 @@ fn add_block<S: Sink>(
     sink: &mut S,
     root: u32,
     from: u32,
-    dist: &[Option<u64>],
-    most: u64,
+    distances: &RootNumbers<'_>,
 )
-    ensures { IsAdded S.Sink gather.old sink.old gather.new sink.new
-        (line_of (pot_text root from (numbers_of most dist.now))) }
+    ensures { IsAdded S.Sink gather.old sink.old gather.new sink.new (line_of
+        (pot_text root from (numbers_of distances.now.most distances.now.dist.now))) }
 {
     gather.add_numbered(sink, b"pot ", u64::from(root));
     gather.add_numbered(sink, b" ", u64::from(from));
-    add_numbers(gather, sink, dist, most);
+    add_numbers(gather, sink, distances.dist, distances.most);
     gather.add(sink, b"\n");
 }
 

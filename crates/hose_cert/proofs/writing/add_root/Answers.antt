@@ -13,14 +13,14 @@ loop-block-preserved g c =
     let network = c.args.top.now in
     let from : ℕ = c.loop-block.block * LINE_NUMBERS in
     let count : ℕ = c.min-count.result in
-    let same = numbers_between c.args.most from (numbers_from network from) (from + count - from) c.args.dist.now (omega (arith, c.min-count.ensures, c.nodes-nodes.ensures.count)) in
-    IsAdded-number (λ (block : ℕ). line_of (line_text network (block_line network c.args.root (numbers_of c.args.most c.args.dist.now) block))) c.loop-block.block
+    let same = numbers_between c.args.distances.now.most from (numbers_from network from) (from + count - from) c.args.distances.now.dist.now (omega (arith, c.min-count.ensures, c.nodes-nodes.ensures.count)) in
+    IsAdded-number (λ (block : ℕ). line_of (line_text network (block_line network c.args.root (numbers_of c.args.distances.now.most c.args.distances.now.dist.now) block))) c.loop-block.block
     c.loop-block.invariant (rw same at c.add_block.ensures)
 
 pub returns : goal.returns
 returns g c =
     let network = c.args.top.now in
-    let line : ℕ → CertLine = block_line network c.args.root (numbers_of c.args.most c.args.dist.now) in
+    let line : ℕ → CertLine = block_line network c.args.root (numbers_of c.args.distances.now.most c.args.distances.now.dist.now) in
     let all : c.loop-block.block ≡ blocks_of network = omega (arith, c.loop-block-test.false, c.loop-block.auto.block-end, c.nodes-nodes.ensures.count) in
     let texts = flat_map-map (λ (l : CertLine). line_of (line_text network l)) line (range_with_len 0 (blocks_of network)) in
     rw texts (rw all at c.loop-block.invariant)

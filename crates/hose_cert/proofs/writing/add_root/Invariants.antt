@@ -7,4 +7,4 @@ use Rattle.hose_cert.proofs.writing.add_root.Given as goal
 abbrev pub invariant-loop-block : goal.invariant-loop-block
 invariant-loop-block g l =
     IsAdded g.S.Sink l.fn.gather l.fn.sink l.gather l.sink
-    (flat_map (λ block. line_of (line_text l.top (block_line l.top l.root (numbers_of l.most l.dist) block))) (range_with_len 0 l.block))
+    (flat_map (λ block. line_of (line_text l.top (block_line l.top l.root (numbers_of l.distances.most l.distances.dist.now) block))) (range_with_len 0 l.block))

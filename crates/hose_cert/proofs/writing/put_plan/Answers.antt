@@ -8,8 +8,8 @@ use Rattle.hose_cert.proofs.writing.put_plan.Goals as goal
 pub returns-in_err-finish-clause-writes : goal.returns-in_err-finish-clause-writes
 returns-in_err-finish-clause-writes g c =
     let r = c.requires in
-    let hose = c.args.hose.now in
-    let plan = c.args.amounts.now in
+    let hose = c.args.planned.now.hose.now in
+    let plan = c.args.planned.now.amounts.now in
     let made = c.in-Err.ensures in
     let added = all_added g.S.Sink c.args.linked.now.top.now r.network hose plan r.hose r.nodes r.plan _ _ _ _ _ _ c.pairs.result.now c.cost-cost.result made.0 c.new-gather.ensures c.pairs.ensures.value c.cost-cost.ensures c.add_first_lines.ensures made.2 in
     let told = err_from_is_err_and c.from_residual.result c.from_residual.ensures.1 in
@@ -20,8 +20,8 @@ returns-in_err-finish-clause-writes g c =
 pub returns-in-Err-clause-writes : goal.returns-in-Err-clause-writes
 returns-in-Err-clause-writes g c =
     let r = c.requires in
-    let hose = c.args.hose.now in
-    let plan = c.args.amounts.now in
+    let hose = c.args.planned.now.hose.now in
+    let plan = c.args.planned.now.amounts.now in
     let made = c.in-Err.ensures in
     let added = all_added g.S.Sink c.args.linked.now.top.now r.network hose plan r.hose r.nodes r.plan _ _ _ _ _ _ c.pairs.result.now c.cost-cost.result made.0 c.new-gather.ensures c.pairs.ensures.value c.cost-cost.ensures c.add_first_lines.ensures made.2 in
     rw c.from.ensures (ends_by_lines g.S.Sink c.args.linked.now.top.now r.network hose plan r.hose r.nodes r.plan made.2.row_of made.0 made.1 made.2.rows _ _ (IsPut-finished (Ok tt) added c.in_ok-finish.ensures))
@@ -29,8 +29,8 @@ returns-in-Err-clause-writes g c =
 pub returns-in_err-finish-2-clause-writes : goal.returns-in_err-finish-2-clause-writes
 returns-in_err-finish-2-clause-writes g c =
     let r = c.requires in
-    let hose = c.args.hose.now in
-    let plan = c.args.amounts.now in
+    let hose = c.args.planned.now.hose.now in
+    let plan = c.args.planned.now.amounts.now in
     let made = c.in_default.ensures in
     let added = end_added g.S.Sink c.args.linked.now.top.now r.network hose plan r.hose r.nodes r.plan _ _ _ _ _ _ c.pairs.result.now c.cost-cost.result _ c.new-gather.ensures c.pairs.ensures.value c.cost-cost.ensures c.add_first_lines.ensures made refl _ _ c.add.ensures in
     let told = err_from_is_err_and c.from_residual-in_err-finish-2.result c.from_residual-in_err-finish-2.ensures.1 in
@@ -41,8 +41,8 @@ returns-in_err-finish-2-clause-writes g c =
 pub returns-clause-writes : goal.returns-clause-writes
 returns-clause-writes g c =
     let r = c.requires in
-    let hose = c.args.hose.now in
-    let plan = c.args.amounts.now in
+    let hose = c.args.planned.now.hose.now in
+    let plan = c.args.planned.now.amounts.now in
     let made = c.in_default.ensures in
     let added = end_added g.S.Sink c.args.linked.now.top.now r.network hose plan r.hose r.nodes r.plan _ _ _ _ _ _ c.pairs.result.now c.cost-cost.result _ c.new-gather.ensures c.pairs.ensures.value c.cost-cost.ensures c.add_first_lines.ensures made refl _ _ c.add.ensures in
     ends_whole g.S.Sink c.args.linked.now.top.now r.network hose plan r.hose r.nodes r.plan made.row_of made.rows _ _ (IsPut-finished (Ok tt) added c.in_ok-finish-2.ensures)
