@@ -20,7 +20,7 @@ use Rattle.hose_store.specs.Recovery.{IsRecoveredAs, digest_of}
 use Rattle.hose_store.specs.declared.fault.StoreFault.{StoreFault}
 use Rattle.hose_store.specs.declared.fault.StoreFault.TheVariants as store
 use Rattle.hose_store.proofs.Histories.{list_of_history}
-use Rattle.hose_store.proofs.OneMeaning.{recovered_once}
+use Rattle.hose_store.proofs.OneMeaning.{digest_size, recovered_once}
 use Rattle.hose_move.specs.Moving.{HasEnough, Moves, StandsForPart}
 use Rattle.hose_move.specs.declared.fault.MoveFault.{MoveFault}
 use Rattle.hose_move.specs.declared.fault.MoveFault.TheVariants.{Store, Differs, Unsound, Disk, Memory}
@@ -75,25 +75,25 @@ sound_at network book (first ∷ entries) (suc place) entry sound there = sound_
 told : (content : Option (List ℕ)) (bytes : List ℕ) (P : List ℕ → Type 0) → content ≡ Some bytes → IfSome content P → P bytes
 told content bytes P same is = subst (λ (c : Option (List ℕ)). IfSome c P) same is
 
-module _ {D : Type 0} (disk : Ghosts D) (network : Network) (size : length (digest_of network) ≡ DIGEST_BYTES) (was left : D) (entries : List Entry) (bytes : List ℕ) (reads : disk.content was ≡ Some bytes)
+module _ {D : Type 0} (disk : Ghosts D) (network : Network) (was left : D) (entries : List Entry) (bytes : List ℕ) (reads : disk.content was ≡ Some bytes)
     (stands : StandsForPart network entries bytes) (sound : IsSound network 0 entries) where
   refused : (fault : StoreFault) → Moves disk was network entries left (Err (Store fault)) → HasEnough (Err (Store fault)) → ⊥
   refused store.Disk moves enough = enough
   refused store.Memory moves enough = enough
   refused (store.Other kept given) moves enough =
       let is = told (disk.content was) bytes (λ b. IsRecoveredAs network b (other kept)) reads moves.0.2 in
-      let same : other kept ≡ listed stands.0 = recovered_once network bytes (other kept) (listed stands.0) size is stands.2 in
+      let same : other kept ≡ listed stands.0 = recovered_once network bytes (other kept) (listed stands.0) is stands.2 in
       absurd (cc same)
   refused (store.Damaged at) moves enough =
       let is = told (disk.content was) bytes (λ b. IsRecoveredAs network b (damaged at)) reads moves.0.1 in
-      let same : damaged at ≡ listed stands.0 = recovered_once network bytes (damaged at) (listed stands.0) size is stands.2 in
+      let same : damaged at ≡ listed stands.0 = recovered_once network bytes (damaged at) (listed stands.0) is stands.2 in
       absurd (cc same)
 
   -- it does not differ
   no_other : (place : ℕ) (one : Entry) → slice_get entries place ≢ Some one → (take place entries ++ one ∷ [] ≡ []) ⊎ BeginsWith (digest_of network) (take place entries ++ one ∷ []) bytes → ⊥
   no_other place one differs (inl none) = absurd (omega (arith, ap length none, length-append (take place entries) (one ∷ [])))
   no_other place one differs (inr begun) =
-      let had = begins_list (digest_of network) bytes (take place entries ++ one ∷ []) stands.0 size begun begun.rest refl (list_of_history network stands.0 bytes stands.2) in
+      let had = begins_list (digest_of network) bytes (take place entries ++ one ∷ []) stands.0 (digest_size network) begun begun.rest refl (list_of_history network stands.0 bytes stands.2) in
       differs (next_at entries place one (prefix_then (take place entries ++ one ∷ []) stands.0 entries had stands.1))
 
   pub complete : (result : Result ℕ MoveFault) → Moves disk was network entries left result → HasEnough result → IsOk result

@@ -3,7 +3,7 @@ mod Changes
 mod Collected
 mod Committed
 mod Compared
-mod Complete
+pub mod Complete
 mod Parts
 mod Readings
 mod Renumbered

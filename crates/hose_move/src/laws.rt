@@ -9,7 +9,6 @@ ghost use Rattle.hose_move.specs.declared.fault.MoveFault.{MoveFault};
 
 use hose_disk::Disk;
 use hose_graph::Topology;
-use hose_topo::digest;
 
 /// Where the disk stood for a part of the entries, and each of them is sound, a move ends with all
 /// of them, but for a fault of the disk or want of memory.
@@ -18,10 +17,7 @@ pub fn law_complete<D: Disk>(top: &Topology)
         (result : Result ℕ MoveFault) → Moves D.Disk was top.now entries left result →
         D.content was ≡ Some bytes → StandsForPart top.now entries bytes →
         IsSound top.now 0 entries → HasEnough result → IsOk result }
-{
-    // That a digest has 32 bytes is told by the call that makes one.
-    let _digest = digest(top);
-}
+{}
 
 /// What is live at a book leads to this book with other numbers: the same VPNs in the same order,
 /// numbered from 1 on, as they stand; each link carries what it did, and the same links are out.

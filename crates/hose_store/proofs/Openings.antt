@@ -47,9 +47,9 @@ pub other_begun : (digest kept bytes : List ℕ) → IsOther digest kept bytes �
 other_begun digest kept bytes is = head_begun bytes is.version kept is.rest is.size is.some is.is
 
 -- what is damaged is no journal without an entry
-pub damaged_not_empty : (top : Network) (bytes : List ℕ) (at : ℕ) → length (digest_of top) ≡ DIGEST_BYTES → IsRecoveredAs top bytes (damaged at) → ¬ IsListOf (digest_of top) [] bytes
-damaged_not_empty top bytes at size is list =
-    let same : damaged at ≡ listed [] = recovered_once top bytes (damaged at) (listed []) size is (history_of_list top [] bytes tt list) in
+pub damaged_not_empty : (top : Network) (bytes : List ℕ) (at : ℕ) → IsRecoveredAs top bytes (damaged at) → ¬ IsListOf (digest_of top) [] bytes
+damaged_not_empty top bytes at is list =
+    let same : damaged at ≡ listed [] = recovered_once top bytes (damaged at) (listed []) is (history_of_list top [] bytes tt list) in
     absurd cc
 
 none_of : (content : Option (List ℕ)) → is_some content ≡ false → content ≡ None
@@ -143,9 +143,9 @@ module _ {D : Type 0} (disk : Ghosts D) where
   refused_entries old mid new top (store.Other kept given) size untold keeps list same run stopped = absurd stopped
   refused_entries old mid new top (store.Damaged at) size untold keeps list same run stopped =
       let digest = digest_of top in
-      let told = kept_from (disk.content old) (disk.content mid) digest (λ bytes. IsRecoveredAs top bytes (damaged at)) keeps.tells list (λ bytes is. damaged_not_empty top bytes at size is) stopped in (
+      let told = kept_from (disk.content old) (disk.content mid) digest (λ bytes. IsRecoveredAs top bytes (damaged at)) keeps.tells list (λ bytes is. damaged_not_empty top bytes at is) stopped in (
         unchanged old new digest untold (ap is_some same ∙ keeps.tells) run
-            (told_each (disk.content old) (λ bytes. IsRecoveredAs top bytes (damaged at)) (λ bytes. ¬ IsUnbegun bytes) (λ bytes is unbegun. damaged_not_empty top bytes at size is (inl (unbegun, refl))) told),
+            (told_each (disk.content old) (λ bytes. IsRecoveredAs top bytes (damaged at)) (λ bytes. ¬ IsUnbegun bytes) (λ bytes is unbegun. damaged_not_empty top bytes at is (inl (unbegun, refl))) told),
         told,
       )
   refused_entries old mid new top store.Memory size untold keeps list same run stopped =

@@ -17,17 +17,13 @@ ghost use Rattle.hose_store.specs.steps.Store.{KeptStore};
 
 use hose_disk::Disk;
 use hose_graph::Topology;
-use hose_topo::digest;
 
 /// An image is recovered as one thing only: a history, the journal of one other topology, or damage
 /// at one place.
 pub fn law_one_meaning(top: &Topology)
     ensures { (image : List ℕ) → (one other : Meaning Entry) →
         IsRecoveredAs top.now image one → IsRecoveredAs top.now image other → one ≡ other }
-{
-    // That a digest has 32 bytes is told by the call that makes one.
-    let _digest = digest(top);
-}
+{}
 
 /// What is fixed in the laws of runs: what an entry may be at a book of a network, as sound or
 /// decided.
