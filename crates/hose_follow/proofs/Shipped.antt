@@ -1,11 +1,10 @@
 -- What the packets of entries come to.
-use Rattle.std.proofs.Common.{◌≡◌, ◌⊎◌, ◌∙◌, ℕ, zero, suc, ◌+◌, ◌-◌, ◌<◌, ◌≤◌, List, [], ◌∷◌, ◌++◌, Option, None, Some, Result, Ok, Err, refl, sym, inl, inr, ap, arith, subst, drop, length, append_assoc, append-nil, length-append, ⊎_elim}
-use Rattle.std.specs.Prelude.{⊤}
-use Rattle.std.proofs.lemmas.Bool.{cases_lt}
+use Rattle.std.proofs.Common.{◌≡◌, ◌⊎◌, ◌∙◌, ℕ, zero, suc, ◌+◌, ◌-◌, ◌<◌, ◌≤◌, List, [], ◌∷◌, ◌++◌, Option, None, Some, Result, Ok, Err, refl, sym, inl, inr, ap, arith, subst, drop, length, append_assoc, append-nil, length-append}
+use Rattle.std.specs.Prelude.{⊤, IsErr}
 use Rattle.std.proofs.lemmas.Grind.{flat_map-append}
 use Rattle.std.proofs.lemmas.List.{drop-append-le, drop_all, length-drop}
 use Rattle.std.specs.Option.{IfSome}
-use Rattle.hose_io.specs.Frame.{Stays}
+use Rattle.hose_io.specs.Frame.{Frame, Met}
 use Rattle.hose_io.specs.steps.Gather.{Gathered, IsAdded, IsFinished}
 use Rattle.hose_io.specs.declared.Failed.{Failed}
 use Rattle.hose_io.specs.Stream.{Grows}
@@ -29,8 +28,9 @@ use Rattle.hose_store.specs.Replaying.{IsOnlyOpened, KeepsRead}
 use Rattle.hose_store.specs.steps.Replaying.{HasReplayed, IsReplaying}
 use Rattle.hose_store.specs.declared.fault.StoreFault.{StoreFault}
 use Rattle.hose_store.specs.declared.replay.Replay.{Replay}
+use Rattle.hose_follow.specs.Follower.{Faulted}
 use Rattle.hose_follow.specs.Packet.{Packet, packet_after, packet_bytes, packets_after, packets_bytes, packets_from}
-use Rattle.hose_follow.specs.steps.Shipping.{AddsAll, HasAdded, HasAddedAll, HasAddedUpTo, Ships, ShipsUpTo, shipped_of}
+use Rattle.hose_follow.specs.steps.Shipping.{AddsAll, HasAdded, HasAddedAll, HasAddedUpTo, Outgoing, Shipment, Ships, ShipsUpTo, outgoing, shipment, shipped_of}
 
 drop_none : {X : Type 0} (n : ℕ) (none : List X) → none ≡ [] → drop n none ≡ []
 drop_none zero none is = is
@@ -71,6 +71,10 @@ bytes_push packets packet = flat_map-append packet_bytes packets (packet ∷ [])
 pub count_of : (network : Network) (from : ℕ) (entries : List Entry) → length (packets_from network from entries) ≡ length entries - (from - 1)
 count_of network from entries = length-drop (from - 1) (packets_after network [] entries) ∙ ap (λ (n : ℕ). n - (from - 1)) (length-packets network [] entries)
 
+-- a call that failed
+faulted : {T : Type 0} {before after : Frame} {result : Result T Failed} → Met before after result → IsErr result → Faulted before after
+faulted met failed = record { rose = met.failed failed; stays = met.stays }
+
 -- ---- what was read
 
 none_held : (network : Network) (content : Option (List ℕ)) (none : List Entry) → none ≡ [] → IfSome content (λ bytes. (none ≡ []) ⊎ BeginsWith (digest_of network) none bytes)
@@ -83,7 +87,7 @@ no_entries network content = record { sound = tt; read = none_held network conte
 
 module _ {S D : Type 0} (sink : SinkGhosts S) (disk : DiskGhosts D) where
   -- no packet is out
-  pub none_shipped : (output : S) (was : D) (network : Network) (from : ℕ) → ShipsUpTo disk was network from (Grows (sink.content output) (sink.content output))
+  pub none_shipped : (output : S) (was : D) (network : Network) (from : ℕ) → ShipsUpTo disk (shipment was network from) (Grows (sink.content output) (sink.content output))
   none_shipped output was network from = record {
     entries = [];
     held = no_entries network (disk.content was);
@@ -103,17 +107,20 @@ module _ {S D : Type 0} (sink : SinkGhosts S) (disk : DiskGhosts D) where
       closed (Some bytes) is = inr is
 
   module _ (was : D) (network : Network) (from : ℕ) where
+    abbrev ships : Shipment D
+    ships = shipment was network from
+
     -- before the first entry
-    pub added_none : (replay : Replay D) (gather : Gathered) (output : S) → IsReplaying disk was network replay [] → HasAdded sink disk was network from gather output replay gather output
+    pub added_none : (replay : Replay D) (gather : Gathered) (output : S) → IsReplaying disk was network replay [] → HasAdded sink disk ships (outgoing gather output) replay (outgoing gather output)
     added_none replay gather output replaying = record {
       entries = [];
       replaying = replaying;
       added = subst (λ (packets : List Packet). IsAdded sink gather output gather output (packets_bytes packets)) (sym (drop_none (from - 1) [] refl)) (IsAdded-none sink gather output);
     }
 
-    module _ (start : Gathered) (before : S) (old : Replay D) (gather : Gathered) (output : S) (has : HasAdded sink disk was network from start before old gather output) where
+    module _ (start : Outgoing S) (old : Replay D) (gather : Gathered) (output : S) (has : HasAdded sink disk ships start old (outgoing gather output)) where
       -- no entry was left
-      pub added_all : (new : Replay D) → HasEntries network (disk.content was) has.entries → HasReplayed disk was network new has.entries (Ok None) → HasAddedAll sink disk was network from start before new gather output
+      pub added_all : (new : Replay D) → HasEntries network (disk.content was) has.entries → HasReplayed disk was network new has.entries (Ok None) → HasAddedAll sink disk ships start new (outgoing gather output)
       added_all new held (replaying, read, count, opened, kept) = record {
         has = record { entries = has.entries; replaying = replaying; added = has.added };
         held = held;
@@ -124,7 +131,7 @@ module _ {S D : Type 0} (sink : SinkGhosts S) (disk : DiskGhosts D) where
       }
 
       -- a fault was met
-      pub added_until : (new : Replay D) (fault : StoreFault) → HasEntries network (disk.content was) has.entries → HasReplayed disk was network new has.entries (Err fault) → HasAddedUpTo sink disk was network from start before new.reading.disk gather output fault
+      pub added_until : (new : Replay D) (fault : StoreFault) → HasEntries network (disk.content was) has.entries → HasReplayed disk was network new has.entries (Err fault) → HasAddedUpTo sink disk ships start new.reading.disk (outgoing gather output) fault
       added_until new fault held (refused, opened, kept) = record {
         entries = has.entries;
         held = held;
@@ -134,58 +141,45 @@ module _ {S D : Type 0} (sink : SinkGhosts S) (disk : DiskGhosts D) where
         kept = kept;
       }
 
-      -- one entry more was read
-      pub added_more : (new : Replay D) (ready : Ready) (after : Gathered) (now : S) (epoch : ℕ) (value : List ℕ) → HasReplayed disk was network new has.entries (Ok (Some ready)) → epoch ≡ length has.entries + 1 → value ≡ chain (digest_of network) has.entries
-          → (from ≤ epoch → IsAdded sink gather output after now (packet_bytes (record { epoch = epoch; chain = value; body = ready.bytes.items }))) → (epoch < from → (after ≡ gather) × (now ≡ output))
-          → HasAdded sink disk was network from start before new after now
-      added_more new ready after now epoch value (entry, is_ready, replaying) is_epoch is_value wanted passed =
-          ⊎_elim
-          (λ high. by_passed (passed high) high)
-          (λ low. by_wanted (wanted low) low)
-          (cases_lt epoch from)
-        where
-          is_packet : packet_bytes (record { epoch = epoch; chain = value; body = ready.bytes.items }) ≡ packet_bytes (packet_after network has.entries entry)
-          is_packet =
-              ap (λ (n : ℕ). packet_bytes (record { epoch = n; chain = value; body = ready.bytes.items })) is_epoch
-              ∙ ap (λ (l : List ℕ). packet_bytes (record { epoch = length has.entries + 1; chain = l; body = ready.bytes.items })) is_value
-              ∙ ap (λ (l : List ℕ). packet_bytes (record { epoch = length has.entries + 1; chain = chain (digest_of network) has.entries; body = l })) is_ready.bytes
+      -- one entry more was read, which is wanted
+      pub added_wanted : (new : Replay D) (ready : Ready) (after : Gathered) (now : S) (epoch : ℕ) (value : List ℕ) → HasReplayed disk was network new has.entries (Ok (Some ready)) → epoch ≡ length has.entries + 1 → value ≡ chain (digest_of network) has.entries
+          → from ≤ epoch → IsAdded sink gather output after now (packet_bytes (record { epoch = epoch; chain = value; body = ready.bytes.items })) → HasAdded sink disk ships start new (outgoing after now)
+      added_wanted new ready after now epoch value (entry, is_ready, replaying) is_epoch is_value low added =
+          let is_packet : packet_bytes (record { epoch = epoch; chain = value; body = ready.bytes.items }) ≡ packet_bytes (packet_after network has.entries entry) =
+          ap (λ (n : ℕ). packet_bytes (record { epoch = n; chain = value; body = ready.bytes.items })) is_epoch
+          ∙ ap (λ (l : List ℕ). packet_bytes (record { epoch = length has.entries + 1; chain = l; body = ready.bytes.items })) is_value
+          ∙ ap (λ (l : List ℕ). packet_bytes (record { epoch = length has.entries + 1; chain = chain (digest_of network) has.entries; body = l })) is_ready.bytes in
+          let one = subst (λ (l : List ℕ). IsAdded sink gather output after now l) is_packet added in
+          let text : packets_bytes (packets_from network from (has.entries ++ entry ∷ [])) ≡ packets_bytes (packets_from network from has.entries) ++ packet_bytes (packet_after network has.entries entry) =
+          ap packets_bytes (wanted_more network from has.entries entry (omega (arith, low, is_epoch))) ∙ bytes_push (packets_from network from has.entries) (packet_after network has.entries entry) in
+          record {
+            entries = has.entries ++ entry ∷ [];
+            replaying = replaying;
+            added = subst (λ (l : List ℕ). IsAdded sink start.gather start.sink after now l) (sym text) (IsAdded-next has.added one);
+          }
 
-          by_wanted : IsAdded sink gather output after now (packet_bytes (record { epoch = epoch; chain = value; body = ready.bytes.items })) → from ≤ epoch → HasAdded sink disk was network from start before new after now
-          by_wanted added low =
-              let one = subst (λ (l : List ℕ). IsAdded sink gather output after now l) is_packet added in
-              let text : packets_bytes (packets_from network from (has.entries ++ entry ∷ [])) ≡ packets_bytes (packets_from network from has.entries) ++ packet_bytes (packet_after network has.entries entry) =
-              ap packets_bytes (wanted_more network from has.entries entry (omega (arith, low, is_epoch))) ∙ bytes_push (packets_from network from has.entries) (packet_after network has.entries entry) in
-              record {
-                entries = has.entries ++ entry ∷ [];
-                replaying = replaying;
-                added = subst (λ (l : List ℕ). IsAdded sink start before after now l) (sym text) (IsAdded-next has.added one);
-              }
-
-          by_passed : (after ≡ gather) × (now ≡ output) → epoch < from → HasAdded sink disk was network from start before new after now
-          by_passed same high =
-              let text = ap packets_bytes (passed_more network from has.entries entry (omega (arith, high, is_epoch))) in
-              let here = subst (λ (g : Gathered). IsAdded sink start before g output (packets_bytes (packets_from network from has.entries))) (sym same.0) has.added in
-              let there = subst (λ (s : S). IsAdded sink start before after s (packets_bytes (packets_from network from has.entries))) (sym same.1) here in
-              record {
-                entries = has.entries ++ entry ∷ [];
-                replaying = replaying;
-                added = subst (λ (l : List ℕ). IsAdded sink start before after now l) (sym text) there;
-              }
+      -- one entry more was read, which is passed over
+      pub added_passed : (new : Replay D) (ready : Ready) (epoch : ℕ) → HasReplayed disk was network new has.entries (Ok (Some ready)) → epoch ≡ length has.entries + 1 → epoch < from → HasAdded sink disk ships start new (outgoing gather output)
+      added_passed new ready epoch (entry, is_ready, replaying) is_epoch high = record {
+        entries = has.entries ++ entry ∷ [];
+        replaying = replaying;
+        added = subst (λ (l : List ℕ). IsAdded sink start.gather start.sink gather output l) (sym (ap packets_bytes (passed_more network from has.entries entry (omega (arith, high, is_epoch))))) has.added;
+      }
 
     -- ---- all that was added went out
 
     module _ (replay : Replay D) (gather : Gathered) (first after now : S) where
       abbrev Adds : Result ⊤ StoreFault → Type 0
-      Adds added = AddsAll sink disk was network from none_gathered first replay gather after added
+      Adds added = AddsAll sink disk ships (outgoing none_gathered first) replay (outgoing gather after) added
 
       pub shipped : (added : Result ⊤ StoreFault) (sent : Result ⊤ Failed) (count : ℕ) → Adds added → IsFinished sink gather after now sent → ((entries : List Entry) → IsReplaying disk was network replay entries → count ≡ length entries - (from - 1))
-          → Ships sink disk first now was replay.reading.disk network from (shipped_of added sent count)
+          → Ships sink disk first now ships replay.reading.disk (shipped_of added sent count)
       shipped (Ok value) (Err error) count all finished counted =
           let put = IsPut-finished (Err error) all.has.added finished in
-          (record { entries = all.has.entries; held = all.held; out = put.err }, put.met.failed refl, all.kept)
+          (record { entries = all.has.entries; held = all.held; out = put.err }, faulted put.met refl, all.kept)
       shipped (Err fault) (Err error) count up finished counted =
           let put = IsPut-finished (Err error) up.added finished in
-          (record { entries = up.entries; held = up.held; out = put.err }, put.met.failed refl, up.kept)
+          (record { entries = up.entries; held = up.held; out = put.err }, faulted put.met refl, up.kept)
       shipped (Ok value) (Ok done) count all finished counted =
           let put = IsPut-finished (Ok done) all.has.added finished in (
             record {
@@ -205,7 +199,3 @@ module _ {S D : Type 0} (sink : SinkGhosts S) (disk : DiskGhosts D) where
       pub shipped_opened : (added : Result ⊤ StoreFault) → Adds added → IsOnlyOpened disk was replay.reading.disk network
       shipped_opened (Ok value) all = all.opened
       shipped_opened (Err fault) up = up.opened
-
-      pub shipped_stays : (added : Result ⊤ StoreFault) (sent : Result ⊤ Failed) → Adds added → IsFinished sink gather after now sent → Stays (sink.frame first) (sink.frame now)
-      shipped_stays (Ok value) sent all finished = (IsPut-finished sent all.has.added finished).met.stays
-      shipped_stays (Err fault) sent up finished = (IsPut-finished sent up.added finished).met.stays

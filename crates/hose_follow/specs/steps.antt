@@ -6,6 +6,7 @@ pub mod Chained
 pub mod Ends
 pub mod Event
 pub mod Exchanging
+pub mod Follower
 pub mod Offering
 pub mod Replication
 pub mod Shipping

@@ -1,9 +1,9 @@
 // Packets of an input, each offered and answered.
 ghost use Rattle.std.specs.Prelude.{◌≡◌, ◌<◌, ◌≤◌, [], List, ℕ, length};
-ghost use Rattle.hose_io.specs.Frame.{Stays};
 ghost use Rattle.hose_follow.specs.steps.Ends.{FollowsInput};
+ghost use Rattle.hose_follow.specs.steps.Exchanging.{AdvancesTo, TakesMore, TakesPart, follow_state, input_state};
+ghost use Rattle.hose_follow.specs.steps.Follower.{follower, follower_tellings};
 ghost use Rattle.hose_follow.specs.Packet.{IsPartOfPacket};
-ghost use Rattle.hose_follow.specs.steps.Exchanging.{TakesMore, TakesPart, AdvancesTo};
 ghost use Rattle.hose_follow.specs.declared.following.FollowEnd.TheVariants.{Write};
 ghost use Rattle.hose_follow.specs.declared.packet.TheConstants.{MOST_PACKET};
 ghost use Rattle.hose_follow.specs.Layout.{follow_limit};
@@ -66,10 +66,8 @@ pub fn follow<S: Source, O: Sink, D: Disk>(
     sink: &mut O,
     store: &mut Store<D>,
 ) -> FollowEnd
-    ensures follows { FollowsInput S.Source O.Sink D.Disk source.old source.new sink.old sink.new
-        store.old store.new result }
-    ensures source { Stays (S.frame source.old) (S.frame source.new) }
-    ensures sink { Stays (O.frame sink.old) (O.frame sink.new) }
+    ensures { FollowsInput (follower_tellings S.Source O.Sink D.Disk)
+        (follower source.old sink.old store.old) (follower source.new sink.new store.new) result }
 {
     let Ok(buffer) = Buffer::new(alloc) else {
         return FollowEnd::Memory;
@@ -88,10 +86,8 @@ fn follow_all<S: Source, O: Sink, D: Disk>(
 ) -> FollowEnd
     requires pending { intake.old.buffer.pending ≡ [] }
     requires taken { intake.old.taken ≡ 0 }
-    ensures follows { FollowsInput S.Source O.Sink D.Disk source.old source.new sink.old sink.new
-        store.old store.new result }
-    ensures source { Stays (S.frame source.old) (S.frame source.new) }
-    ensures sink { Stays (O.frame sink.old) (O.frame sink.new) }
+    ensures { FollowsInput (follower_tellings S.Source O.Sink D.Disk)
+        (follower source.old sink.old store.old) (follower source.new sink.new store.new) result }
 {
     loop {
         if let Err(end) = exchange(alloc, intake, source, sink, store) {
@@ -110,23 +106,9 @@ fn exchange<S: Source, O: Sink, D: Disk>(
 ) -> Result<(), FollowEnd>
     requires limit { intake.old.taken ≤ INPUT_LIMIT }
     requires pending { length intake.old.buffer.pending ≤ intake.old.taken }
-    ensures exchanges { AdvancesTo S.Source O.Sink D.Disk
-        (record {
-          source = source.old;
-          pending = intake.old.buffer.pending;
-          taken = intake.old.taken;
-          sink = sink.old;
-          store = store.old;
-        })
-        (record {
-          source = source.new;
-          pending = intake.new.buffer.pending;
-          taken = intake.new.taken;
-          sink = sink.new;
-          store = store.new;
-        }) result }
-    ensures source { Stays (S.frame source.old) (S.frame source.new) }
-    ensures sink { Stays (O.frame sink.old) (O.frame sink.new) }
+    ensures { AdvancesTo (follower_tellings S.Source O.Sink D.Disk)
+        (follow_state source.old intake.old sink.old store.old)
+        (follow_state source.new intake.new sink.new store.new) result }
 {
     let pending = intake.buffer.pending();
     match front_of(pending) {
@@ -149,9 +131,8 @@ fn take_part<S: Source>(intake: &mut Intake, source: &mut S) -> Result<(), Follo
     requires part { IsPartOfPacket intake.old.buffer.pending }
     requires limit { intake.old.taken ≤ INPUT_LIMIT }
     requires pending { length intake.old.buffer.pending ≤ intake.old.taken }
-    ensures takes { TakesPart S.Source source.old source.new intake.old.buffer.pending
-        intake.new.buffer.pending intake.old.taken intake.new.taken result }
-    ensures source { Stays (S.frame source.old) (S.frame source.new) }
+    ensures { TakesPart S.Source (input_state source.old intake.old)
+        (input_state source.new intake.new) result }
 {
     if take_more(intake, source)? {
         return Ok(());
@@ -169,9 +150,8 @@ fn take_part<S: Source>(intake: &mut Intake, source: &mut S) -> Result<(), Follo
 fn take_more<S: Source>(intake: &mut Intake, source: &mut S) -> Result<bool, FollowEnd>
     requires room { length intake.old.buffer.pending < MOST_PACKET }
     requires limit { intake.old.taken ≤ INPUT_LIMIT }
-    ensures takes { TakesMore S.Source source.old source.new intake.old.buffer.pending
-        intake.new.buffer.pending intake.old.taken intake.new.taken result }
-    ensures source { Stays (S.frame source.old) (S.frame source.new) }
+    ensures { TakesMore S.Source (input_state source.old intake.old)
+        (input_state source.new intake.new) result }
 {
     if intake.taken == INPUT_LIMIT {
         return take_past_limit(source);
@@ -192,9 +172,9 @@ fn take_more<S: Source>(intake: &mut Intake, source: &mut S) -> Result<bool, Fol
 
 // Where all was taken that may be, one byte more is too many.
 fn take_past_limit<S: Source>(source: &mut S) -> Result<bool, FollowEnd>
-    ensures takes { (pending : List ℕ) → TakesMore S.Source source.old source.new pending pending
-        INPUT_LIMIT INPUT_LIMIT result }
-    ensures source { Stays (S.frame source.old) (S.frame source.new) }
+    ensures { (pending : List ℕ) → TakesMore S.Source
+        (record { source = source.old; pending = pending; taken = INPUT_LIMIT })
+        (record { source = source.new; pending = pending; taken = INPUT_LIMIT }) result }
 {
     let mut byte = [0];
     match source.take(&mut byte) {

@@ -15,7 +15,7 @@ ghost use Rattle.hose_follow.specs.declared.answers.Offered.{Offered};
 
 use hose_disk::Disk;
 use hose_graph::Topology;
-use hose_store::{Premises, law_one_meaning};
+use hose_store::Premises;
 
 /// Whatever a leader and its follower do, whenever the follower is stopped or closed, and whatever
 /// becomes of the packets between them and of the follower's disk: the follower has a beginning of
@@ -52,10 +52,7 @@ pub fn law_following<D: Disk>(top: &Topology)
     ensures never_unsound { (state : Replication D) → (packet : Packet) → (epoch : ℕ) →
         (left : KeptStore D) → IsFollowing D.Disk top.now state → Contains state.sent packet →
         ¬ IsOffered D.Disk state.store packet (Offered.Unsound epoch) left }
-{
-    // What an image stands for, it stands for alone.
-    law_one_meaning(top);
-}
+{}
 
 /// What is told of each entry that a follower enters, whoever sent it: it is sound.
 pub struct Sound;

@@ -1,20 +1,16 @@
 // The entries of a journal, sent on as packets.
-ghost use Rattle.std.specs.Prelude.{◌≡◌, ◌+◌, ◌<◌, ◌≤◌, [], List, Ok, length, true};
+ghost use Rattle.std.specs.Prelude.{◌≡◌, ◌+◌, ◌≤◌, [], List, Ok, true};
 ghost use Rattle.hose_graph.specs.Network.{Network};
 ghost use Rattle.hose_graph.specs.declared.entry.Entry.{Entry};
-ghost use Rattle.hose_io.specs.Frame.{Stays};
-ghost use Rattle.hose_io.specs.steps.Gather.{Gathered, IsAdded};
-ghost use Rattle.hose_codec.specs.declared.limits.TheConstants.{MOST_SPELLING};
 ghost use Rattle.hose_law.specs.History.{last_epoch};
 ghost use Rattle.hose_journal.specs.Moments.{LeavesOnly};
 ghost use Rattle.hose_journal.specs.Opening.{KeepsDisk};
 ghost use Rattle.hose_store.specs.Opening.{IsAtOpening};
 ghost use Rattle.hose_store.specs.Replaying.{IsOnlyOpened};
 ghost use Rattle.hose_store.specs.steps.Replaying.{IsReplaying};
-ghost use Rattle.hose_follow.specs.Packet.{packet_bytes};
-ghost use Rattle.hose_follow.specs.steps.Shipping.{AddsAll, AddsNext, HasAdded, Ships, shipped_of};
+ghost use Rattle.hose_follow.specs.steps.Shipping.{AddsAll, AddsNext, HasAdded, Outgoing, Ships, outgoing, shipment, shipped_of};
 
-use crate::packet::{VALUE_BYTES, add_packet};
+use crate::packet::add_packet;
 use hose_disk::Disk;
 use hose_graph::Topology;
 use hose_io::{Failed, Gather, Sink};
@@ -40,10 +36,10 @@ pub fn ship<S: Sink, D: Disk>(
     top: &Topology,
     from: u64,
 ) -> (Result<u64, ShipFault>, D)
-    ensures ships { Ships S.Sink D.Disk sink.old sink.new disk result.1 top.now from result.0 }
+    ensures ships { Ships S.Sink D.Disk sink.old sink.new (shipment disk top.now from) result.1
+        result.0 }
     ensures any_moment { LeavesOnly D.Disk disk result.1 (IsAtOpening D.Disk disk top.now) }
     ensures keeps { KeepsDisk D.Disk disk result.1 }
-    ensures sink { Stays (S.frame sink.old) (S.frame sink.new) }
 {
     let Ok(topology) = top.copy(alloc) else {
         return (Err(ShipFault::Store(StoreFault::Memory)), disk);
@@ -65,11 +61,11 @@ fn ship_all<S: Sink, D: Disk>(
     requires { (was : D) × (network : Network) × IsReplaying D.Disk was network replay.old [] }
     ensures ships { (was : D) → (network : Network) →
         IsReplaying D.Disk was network replay.old [] →
-        Ships S.Sink D.Disk sink.old sink.new was replay.new.reading.disk network from result }
+        Ships S.Sink D.Disk sink.old sink.new (shipment was network from)
+        replay.new.reading.disk result }
     ensures opened { (was : D) → (network : Network) →
         IsReplaying D.Disk was network replay.old [] →
         IsOnlyOpened D.Disk was replay.new.reading.disk network }
-    ensures sink { Stays (S.frame sink.old) (S.frame sink.new) }
 {
     let mut gather = Gather::new();
     let added = add_all(replay, &mut gather, sink, from);
@@ -102,8 +98,8 @@ fn add_all<S: Sink, D: Disk>(
 ) -> Result<(), StoreFault>
     requires { (was : D) × (network : Network) × IsReplaying D.Disk was network replay.old [] }
     ensures { (was : D) → (network : Network) → IsReplaying D.Disk was network replay.old [] →
-        AddsAll S.Sink D.Disk was network from gather.old sink.old
-        replay.new gather.new sink.new result }
+        AddsAll S.Sink D.Disk (shipment was network from) (outgoing gather.old sink.old)
+        replay.new (outgoing gather.new sink.new) result }
 {
     while add_next(replay, gather, sink, from)? {}
     Ok(())
@@ -118,11 +114,11 @@ fn add_next<S: Sink, D: Disk>(
 ) -> Result<bool, StoreFault>
     requires { (was : D) × (network : Network) × (entries : List Entry)
         × IsReplaying D.Disk was network replay.old entries }
-    ensures adds { (was : D) → (network : Network) → (start : Gathered) → (before : S) →
-        HasAdded S.Sink D.Disk was network from start before
-        replay.old gather.old sink.old →
-        AddsNext S.Sink D.Disk was network from start before
-        replay.new gather.new sink.new result }
+    ensures adds { (was : D) → (network : Network) → (start : Outgoing S) →
+        HasAdded S.Sink D.Disk (shipment was network from) start
+        replay.old (outgoing gather.old sink.old) →
+        AddsNext S.Sink D.Disk (shipment was network from) start
+        replay.new (outgoing gather.new sink.new) result }
     ensures more { result ≡ Ok true →
         (replay.new.book.book.epoch ≡ replay.old.book.book.epoch + 1)
         × (replay.new.book.book.epoch ≤ last_epoch) }
@@ -132,26 +128,9 @@ fn add_next<S: Sink, D: Disk>(
     let Some(ready) = replay.next()? else {
         return Ok(false);
     };
-    add_wanted(gather, sink, from, epoch, &value, &ready.bytes);
-    Ok(true)
-}
-
-// Adds a packet where its epoch is not below the one from which they are wanted.
-fn add_wanted<S: Sink>(
-    gather: &mut Gather,
-    sink: &mut S,
-    from: u64,
-    epoch: u64,
-    chain: &[u8; VALUE_BYTES],
-    body: &[u8],
-)
-    requires short { length body.now ≤ MOST_SPELLING }
-    requires epoch { epoch ≤ last_epoch + 1 }
-    ensures wanted { from ≤ epoch → IsAdded S.Sink gather.old sink.old gather.new sink.new
-        (packet_bytes (record { epoch = epoch; chain = chain.now; body = body.now })) }
-    ensures passed { epoch < from → (gather.new ≡ gather.old) × (sink.new ≡ sink.old) }
-{
-    if epoch >= from {
-        add_packet(gather, sink, epoch as u32, chain, body);
+    if epoch < from {
+        return Ok(true);
     }
+    add_packet(gather, sink, epoch as u32, &value, &ready.bytes);
+    Ok(true)
 }

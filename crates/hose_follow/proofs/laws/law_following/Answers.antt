@@ -1,3 +1,4 @@
+use Rattle.hose_store.proofs.OneMeaning.{recovered_once}
 use Rattle.hose_follow.proofs.Follows.{begun, closing_image, follows, image_of, legal, moment_of, never_differs, never_unsound}
 use Rattle.hose_follow.proofs.laws.law_following.Goals as goal
 
@@ -6,7 +7,7 @@ returns-clause-begins g c = λ state beginning. begun g.D.Disk c.args.top.now st
 
 pub returns-clause-stays : goal.returns-clause-stays
 returns-clause-stays g c = λ old new events following lead.
-    follows g.D.Disk c.args.top.now c.law_one_meaning.ensures g.met.D.Disk.only_now old new events following lead
+    follows g.D.Disk c.args.top.now (recovered_once c.args.top.now) g.met.D.Disk.only_now old new events following lead
 
 pub returns-clause-legal : goal.returns-clause-legal
 returns-clause-legal g c = λ state following. legal g.D.Disk c.args.top.now state following

@@ -12,15 +12,15 @@ add_next-requires g c =
 
 pub loop-preserved : goal.loop-preserved
 loop-preserved g c = λ was network replaying.
-    let next = c.in_ok-add_next.ensures.adds was network _ _ (c.loop.invariant was network replaying) in
+    let next = c.in_ok-add_next.ensures.adds was network _ (c.loop.invariant was network replaying) in
     rw c.if-branch.true at next
 
 pub returns : goal.returns
 returns g c = λ was network replaying.
-    let next = c.in_ok-add_next.ensures.adds was network _ _ (c.loop.invariant was network replaying) in
+    let next = c.in_ok-add_next.ensures.adds was network _ (c.loop.invariant was network replaying) in
     rw c.if-branch.false at next
 
 pub returns-in_err-add_next : goal.returns-in_err-add_next
 returns-in_err-add_next g c = λ was network replaying.
     let told = err_from_is_err_and c.from_residual.result c.from_residual.ensures.1 in
-    rw (told.1, told.2) (c.in_err-add_next.ensures.adds was network _ _ (c.loop.invariant was network replaying))
+    rw (told.1, told.2) (c.in_err-add_next.ensures.adds was network _ (c.loop.invariant was network replaying))
