@@ -52,7 +52,7 @@ module _ {K R : Type 0} (books : Ghosts K R) (old new : K) (customer : List ℕ)
 
   -- which is that of the admission
   pub claimed_admits : (known : Option ℕ) (claim : Claim K R) → HasNewest was.book customer known → IsClaimOf books claim customer quote → is_stale answer ≡ false → AdmitsCheapest was.network was.book quote.hose answer
-      → TellsPlan quote.amounts quote.cost answer → HaveAnswered books old new answer → AdmitsAtOnce books old new customer known quote.hose answer (Some claim.entry)
+      → TellsPlan quote.amounts quote.cost answer → HaveAnswered books old new answer → AdmitsAtOnce books old new customer (record { known = known; hose = quote.hose }) answer (Some claim.entry)
   claimed_admits known claim newest of_quote fresh cheapest tells answered = record {
     step = λ epoch history held here. admit_step books old new epoch history customer held known quote.hose here newest answer (fresh_answers fresh);
     cheapest = cheapest;

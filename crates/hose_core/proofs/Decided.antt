@@ -24,6 +24,7 @@ use Rattle.hose_book.specs.Ledger.{Ledger}
 use Rattle.hose_core.specs.steps.Bound.{HasNewest, TellsNewest, admission_of}
 use Rattle.hose_core.specs.steps.Holding.{IsMadeAt}
 use Rattle.hose_core.specs.steps.Planning.{AdmitsAtOnce, EntersPlan, IsNotAdmitted, IsNotPlanned, IsPlannedFor}
+use Rattle.hose_core.specs.declared.admitting.Admission.{Admission}
 use Rattle.hose_core.specs.declared.quotes.Quote.{Quote}
 use Rattle.hose_core.specs.steps.Stepping.{AdmitsCheapest, AnswersBy, HasStepped, TellsPlan, committed_of}
 use Rattle.hose_core.proofs.Answering.{answered_same, answers_without}
@@ -147,9 +148,12 @@ module _ {K R : Type 0} (books : Ghosts K R) (old : K) (customer : List ℕ) (kn
   abbrev was : Ledger
   was = books.ledger old
 
+  abbrev asked : Admission
+  asked = record { known = known; hose = hose }
+
   -- so there is nothing to be entered
   refused_admits : HasNewest was.book customer known → (at : ℕ) (side : List ℕ) → at ≡ was.book.epoch → IsRefused was.network (room_of was.network was.book) hose side → NamesPlaces was.network (reply.Refused at side)
-      → AdmitsAtOnce books old old customer known hose (reply.Refused at side) None
+      → AdmitsAtOnce books old old customer asked (reply.Refused at side) None
   refused_admits newest at side is refused names = record {
     step = λ epoch history held here. refuse_step books old old epoch history customer held known hose here newest at side is refused refl;
     cheapest = tt;
@@ -159,7 +163,7 @@ module _ {K R : Type 0} (books : Ghosts K R) (old : K) (customer : List ℕ) (kn
   }
 
   -- nor where memory was wanting
-  starved_admits : AdmitsAtOnce books old old customer known hose reply.Memory None
+  starved_admits : AdmitsAtOnce books old old customer asked reply.Memory None
   starved_admits = record {
     step = λ epoch history held here. told_step books old epoch history customer held here (admission_of known hose) reply.Memory (bound_wants (book_of epoch history) customer held known hose, refl, refl, refl);
     cheapest = tt;
@@ -169,7 +173,7 @@ module _ {K R : Type 0} (books : Ghosts K R) (old : K) (customer : List ℕ) (kn
   }
 
   -- nor where another VPN is the newest, whatever was to be entered
-  pub newest_admits : (answer : Reply) → TellsNewest was.book customer known answer → (entry : Option Entry) → IfSome entry (EntersPlan customer hose answer) → AdmitsAtOnce books old old customer known hose answer entry
+  pub newest_admits : (answer : Reply) → TellsNewest was.book customer known answer → (entry : Option Entry) → IfSome entry (EntersPlan customer hose answer) → AdmitsAtOnce books old old customer asked answer entry
   newest_admits answer tells entry enters = record {
     step = λ epoch history held here. newest_step books old epoch history customer held known hose here answer tells;
     cheapest = newest_cheapest was.network was.book customer known hose answer tells;
@@ -183,12 +187,12 @@ module _ {K R : Type 0} (books : Ghosts K R) (old : K) (customer : List ℕ) (kn
       same_where_none (Some entry) = tt
 
   -- so where nothing was planned
-  unplanned : HasNewest was.book customer known → (answer : Reply) → IsNotPlanned was.network was.book hose answer → AdmitsAtOnce books old old customer known hose answer None
+  unplanned : HasNewest was.book customer known → (answer : Reply) → IsNotPlanned was.network was.book hose answer → AdmitsAtOnce books old old customer asked answer None
   unplanned newest reply.Memory none = starved_admits
   unplanned newest (reply.Refused at side) none = refused_admits newest at side none.0 none.1 none.2
   unplanned newest answer none = absurd none
 
-  pub unplanned_admits : (answer : Reply) → IsNotAdmitted was.network was.book customer known hose answer → AdmitsAtOnce books old old customer known hose answer None
+  pub unplanned_admits : (answer : Reply) → IsNotAdmitted was.network was.book customer known hose answer → AdmitsAtOnce books old old customer asked answer None
   unplanned_admits answer (inl tells) = newest_admits answer tells None tt
   unplanned_admits answer (inr none) = unplanned none.0 answer none.1
 

@@ -1,32 +1,35 @@
 -- A core that answered a command goes on: it fits what the step leads to.
 use Rattle.std.proofs.Common.{◌≡◌, ◌≢◌, ◌⊎◌, ◌∙◌, ◌≤◌, ℕ, Bool, true, false, List, Option, None, Some, IsSome, length, inl, inr, refl, sym, ap, subst, arith}
-use Rattle.std.specs.Prelude.{⊤}
 use Rattle.std.proofs.lemmas.List.{take_all}
 use Rattle.hose_graph.specs.Limits.{operator}
+use Rattle.hose_graph.specs.steps.Naming.{NamesPlaces}
 use Rattle.hose_graph.specs.Network.{Network}
 use Rattle.hose_graph.specs.declared.command.Command.{Command}
 use Rattle.hose_graph.specs.declared.command.Command.TheVariants as command
 use Rattle.hose_graph.specs.declared.entry.Entry.{Entry}
 use Rattle.hose_graph.specs.declared.command.Reply.{Reply}
 use Rattle.hose_graph.specs.declared.command.Reply.TheVariants as reply
-use Rattle.hose_law.specs.Answer.{IsAnswer, IsStepOf, IsTakeAnswer, MayWantMemory}
+use Rattle.hose_law.specs.Answer.{IsStepOf, IsTakeAnswer, MayWantMemory}
+use Rattle.hose_law.specs.steps.Answer.{ChangesHeld}
 use Rattle.hose_law.specs.Book.{Book}
 use Rattle.hose_law.specs.Decision.{IsPlanned, IsRefused}
 use Rattle.hose_law.specs.History.{book_of}
 use Rattle.hose_law.specs.Quotes.{Held, HeldQuote, Holdings, at_number, free_number, with_held, with_number}
 use Rattle.hose_law.specs.Room.{room_of}
 use Rattle.hose_law.proofs.Numbers.{some_at}
-use Rattle.hose_law.proofs.Steps.{IsAnswered, IsIdle, step_cases}
+use Rattle.hose_law.proofs.Steps.{IsAnswered, IsIdle, step_cases, step_keeps}
 use Rattle.hose_plan.specs.steps.Planning.{allowed_links}
 use Rattle.hose_book.specs.declared.books.Books.{Ghosts}
+use Rattle.hose_book.specs.declared.books.Committed.TheVariants.{Done}
 use Rattle.hose_book.specs.Ledger.{Ledger}
 use Rattle.hose_core.specs.steps.Bound.{admission_of}
 use Rattle.hose_core.specs.steps.Holding.{AllQuotes, AreHeld, HoldsNow, IsMadeAt, IsQuoteOf, State, quotes_in}
 use Rattle.hose_core.specs.steps.Planning.{HasTold, IsNotPlanned}
 use Rattle.hose_core.specs.steps.Serving.{service_command}
-use Rattle.hose_core.specs.steps.Stepping.{FitsHistory, HasStepped, HaveAnswered, Steps, StepsAtEach, StepsOn}
+use Rattle.hose_core.specs.steps.Stepping.{FitsHistory, HasAnswered, HasStepped, HaveAnswered, Steps, StepsAtEach, StepsOn, committed_of}
 use Rattle.hose_core.proofs.Leading.{decided, leads}
 use Rattle.hose_core.specs.declared.quotes.Quote.{Quote}
+use Rattle.hose_core.proofs.Answering.{answered_same}
 use Rattle.hose_core.proofs.Customers.{holds_same}
 use Rattle.hose_core.proofs.ServiceEntries.{order_answer, order_wants}
 use Rattle.hose_core.proofs.Told.{told_step}
@@ -54,42 +57,15 @@ module _ {K R : Type 0} (books : Ghosts K R) (old new : K) (epoch : ℕ) (histor
         | inr goes ↦ front_with history stepped.next stepped.entry goes
       ]
 
--- a command that leaves what is held
-abbrev pub IsKeeping : Command → Type 0
-IsKeeping (command.Admit hose) = ⊤
-IsKeeping (command.AdmitAfter known hose) = ⊤
-IsKeeping (command.Quote hose) = ⊥
-IsKeeping (command.Take number) = ⊥
-IsKeeping (command.Release id) = ⊤
-IsKeeping (command.Show id) = ⊤
-IsKeeping command.Vpns = ⊤
-IsKeeping (command.Link link) = ⊤
-IsKeeping (command.Down link) = ⊤
-IsKeeping (command.Up link) = ⊤
+-- an order of the operator leaves what is held
+pub order_keeps : (down : Bool) (link : ℕ) → ¬ ChangesHeld (service_command down link)
+order_keeps true link = λ changes. changes
+order_keeps false link = λ changes. changes
 
--- as an order of the operator
-pub order_keeps : (down : Bool) (link : ℕ) → IsKeeping (service_command down link)
-order_keeps true link = tt
-order_keeps false link = tt
-
--- as an admission, bound to a number or to none
-pub admission_keeps : (known : Option ℕ) (hose : List (ℕ × ℕ)) → IsKeeping (admission_of known hose)
-admission_keeps None hose = tt
-admission_keeps (Some known) hose = tt
-
--- its answer leaves what is held
-answer_keeps : (network : Network) (epoch : ℕ) (history : List Entry) (customer : List ℕ) (held after : Held) (asked : Command) (given : Reply) (entry : Option Entry) → IsKeeping asked
-    → IsAnswer network epoch history customer held asked given entry after → after ≡ held
-answer_keeps network epoch history customer held after (command.Admit hose) given entry keeping answer = answer.1
-answer_keeps network epoch history customer held after (command.AdmitAfter known hose) given entry keeping answer = answer.1
-answer_keeps network epoch history customer held after (command.Quote hose) given entry keeping answer = absurd keeping
-answer_keeps network epoch history customer held after (command.Take number) given entry keeping answer = absurd keeping
-answer_keeps network epoch history customer held after (command.Release id) given entry keeping answer = answer.1
-answer_keeps network epoch history customer held after (command.Show id) given entry keeping answer = answer.1
-answer_keeps network epoch history customer held after command.Vpns given entry keeping answer = answer.1
-answer_keeps network epoch history customer held after (command.Link link) given entry keeping answer = answer.1
-answer_keeps network epoch history customer held after (command.Down link) given entry keeping answer = answer.1
-answer_keeps network epoch history customer held after (command.Up link) given entry keeping answer = answer.1
+-- and so does an admission, bound to a number or to none
+pub admission_keeps : (known : Option ℕ) (hose : List (ℕ × ℕ)) → ¬ ChangesHeld (admission_of known hose)
+admission_keeps None hose = λ changes. changes
+admission_keeps (Some known) hose = λ changes. changes
 
 -- ---- what the core holds then
 
@@ -130,12 +106,9 @@ module _ {K R : Type 0} (books : Ghosts K R) (old new : State K) (epoch : ℕ) (
       let longer = held_longer network epoch history stepped.next (front_of books old.books new.books epoch history customer held asked answer stepped) held quotes (fits.held customer) in
       changes_on asked answer stepped quotes holds (subst (λ (h : Held). AreHeld network epoch stepped.next h quotes) (sym keeps) longer)
 
-  pub keeps_on : (asked : Command) (answer : Reply) → IsKeeping asked → Stepped asked answer → new.quotes ≡ old.quotes → On asked answer
-  keeps_on asked answer keeping stepped unchanged = stays_on asked answer stepped (at (cases books old.books new.books epoch history customer held asked answer stepped)) unchanged
-    where
-      at : Cases books old.books new.books epoch history customer held asked answer stepped → stepped.after ≡ held
-      at (inl idle) = idle.keeps
-      at (inr answered) = answer_keeps network epoch history customer held stepped.after asked answered.given stepped.entry keeping answered.is
+  pub keeps_on : (asked : Command) (answer : Reply) → ¬ ChangesHeld asked → Stepped asked answer → new.quotes ≡ old.quotes → On asked answer
+  keeps_on asked answer keeping stepped unchanged =
+      stays_on asked answer stepped (step_keeps network epoch history customer held asked answer stepped.entry stepped.next stepped.after keeping stepped.step) unchanged
 
   -- the quote under a number is taken
   pub taken_on : (number : ℕ) (quote : Quote) (answer : Reply) → at_number (quotes_in old.quotes customer) number ≡ Some quote → answer ≢ reply.Memory → Stepped (command.Take number) answer
@@ -278,6 +251,17 @@ module _ {K R : Type 0} (books : Ghosts K R) (old : State K) (epoch : ℕ) (hist
       (quoted_on new number quote some most free made same (subst (λ (q : List (Option Quote)). HoldsNow old.quotes customer q new.quotes) is_now holds))
   held_on new number quote now answer some most free made same told holds = absurd told
 
+-- such a reply names no place, and no entry of its was committed
+pub told_names : (network : Network) (number : ℕ) (quote : Quote) (old new : List (Option Quote)) (answer : Reply) → HasTold number quote old new answer → NamesPlaces network answer
+told_names _ number quote old new reply.Memory told = tt
+told_names _ number quote old new (reply.Quoted given cost at amounts) told = tt
+told_names _ number quote old new answer told = absurd told
+
+pub told_done : (number : ℕ) (quote : Quote) (old new : List (Option Quote)) (answer : Reply) → HasTold number quote old new answer → committed_of answer ≡ Done
+told_done number quote old new reply.Memory told = refl
+told_done number quote old new (reply.Quoted given cost at amounts) told = refl
+told_done number quote old new answer told = absurd told
+
 -- What is shown of a core by its fields is shown of it.
 pub of_fields : {K R : Type 0} (books : Ghosts K R) (fields old new : State K) (epoch : ℕ) (history : List Entry) (holdings : Holdings) (customer : List ℕ) (asked : Command) (answer : Reply) → fields ≡ old
     → (FitsHistory books fields epoch history holdings → StepsOn books fields new epoch history holdings customer asked answer)
@@ -290,15 +274,24 @@ of_fields {K = K} books fields old new epoch history holdings customer asked ans
 abbrev with_books : {K : Type 0} → AllQuotes → K → State K
 with_books quotes books = record { books = books; quotes = quotes }
 
-module _ {K R : Type 0} {books : Ghosts K R} {was : K} {quotes : AllQuotes} {state : State K} {answer : Reply} (customer : List ℕ) (asked : Command) (keeping : IsKeeping asked) where
+module _ {K R : Type 0} {books : Ghosts K R} {was : K} {quotes : AllQuotes} {state : State K} {answer : Reply} (customer : List ℕ) (asked : Command) (keeping : ¬ ChangesHeld asked) where
   -- a core with these books and quotes answered so
-  pub keeps_step : {now : K} → with_books quotes was ≡ state → HaveAnswered books was now answer → StepsAtEach books was now customer asked answer → Steps books state (with_books quotes now) customer asked answer
-  keeps_step {now = now} same answered steps = λ epoch history holdings.
-      of_fields books (with_books quotes was) state (with_books quotes now) epoch history holdings customer asked answer same
-      (λ fits. keeps_on books (with_books quotes was) (with_books quotes now) epoch history holdings customer fits answered.network asked answer keeping (steps epoch history (holdings customer) fits.book) refl)
+  pub keeps_answered : {now : K} → with_books quotes was ≡ state → HaveAnswered books was now answer → StepsAtEach books was now customer asked answer → HasAnswered books state (with_books quotes now) customer asked answer
+  keeps_answered {now = now} same answered steps = record {
+    step = λ epoch history holdings.
+        of_fields books (with_books quotes was) state (with_books quotes now) epoch history holdings customer asked answer same
+        (λ fits. keeps_on books (with_books quotes was) (with_books quotes now) epoch history holdings customer fits answered.network asked answer keeping (steps epoch history (holdings customer) fits.book) refl);
+    answered = subst (λ (s : State K). HaveAnswered books s.books now answer) same answered;
+  }
 
   -- and stays as it was where its books do
-  pub reads_step : with_books quotes was ≡ state → StepsAtEach books was was customer asked answer → Steps books state state customer asked answer
-  reads_step same steps = λ epoch history holdings.
-      subst (λ (s : State K). FitsHistory books s epoch history holdings → StepsOn books s s epoch history holdings customer asked answer) same
-      (λ fits. keeps_on books (with_books quotes was) (with_books quotes was) epoch history holdings customer fits refl asked answer keeping (steps epoch history (holdings customer) fits.book) refl)
+  pub reads_answered : with_books quotes was ≡ state → StepsAtEach books was was customer asked answer → committed_of answer ≡ Done → NamesPlaces (books.ledger was).network answer → HasAnswered books state state customer asked answer
+  reads_answered same steps done names = subst (λ (s : State K). HasAnswered books s s customer asked answer) same (record {
+    step = λ epoch history holdings fits. keeps_on books (with_books quotes was) (with_books quotes was) epoch history holdings customer fits refl asked answer keeping (steps epoch history (holdings customer) fits.book) refl;
+    answered = answered_same books was answer done names;
+  })
+
+-- a core that stays as it is answered by a step
+pub stays_answered : {K R : Type 0} (books : Ghosts K R) (old : State K) (customer : List ℕ) (asked : Command) (answer : Reply) → Steps books old old customer asked answer → committed_of answer ≡ Done → NamesPlaces (books.ledger old.books).network answer
+    → HasAnswered books old old customer asked answer
+stays_answered books old customer asked answer step done names = record { step = step; answered = answered_same books old.books answer done names }

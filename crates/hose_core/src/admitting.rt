@@ -21,6 +21,15 @@ use hose_paths::RowMaker;
 use std::alloc::Global;
 use std::snapshot::Snapshot;
 
+/// An admission that is asked for.
+#[derive(Debug, Drop)]
+pub struct Admission {
+    /// The number of the VPN that has to be the customer's newest one, or 0 where there is to be
+    /// none; without a number the admission is bound to none.
+    pub known: Option<u64>,
+    pub hose: Hose,
+}
+
 /// Plans a hose and admits it with its plan: `Admitted`, `Refused`, `Spent`, `Full`, `Disk` or
 /// `Memory`; or `Newest`, before all of these, where the admission is bound to a number and another
 /// one is that of the customer's newest VPN. Its endpoints are nodes of the network. What joins the
@@ -29,14 +38,14 @@ pub fn admit_now<K: Books, R: RowMaker>(
     alloc: Global,
     books: &mut K,
     customer: &Name,
-    known: Option<u64>,
-    hose: Hose,
+    asked: Admission,
     rows: &mut R,
 ) -> (Reply, Option<Snapshot<Entry>>)
-    requires { AreNodes (K.ledger books.old).network hose }
-    ensures { AdmitsAtOnce K.Books books.old books.new customer.now known hose result.0
+    requires { AreNodes (K.ledger books.old).network asked.hose }
+    ensures { AdmitsAtOnce K.Books books.old books.new customer.now asked result.0
         (option_map (λ entry. entry.value) result.1) }
 {
+    let Admission { known, hose } = asked;
     if let Some(reply) = newest_now(books.book(), customer, known) {
         return (reply, None);
     }
@@ -60,8 +69,8 @@ pub fn admit_claimed_now<K: Books>(
     requires since { HasGroundsSince (K.ledger books.old) quote.now }
     requires claim { IsClaimOf K.Books claim customer.now quote.now }
     ensures admits { MatchOption result (books.new ≡ books.old)
-        (λ reply. AdmitsAtOnce K.Books books.old books.new customer.now known quote.now.hose
-        reply (Some claim.entry)) }
+        (λ reply. AdmitsAtOnce K.Books books.old books.new customer.now
+        (record { known = known; hose = quote.now.hose }) reply (Some claim.entry)) }
     ensures stale { IsNone result → (earlier : Book)
         → IsMadeAt (K.ledger books.old).network earlier quote.now
         → ¬ HaveEqualGrounds (K.ledger books.old).network earlier (K.ledger books.old).book
@@ -98,7 +107,8 @@ fn admit_planned<K: Books>(
     requires network { IsNetwork (K.ledger books.old).network }
     requires made { IsMadeAt (K.ledger books.old).network (K.ledger books.old).book quote }
     requires newest { HasNewest (K.ledger books.old).book customer.now known }
-    ensures { AdmitsAtOnce K.Books books.old books.new customer.now known quote.hose result.0
+    ensures { AdmitsAtOnce K.Books books.old books.new customer.now
+        (record { known = known; hose = quote.hose }) result.0
         (option_map (λ entry. entry.value) result.1) }
 {
     let Quote {

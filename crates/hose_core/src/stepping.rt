@@ -1,24 +1,20 @@
 // A book with the quotes of its customers.
 ghost use Rattle.std.specs.Prelude.{◌≡◌, ℕ, ◌≤◌, List, Some};
 ghost use Rattle.hose_graph.specs.steps.Naming.{AsksOf, NamesPlaces};
-ghost use Rattle.hose_graph.specs.Network.{IsLinkOf};
 ghost use Rattle.hose_graph.specs.declared.command.Command.{Command};
 ghost use Rattle.hose_graph.specs.declared.entry.Entry.{Entry};
-ghost use Rattle.hose_graph.specs.declared.limits.TheConstants.{MOST_EPOCH, MOST_QUOTES};
-ghost use Rattle.hose_law.specs.steps.Plan.{AreNodes};
+ghost use Rattle.hose_graph.specs.declared.limits.TheConstants.{MOST_QUOTES};
 ghost use Rattle.hose_law.specs.Quotes.{free_number, nothing_held};
 ghost use Rattle.hose_book.specs.steps.Commit.{IsMet};
 ghost use Rattle.hose_book.specs.Ledger.{HasBookOf};
-ghost use Rattle.hose_book.specs.declared.books.Committed.{Committed};
-ghost use Rattle.hose_core.specs.steps.Bound.{admission_of};
 ghost use Rattle.hose_core.specs.steps.Holding.{IsMadeAt, quotes_of};
-ghost use Rattle.hose_core.specs.steps.Serving.{service_command};
 ghost use Rattle.hose_core.specs.steps.Stepping.{FitsHistory, HaveAnswered, Steps, committed_of};
 
-use crate::admitting::admit_now;
+use crate::admitting::{Admission, admit_now};
 use crate::by_customer::QuotesByCustomer;
 use crate::claim::{claim_release, claim_service, claim_take};
 use crate::planning::plan_now;
+use crate::provider::{Provider, dispatch};
 use crate::quotes::Quote;
 use crate::releasing::release_now;
 use crate::serving::service_now;
@@ -96,62 +92,7 @@ impl<K: Books + Drop> Core<K> {
             (K.frame self.new.books) }
         ensures names { NamesPlaces (K.ledger self.old.books).network result }
     {
-        match command {
-            Command::Admit(hose) => self.admit(alloc, customer, None, hose, rows),
-            Command::AdmitAfter { known, hose } => {
-                self.admit(alloc, customer, Some(known), hose, rows)
-            },
-            Command::Quote(hose) => self.quote(alloc, customer, hose, rows),
-            Command::Take(number) => self.take(alloc, customer, number),
-            Command::Release(id) => self.release(alloc, customer, id),
-            Command::Show(id) => self.show(alloc, customer, id),
-            Command::Vpns => self.vpns(alloc, customer),
-            Command::Link(link) => self.link(link),
-            Command::Down(link) => self.operate(alloc, customer, link, true),
-            Command::Up(link) => self.operate(alloc, customer, link, false),
-        }
-    }
-
-    // Admits a hose at once.
-    fn admit<R: RowMaker>(
-        &mut self,
-        alloc: Global,
-        customer: &Name,
-        known: Option<u64>,
-        hose: Hose,
-        rows: &mut R,
-    ) -> Reply
-        requires { AreNodes (K.ledger self.old.books).network hose }
-        ensures step { Steps K.Books self.old self.new customer.now (admission_of known hose)
-            result }
-        ensures answered { HaveAnswered K.Books self.old.books self.new.books result }
-    {
-        let (reply, _entered) = admit_now(alloc, &mut self.books, customer, known, hose, rows);
-        reply
-    }
-
-    // Plans a hose and holds the plan under the customer's lowest free number.
-    fn quote<R: RowMaker>(
-        &mut self,
-        alloc: Global,
-        customer: &Name,
-        hose: Hose,
-        rows: &mut R,
-    ) -> Reply
-        requires { AreNodes (K.ledger self.old.books).network hose }
-        ensures step { Steps K.Books self.old self.new customer.now (Command.Quote hose) result }
-        ensures books { self.new.books ≡ self.old.books }
-        ensures met { committed_of result ≡ Committed.Done }
-        ensures names { NamesPlaces (K.ledger self.old.books).network result }
-    {
-        let Some(number) = self.quotes.free(customer) else {
-            let at = self.books.book().epoch();
-            return Reply::TooMany { at };
-        };
-        match plan_now(alloc, &self.books, hose, rows) {
-            Err(reply) => reply,
-            Ok(quote) => self.hold(alloc, customer, number, quote),
-        }
+        dispatch(self, alloc, customer, command, rows)
     }
 
     // Holds a quote under a number, and tells it.
@@ -162,18 +103,52 @@ impl<K: Books + Drop> Core<K> {
             (K.ledger self.old.books).book quote }
         ensures step { Steps K.Books self.old self.new customer.now
             (Command.Quote quote.hose) result }
-        ensures books { self.new.books ≡ self.old.books }
-        ensures met { committed_of result ≡ Committed.Done }
-        ensures names { NamesPlaces (K.ledger self.old.books).network result }
+        ensures answered { HaveAnswered K.Books self.old.books self.new.books result }
     {
         self.quotes.hold(alloc, customer, number, quote)
     }
+}
 
-    // Takes the quote under a number.
-    fn take(&mut self, alloc: Global, customer: &Name, number: u64) -> Reply
-        ensures step { Steps K.Books self.old self.new customer.now (Command.Take number) result }
-        ensures answered { HaveAnswered K.Books self.old.books self.new.books result }
-    {
+// A command is claimed and settled at once.
+impl<K: Books + Drop> Provider for Core<K> {
+    ghost use Rattle.std.specs.Prelude.{⊤};
+    ghost use Rattle.hose_core.specs.steps.Stepping.{HasAnswered};
+
+    ghost network = { λ core. (K.ledger core.books).network };
+
+    ghost can_answer = { λ _. ⊤ };
+
+    ghost answers = { HasAnswered K.Books };
+
+    fn admit<R: RowMaker>(
+        &mut self,
+        alloc: Global,
+        customer: &Name,
+        asked: Admission,
+        rows: &mut R,
+    ) -> Reply {
+        let (reply, _entered) = admit_now(alloc, &mut self.books, customer, asked, rows);
+        reply
+    }
+
+    fn quote<R: RowMaker>(
+        &mut self,
+        alloc: Global,
+        customer: &Name,
+        hose: Hose,
+        rows: &mut R,
+    ) -> Reply {
+        let Some(number) = self.quotes.free(customer) else {
+            let at = self.books.book().epoch();
+            return Reply::TooMany { at };
+        };
+        match plan_now(alloc, &self.books, hose, rows) {
+            Err(reply) => reply,
+            Ok(quote) => self.hold(alloc, customer, number, quote),
+        }
+    }
+
+    fn take(&mut self, alloc: Global, customer: &Name, number: u64) -> Reply {
         let Some(quote) = self.quotes.held(customer, number) else {
             let at = self.books.book().epoch();
             return Reply::NoQuote { quote: number, at };
@@ -186,54 +161,26 @@ impl<K: Books + Drop> Core<K> {
         reply
     }
 
-    // Gives up the VPN of a number.
-    fn release(&mut self, alloc: Global, customer: &Name, id: u64) -> Reply
-        requires { id ≤ MOST_EPOCH }
-        ensures step { Steps K.Books self.old self.new customer.now (Command.Release id) result }
-        ensures answered { HaveAnswered K.Books self.old.books self.new.books result }
-    {
+    fn release(&mut self, alloc: Global, customer: &Name, id: u64) -> Reply {
         let Ok(claim) = claim_release(alloc, customer, id) else {
             return Reply::Memory;
         };
         release_now(&mut self.books, claim)
     }
 
-    // Tells the VPN of a number.
-    fn show(&self, alloc: Global, customer: &Name, id: u64) -> Reply
-        ensures step { Steps K.Books self.now self.now customer.now (Command.Show id) result }
-        ensures met { committed_of result ≡ Committed.Done }
-        ensures names { NamesPlaces (K.ledger self.now.books).network result }
-    {
+    fn show(&mut self, alloc: Global, customer: &Name, id: u64) -> Reply {
         show_now(alloc, &self.books, customer, id)
     }
 
-    // Tells the customer's VPNs.
-    fn vpns(&self, alloc: Global, customer: &Name) -> Reply
-        ensures step { Steps K.Books self.now self.now customer.now Command.Vpns result }
-        ensures met { committed_of result ≡ Committed.Done }
-        ensures names { NamesPlaces (K.ledger self.now.books).network result }
-    {
+    fn vpns(&mut self, alloc: Global, customer: &Name) -> Reply {
         vpns_now(alloc, &self.books, customer)
     }
 
-    // Tells a link.
-    fn link(&self, link: u32) -> Reply
-        requires { IsLinkOf (K.ledger self.now.books).network link }
-        ensures step { (customer : List ℕ)
-            → Steps K.Books self.now self.now customer (Command.Link link) result }
-        ensures met { committed_of result ≡ Committed.Done }
-        ensures names { NamesPlaces (K.ledger self.now.books).network result }
-    {
+    fn link(&mut self, _alloc: Global, _customer: &Name, link: u32) -> Reply {
         link_now(&self.books, link)
     }
 
-    // Takes a link out of service where `down` is true, or puts it back, for the operator alone.
-    fn operate(&mut self, alloc: Global, customer: &Name, link: u32, down: bool) -> Reply
-        requires { IsLinkOf (K.ledger self.old.books).network link }
-        ensures step { Steps K.Books self.old self.new customer.now
-            (service_command down link) result }
-        ensures answered { HaveAnswered K.Books self.old.books self.new.books result }
-    {
+    fn operate(&mut self, alloc: Global, customer: &Name, link: u32, down: bool) -> Reply {
         let book = self.books.book();
         let is_operator = customer.is_operator();
         if !is_operator {

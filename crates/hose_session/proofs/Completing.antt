@@ -11,7 +11,7 @@ use Rattle.hose_words.specs.declared.lines.TheConstants.{INPUT_LIMIT}
 use Rattle.hose_graph.specs.Network.{Network}
 use Rattle.hose_graph.specs.declared.entry.Entry.{Entry}
 use Rattle.hose_graph.specs.declared.command.Reply.{Reply}
-use Rattle.hose_law.specs.Transcript.{SessionLine, Stage}
+use Rattle.hose_law.specs.Transcript.{SessionLine, Stage, session_state}
 use Rattle.hose_law.specs.Transcript.SessionLine.{Greets, Asks, Leaves, IsBad, IsLong, Unread}
 use Rattle.hose_law.proofs.Transcripts.{transcript_longer}
 use Rattle.hose_turn.specs.Known.{Known}
@@ -33,7 +33,7 @@ module _ (network : Network) (history longer : List Entry) (prefix : IsPrefix hi
     stage = answers.stage;
     last = answers.last;
     said = moved stops answers.lines answers.said;
-    transcript = transcript_longer network 0 history longer prefix from answers.transcript;
+    transcript = transcript_longer network 0 history longer prefix from answers.lines replies (session_state answers.stage answers.last own) answers.transcript;
     ended = answers.ended;
     out = answers.out;
   }
@@ -95,9 +95,9 @@ session_complete network (Some was) (Some now) bytes before after R W old new en
     at session_end.Write too_long is = absurd (no_write is.1)
     at session_end.TooLong too_long is = absurd (omega (arith, too_long refl, greeted.1, ap length gives.left, length-append bytes now.left))
     at session_end.NoHello too_long (inl is) =
-        let begun = subst (BeginSo is.lines) is.ended (begins_so network new.seen (length old.seen) is.transcript) in
+        let begun = subst (BeginSo is.lines) is.ended (begins_so network new.seen (length old.seen) is.lines serves.replies (session_state is.stage is.last serves.own) is.transcript) in
         absurd (begun.2 (greeting_alone (before_first is_line_feed text) greeted.0 begun.0 greeted.2 (sole_line network is.said.1 begun.0 begun.1)))
     at session_end.NoHello too_long (inr is) =
-        let none = subst (BeginSo is.lines) is.ended (begins_so network new.seen (length old.seen) is.transcript) in
+        let none = subst (BeginSo is.lines) is.ended (begins_so network new.seen (length old.seen) is.lines serves.replies (session_state is.stage is.last serves.own) is.transcript) in
         let empty : [] ≡ text = sym is.said.2.0 ∙ said_nothing network is.said.1 none in
         absurd (cc (subst (λ (t : List ℕ). words_of (before_first is_line_feed t) ≡ codes "hello" ∷ greeted.0 ∷ []) (sym empty) greeted.2.1.spelled))

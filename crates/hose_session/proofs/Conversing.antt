@@ -6,7 +6,7 @@ use Rattle.hose_io.specs.Frame.{Rose}
 use Rattle.hose_io.specs.declared.source.Source.{Ghosts as SourceGhosts}
 use Rattle.hose_io.specs.declared.sink.Sink.{Ghosts as SinkGhosts}
 use Rattle.hose_words.specs.declared.lines.Line.{Line}
-use Rattle.hose_talk.specs.Talk.{LastCut, TalksTo, TalksUpTo, TellsOf}
+use Rattle.hose_talk.specs.Talk.{LastCut, TalksTo, TalksUpTo, TellsOf, Terms, talk}
 use Rattle.hose_talk.specs.declared.talking.TalkEnd.{TalkEnd}
 use Rattle.hose_talk.specs.declared.talking.TalkEnd.TheVariants as talk_end
 use Rattle.hose_talk.specs.declared.talking.TalkFault.{TalkFault}
@@ -15,9 +15,10 @@ use Rattle.hose_talk.proofs.Retold.{talks_as}
 use Rattle.hose_graph.specs.Network.{Network}
 use Rattle.hose_graph.specs.declared.entry.Entry.{Entry}
 use Rattle.hose_graph.specs.declared.command.Reply.{Reply}
-use Rattle.hose_law.specs.Transcript.{IsSessionStep, IsTranscript, no_line, line_more, SessionLine, Stage}
+use Rattle.hose_law.specs.Transcript.{IsSessionStep, IsTranscript, IsTranscriptStep, SessionLine, SessionState, Stage, session_state}
 use Rattle.hose_law.specs.Transcript.SessionLine.{Greets, Asks, Leaves, IsBad, IsLong, Unread}
 use Rattle.hose_law.specs.Transcript.Stage.{Left, Refused, Serving, Waiting}
+use Rattle.hose_law.proofs.Lines.{steps_keep, steps_push}
 use Rattle.hose_law.proofs.Scripts.{disks_push}
 use Rattle.hose_law.proofs.Transcripts.{transcript_longer}
 use Rattle.hose_proto.specs.Replies.{CutsLast}
@@ -78,9 +79,10 @@ module _ (network : Network) (history : List Entry) where
   step_begins lines Refused next line reply from to own step begun = absurd step
   step_begins lines Left next line reply from to own step begun = absurd step
 
-  pub begins_so : (from : ℕ) {lines : List SessionLine} {replies : List Reply} {stage : Stage} {place : ℕ} {own : List ℕ} → IsTranscript network 0 history from lines replies stage place own → BeginSo lines stage
-  begins_so from no_line = refl
-  begins_so from (line_more {lines} {stage = stage} {next = next} line reply added before step) = step_begins lines stage next line reply _ _ added step (begins_so from before)
+  pub begins_so : (from : ℕ) (lines : List SessionLine) (replies : List Reply) (last : SessionState) → IsTranscript network 0 history from lines replies last → BeginSo lines last.stage
+  begins_so from lines replies last transcript =
+      steps_keep (IsTranscriptStep network 0 history) (λ (l : List SessionLine) (state : SessionState). BeginSo l state.stage) (λ l line reply old new step begun. step_begins l old.stage new.stage line reply old.place new.place step.0 step.1 begun) lines replies
+      (session_state Waiting from []) last transcript refl
 
   -- what a line may say where a transcript has come to a stage is what it says after its lines
   says_there : (stage : Stage) (lines : List SessionLine) → BeginSo lines stage → (bytes : List ℕ) (said : SessionLine) → SaysAt network stage bytes said → SaysAfter network lines bytes said
@@ -95,7 +97,7 @@ module _ (network : Network) where
   along_none : (pass : Known) → IsSamePass pass pass → GoesAlong network pass pass [] [] Waiting []
   along_none pass same = record {
     last = length pass.seen;
-    transcript = no_line;
+    transcript = refl;
     reached = omega arith;
     entries = All-nil (HasEntryAt network pass.seen);
     same = same;
@@ -109,7 +111,8 @@ module _ (network : Network) where
       let step = exchange.step along.last along.reached in
       record {
         last = step.0;
-        transcript = line_more said reply exchange.added (transcript_longer network 0 old.seen new.seen exchange.same.seen (length first.seen) along.transcript) step.2;
+        transcript = steps_push (IsTranscriptStep network 0 new.seen) lines replies (session_state Waiting (length first.seen) []) (session_state stage along.last own) (session_state next step.0 (own ++ exchange.added)) said reply
+            (transcript_longer network 0 old.seen new.seen exchange.same.seen (length first.seen) lines replies (session_state stage along.last own) along.transcript) (exchange.added, step.2, refl);
         reached = step.1;
         entries = All-append (HasEntryAt network new.seen) own exchange.added (entries_longer network old.seen new.seen own exchange.same.seen along.entries) exchange.entries;
         same = same_on first old new along.same exchange.same;
@@ -128,7 +131,7 @@ module _ (network : Network) where
   comes_on first old new line reply lines replies comes answers =
       let one = answers comes.stage comes.at in (
         one.said,
-        (λ bytes shows. says_there network old.pass.seen comes.stage lines (begins_so network old.pass.seen (length first.seen) comes.along.transcript) bytes one.said (one.says bytes shows)),
+        (λ bytes shows. says_there network old.pass.seen comes.stage lines (begins_so network old.pass.seen (length first.seen) lines replies (session_state comes.stage comes.along.last comes.own) comes.along.transcript) bytes one.said (one.says bytes shows)),
         record {
           stage = one.next;
           own = comes.own ++ one.exchange.added;
@@ -141,15 +144,23 @@ module _ (network : Network) where
 
 -- the talk of a session that is so far
 module _ {S O : Type 0} (network : Network) (source : SourceGhosts S) (sink : SinkGhosts O) (input input' : S) (output output' : O) (first pass : Known) where
+  -- the terms of a session
+  abbrev terms : Terms SessionLine Progress Reply
+  terms = record {
+    tells = TellsOf (SaysAfter network) (source.content input) (source.content input');
+    comes = λ lines replies progress. ComesAlong network first progress lines replies;
+    over = λ progress. over_at progress.phase;
+    text = λ reply. line_of (reply_text network reply);
+  }
+
   abbrev pub Talks : Phase → Result TalkEnd TalkFault → Type 0
-  Talks at = TalksTo source sink (TellsOf (SaysAfter network) (source.content input) (source.content input')) (λ lines replies progress. ComesAlong network first progress lines replies) (λ progress. over_at progress.phase) (λ reply. line_of (reply_text network reply)) input input' output output'
-      (record { pass = pass; phase = at })
+  Talks at = TalksTo source sink terms (talk input output (record { pass = pass; phase = at })) (talk input' output' (record { pass = pass; phase = at }))
 
   abbrev Serves : SessionEnd → Type 0
   Serves = ServesSession source sink network input input' output output' first pass
 
   module _ (at : Phase) (stops : List ℕ → List ℕ → List ℕ → Type 0) (puts : List Reply → Type 0)
-      (talks : TalksUpTo (TellsOf (SaysAfter network) (source.content input) (source.content input')) (λ lines replies progress. ComesAlong network first progress lines replies) (record { pass = pass; phase = at }) stops puts) where
+      (talks : TalksUpTo terms (record { pass = pass; phase = at }) stops puts) where
     up_to : (ends : Stage → Type 0) → ends talks.comes.stage → (outs : List Reply → Type 0) → outs talks.replies → AnswersUpTo network pass.seen (length first.seen) (TellsOf (SaysAfter network) (source.content input) (source.content input')) stops ends outs talks.replies talks.comes.own
     up_to ends is outs out = record { lines = talks.lines; stage = talks.comes.stage; last = talks.comes.along.last; said = talks.said; transcript = talks.comes.along.transcript; ended = is; out = out }
 
@@ -199,13 +210,17 @@ module _ {S O : Type 0} (network : Network) (source : SourceGhosts S) (sink : Si
   writing_held at (Err talk_fault.TooLong) talks other = talks.2
   writing_held at (Err talk_fault.Write) talks other = absurd (other refl)
 
+  -- the terms of who held the talk
+  abbrev terms_there : {A : Type 0} → (List SessionLine → List Reply → A → Type 0) → (A → Bool) → Network → Terms SessionLine A Reply
+  terms_there Comes over there = record { tells = TellsOf (SaysAfter there) (source.content input) (source.content input'); comes = Comes; over = over; text = λ reply. line_of (reply_text there reply) }
+
   -- in the words of who held the talk, on the network that there was
-  pub talks_there : {A : Type 0} (last : A) (Comes : List SessionLine → List Reply → A → Type 0) (over : A → Bool) (at : Phase) (there : Network) → there ≡ network
+  pub talks_there : {A : Type 0} (begun last : A) (Comes : List SessionLine → List Reply → A → Type 0) (over : A → Bool) (at : Phase) (there : Network) → there ≡ network
       → ((lines : List SessionLine) (replies : List Reply) → Comes lines replies last → ComesAlong network first (record { pass = pass; phase = at }) lines replies) → over last ≡ over_at at → (ended : Result TalkEnd TalkFault)
-      → TalksTo source sink (TellsOf (SaysAfter there) (source.content input) (source.content input')) Comes over (λ reply. line_of (reply_text there reply)) input input' output output' last ended → Talks at ended
-  talks_there last Comes over at there same follows is ended talks =
-      talks_as source sink (TellsOf (SaysAfter network) (source.content input) (source.content input')) (TellsOf (SaysAfter network) (source.content input) (source.content input')) Comes (λ lines replies progress. ComesAlong network first progress lines replies) over (λ progress. over_at progress.phase) (λ reply. line_of (reply_text network reply)) input input' output output' last (record { pass = pass; phase = at }) (λ stops lines says. says) follows is ended
-      (subst (λ (n : Network). TalksTo source sink (TellsOf (SaysAfter n) (source.content input) (source.content input')) Comes over (λ reply. line_of (reply_text n reply)) input input' output output' last ended) same talks)
+      → TalksTo source sink (terms_there Comes over there) (talk input output begun) (talk input' output' last) ended → Talks at ended
+  talks_there begun last Comes over at there same follows is ended talks =
+      talks_as source sink (terms_there Comes over network) terms.tells terms.comes terms.over input input' output output' begun last (record { pass = pass; phase = at }) (record { pass = pass; phase = at }) (λ stops lines says. says) follows is ended
+      (subst (λ (n : Network). TalksTo source sink (terms_there Comes over n) (talk input output begun) (talk input' output' last) ended) same talks)
 
 -- a session ends as its input is too long exactly where its talk does
 pub too_long_so : (at : Phase) (ended : Result TalkEnd TalkFault) (P : Type 0) → (ended ≡ Err talk_fault.TooLong) ↔ P → (end_after at ended ≡ session_end.TooLong) ↔ P

@@ -1,16 +1,16 @@
 -- Exchanges along a pass.
-use Rattle.std.proofs.Common.{◌≡◌, inl, inr, ℕ, ◌+◌, ◌<◌, ◌≤◌, List, [], length, take, Option, refl, sym, ap, subst, arith, append-nil, Bor, ◌∙◌}
+use Rattle.std.proofs.Common.{◌≡◌, inl, inr, ℕ, ◌+◌, ◌<◌, ◌≤◌, List, [], length, None, Some, refl, sym, ap, subst, arith, append-nil, Bor, ◌∙◌}
 use Rattle.std.proofs.lemmas.List.Elements.{All-nil}
 use Rattle.hose_words.specs.steps.Lines.{Shows}
 use Rattle.hose_words.specs.declared.lines.TheConstants.{LINE_LIMIT}
 use Rattle.hose_words.specs.declared.lines.Line.{Line}
 use Rattle.hose_words.specs.declared.lines.Line.TheVariants.{Text}
+use Rattle.hose_graph.specs.steps.Naming.{NamesPlaces}
 use Rattle.hose_graph.specs.Network.{Network}
 use Rattle.hose_graph.specs.declared.command.Command.{Command}
 use Rattle.hose_graph.specs.declared.command.Reply.{Reply}
 use Rattle.hose_graph.specs.declared.command.Reply.TheVariants.{Welcome, Memory, Bad, Long, Bye}
 use Rattle.hose_book.specs.declared.books.Committed.TheVariants.{Disk as Failing}
-use Rattle.hose_law.specs.steps.Answer.{ChangesHeld}
 use Rattle.hose_law.specs.Quotes.{Held, none_held}
 use Rattle.hose_law.specs.ReplyKind.{ReplyKind, failures_of, kind_of}
 use Rattle.hose_law.specs.ReplyKind.ReplyKind.{ByTheBook, ForDisk, ForMemory, ForNoCommand}
@@ -20,12 +20,10 @@ use Rattle.hose_law.specs.Transcript.SessionLine.{Greets, Asks, IsBad, IsLong, L
 use Rattle.hose_law.specs.Transcript.Stage.{Left, Serving, Waiting}
 use Rattle.hose_law.specs.Transcript.Stage.{Refused as StageRefused}
 use Rattle.hose_law.proofs.Fronts.{prefix_length}
-use Rattle.hose_law.proofs.Steps.{step_keeps}
 use Rattle.hose_core.specs.steps.Holding.{AreHeld}
 use Rattle.hose_core.specs.steps.Stepping.{committed_for, committed_of}
-use Rattle.hose_core.specs.declared.quotes.Quote.{Quote}
-use Rattle.hose_core.proofs.HeldQuotes.{held_on}
-use Rattle.hose_shared.specs.steps.Along.{HasEntryAt, StepsAlong, StepsHolding}
+use Rattle.hose_shared.specs.steps.Along.{HasEntryAt, StepsAlong}
+use Rattle.hose_shared.specs.steps.Providing.{Customer, Provides}
 use Rattle.hose_shared.specs.steps.Sharing.{HasSeenMore, IsSamePass}
 use Rattle.hose_turn.specs.Known.{Known}
 use Rattle.hose_session.specs.steps.Exchanges.{AnswersAt, IsExchange, ServesClientOn, ShownSays}
@@ -65,29 +63,31 @@ module _ (network : Network) (old new : Known) (customer : List ℕ) (held : Hel
     faults = told_faults old.faults new.faults answer along.failed along.same.faults;
   }
 
-  kept : ¬ ChangesHeld command → along.left ≡ held
-  kept others = step_keeps network 0 (take along.place new.seen) customer held command answer along.step.step.0 along.step.next along.left others along.step.step.1
+-- a command of a client was answered by a shared book
+module _ {network : Network} {customer : List ℕ} {command : Command} {answer : Reply} {old new : Customer} (provides : Provides network old new customer command answer) where
+  -- whose pass is at hand then
+  pub is_at_hand : new.pass ≡ None → ⊥
+  is_at_hand none = absurd (cc (provides.is, none))
 
--- a command that leaves the quotes as they are, which are held at a longer history too
-pub keeping_exchange : (network : Network) (old new : Known) (client : Client) (held : Held) (command one : Command) (answer : Reply) → command ≡ one → ¬ ChangesHeld one → StepsAlong network client.name held one answer old new
-    → AreHeld network 0 old.seen held client.quotes
-    → ServesClientOn network old new client client held (Asks command) answer
-keeping_exchange network old new client held command one answer is others along are = subst (λ (c : Command). ServesClientOn network old new client client held (Asks c) answer) (sym is) (record {
-  left = along.left;
-  exchange = along_exchange network old new client.name held one answer along;
-  holds = subst (λ (h : Held). AreHeld network 0 new.seen h client.quotes) (sym (kept network old new client.name held one answer along others)) (held_on along.same.seen are);
-  name = refl;
-})
+  pub provided_names : NamesPlaces network answer
+  provided_names = provides.names
 
--- a command that may change them
-pub holding_exchange : (network : Network) (old new : Known) (client : Client) (quotes : List (Option Quote)) (held : Held) (command one : Command) (answer : Reply) → command ≡ one → StepsHolding network client.name held one answer old new quotes
-    → ServesClientOn network old new client (record client { quotes = quotes }) held (Asks command) answer
-holding_exchange network old new client quotes held command one answer is steps = subst (λ (c : Command). ServesClientOn network old new client (record client { quotes = quotes }) held (Asks c) answer) (sym is) (record {
-  left = steps.along.left;
-  exchange = along_exchange network old new client.name held one answer steps.along;
-  holds = steps.holds;
-  name = refl;
-})
+same_pass : (one other : Known) → Some one ≡ Some other → one ≡ other
+same_pass one other is = cc is
+
+pub provided_exchange : (network : Network) (old : Known) (client : Client) (new : Known) {command : Command} {answer : Reply} {left : Customer} → Provides network (record { pass = Some old; quotes = client.quotes }) left client.name command answer → left.pass ≡ Some new
+    → (held : Held) → AreHeld network 0 old.seen held client.quotes → ServesClientOn network old new client (record client { quotes = left.quotes }) held (Asks command) answer
+provided_exchange network old client new {command = command} {answer = answer} {left = left} provides is held are =
+    let before = same_pass old provides.before provides.was in
+    let after = same_pass provides.after new (sym provides.is ∙ is) in
+    let steps = provides.steps held (subst (λ (k : Known). AreHeld network 0 k.seen held client.quotes) before are) in
+    subst (λ (k : Known). ServesClientOn network k new client (record client { quotes = left.quotes }) held (Asks command) answer) (sym before)
+    (subst (λ (k : Known). ServesClientOn network provides.before k client (record client { quotes = left.quotes }) held (Asks command) answer) after (record {
+      left = steps.along.left;
+      exchange = along_exchange network provides.before provides.after client.name held command answer steps.along;
+      holds = steps.holds;
+      name = refl;
+    }))
 
 -- a line that has no place in the history
 module _ (network : Network) (pass : Known) (same : IsSamePass pass pass) where

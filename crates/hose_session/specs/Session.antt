@@ -8,7 +8,7 @@ pub use Rattle.hose_talk.specs.Talk.{Telling, TellsOf}
 use Rattle.hose_graph.specs.Network.{Network}
 use Rattle.hose_graph.specs.declared.entry.Entry.{Entry}
 use Rattle.hose_graph.specs.declared.command.Reply.{Reply}
-use Rattle.hose_law.specs.Transcript.{IsTranscript, SessionLine, Stage}
+use Rattle.hose_law.specs.Transcript.{IsTranscript, SessionLine, Stage, session_state}
 use Rattle.hose_law.specs.Transcript.Stage.{Left, Refused, Serving, Waiting}
 use Rattle.hose_proto.specs.Replies.{CutsLast, texts_of}
 use Rattle.hose_session.specs.declared.ending.SessionEnd.{SessionEnd}
@@ -49,7 +49,7 @@ pub record AnswersUpTo (network : Network) (history : List Entry) (from : ℕ)
   pub stage : Stage
   pub last : ℕ
   pub said : tells stops lines
-  pub transcript : IsTranscript network 0 history from lines replies stage last own
+  pub transcript : IsTranscript network 0 history from lines replies (session_state stage last own)
   pub ended : ends stage
   pub out : puts replies
 

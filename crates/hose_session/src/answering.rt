@@ -13,13 +13,14 @@ ghost use Rattle.hose_session.specs.steps.Exchanges.{AnswersAt, IsAt, ServesClie
 
 use crate::client::{Client, Phase, Progress};
 use crate::reading::{greeting_of, is_bye, read_asked};
+use hose_core::dispatch;
 use hose_disk::Disk;
 use hose_graph::{Command, Reply};
 use hose_io::{Failed, Sink};
 use hose_paths::RowMaker;
 use hose_pool::{Gate, Point};
 use hose_proto::{ReadFault, put_reply};
-use hose_shared::{Begun, Caller, Context, Shared};
+use hose_shared::{Begun, Context, Shared, SharedProvider};
 use hose_turn::Pass;
 use hose_words::Line;
 use std::sync::Wait;
@@ -104,8 +105,7 @@ impl<'a, W: Wait, D: Disk, B: Begun<D>, G: Gate> Session<'a, W, D, B, G> {
         };
         match read_asked(self.context.alloc, self.shared.topology(), text) {
             Ok(command) => {
-                let mut client = client;
-                let (reply, pass) = self.answer(pass, &mut client, command, rows);
+                let (reply, pass, client) = self.answer(pass, client, command, rows);
                 let phase = Phase::Serving(client);
                 (reply, Progress { pass, phase })
             }
@@ -124,44 +124,38 @@ impl<'a, W: Wait, D: Disk, B: Begun<D>, G: Gate> Session<'a, W, D, B, G> {
         }
     }
 
-    // The reply to a command.
+    // The reply to a command, the pass along which it was answered, and the client then.
     fn answer<R: RowMaker>(
         &self,
         pass: Pass,
-        client: &mut Client,
+        client: Client,
         command: Command,
         rows: &mut R,
-    ) -> (Reply, Pass)
+    ) -> (Reply, Pass, Client)
         requires of { IsPassOf self.now.shared.now pass }
         requires asks { AsksOf self.now.shared.now.network command }
         requires quotes { (held : Held)
-            × AreHeld self.now.shared.now.network 0 pass.seen held client.old.quotes }
+            × AreHeld self.now.shared.now.network 0 pass.seen held client.quotes }
         ensures exchange { (held : Held)
-            → AreHeld self.now.shared.now.network 0 pass.seen held client.old.quotes
-            → ServesClientOn self.now.shared.now.network pass result.1 client.old client.new held
+            → AreHeld self.now.shared.now.network 0 pass.seen held client.quotes
+            → ServesClientOn self.now.shared.now.network pass result.1 client result.2 held
             (SessionLine.Asks command) result.0 }
         ensures names { NamesPlaces self.now.shared.now.network result.0 }
     {
-        let (shared, customer) = (self.shared, client.name);
-        let caller = Caller {
+        let Client { name, quotes } = client;
+        let mut provider = SharedProvider {
             context: self.context,
+            shared: self.shared,
             session: self.number,
-            customer: &customer,
+            pass: Some(pass),
+            quotes,
         };
-        match command {
-            Command::Admit(hose) => shared.admit(&caller, pass, hose, rows),
-            Command::AdmitAfter { known, hose } => {
-                shared.admit_after(&caller, pass, known, hose, rows)
-            }
-            Command::Quote(hose) => shared.quote(&caller, pass, &mut client.quotes, hose, rows),
-            Command::Take(quote) => shared.take(&caller, pass, &mut client.quotes, quote),
-            Command::Release(id) => shared.release(&caller, pass, id),
-            Command::Show(id) => shared.show(&caller, pass, id),
-            Command::Vpns => shared.vpns(&caller, pass),
-            Command::Link(link) => shared.link(&caller, pass, link),
-            Command::Down(link) => shared.operate(&caller, pass, link, true),
-            Command::Up(link) => shared.operate(&caller, pass, link, false),
-        }
+        let reply = dispatch(&mut provider, self.context.alloc, &name, command, rows);
+        let SharedProvider { pass, quotes, .. } = provider;
+        let Some(pass) = pass else {
+            unreachable!();
+        };
+        (reply, pass, Client { name, quotes })
     }
 }
 

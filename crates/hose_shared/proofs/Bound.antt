@@ -88,13 +88,13 @@ module _ {D : Type 0} {disk : Ghosts D} {Begins : List Entry → KeptStore D →
       (λ epoch history held here. record { entry = None; next = history; after = held; step = (tt, refl, refl, refl); sound = tt; goes = refl; book = here }) refl
 
   -- a turn in which a plan was taken
-  pub claimed_turn : (entry : Entry) → told ≡ Some entry → (held : Held) (answer : Reply) → AdmitsAtOnce (store_books disk) old new customer bound hose answer (Some entry)
+  pub claimed_turn : (entry : Entry) → told ≡ Some entry → (held : Held) (answer : Reply) → AdmitsAtOnce (store_books disk) old new customer (record { known = bound; hose = hose }) answer (Some entry)
       → AnswersTurn disk known.seen was new told customer held (admission_of bound hose) answer
   claimed_turn entry is held answer admits = subst (λ (t : Option Entry). AnswersTurn disk known.seen was new t customer held (admission_of bound hose) answer) (sym is)
-      (admit_turn begun same admits.answered (Some entry) customer held bound hose admits)
+      (admit_turn begun same admits.answered (Some entry) customer held (record { known = bound; hose = hose }) admits)
 
   -- or was stale
-  pub settled_turn : (entry : Entry) → told ≡ Some entry → (settled : Option Reply) → MatchOption settled (new ≡ old) (λ answer. AdmitsAtOnce (store_books disk) old new customer bound hose answer (Some entry))
+  pub settled_turn : (entry : Entry) → told ≡ Some entry → (settled : Option Reply) → MatchOption settled (new ≡ old) (λ answer. AdmitsAtOnce (store_books disk) old new customer (record { known = bound; hose = hose }) answer (Some entry))
       → (name : List ℕ) × (held : Held) × (asked : Command) × (answer : Reply) × AnswersTurn disk known.seen was new told name held asked answer
   settled_turn entry is None stays = (customer, none_held, command.Admit hose, reply.Memory, idle_turn stays)
   settled_turn entry is (Some answer) admits = (customer, none_held, admission_of bound hose, answer, claimed_turn entry is none_held answer admits)

@@ -33,6 +33,7 @@ use Rattle.hose_core.specs.steps.Holding.{AreHeld, IsMadeAt, IsQuoteOf}
 use Rattle.hose_core.specs.steps.Planning.{AdmitsAtOnce, EntersPlan, HasTold, IsNotPlanned, IsPlannedFor}
 use Rattle.hose_core.specs.steps.Serving.{service_command}
 use Rattle.hose_core.specs.steps.Stepping.{HasStepped, HaveAnswered, StepsAtEach, TellsPlan, committed_for, committed_of}
+use Rattle.hose_core.specs.declared.admitting.Admission.{Admission}
 use Rattle.hose_core.specs.declared.quotes.Quote.{Quote}
 use Rattle.hose_plan.specs.steps.Planning.{allowed_links}
 use Rattle.hose_disk.specs.declared.disk.Disk.{Ghosts}
@@ -224,19 +225,19 @@ module _ {D : Type 0} {disk : Ghosts D} {Begins : List Entry → KeptStore D →
       (take_entry old.ledger.network known.seen customer held number one there quote.amounts quote.cost answer stepped.entry stepped.next stepped.after tells stepped.step))
 
   -- an admission may have had no entry, and then the store is as it was
-  pub admit_turn : (bound : Option ℕ) (hose : List Endpoint) → AdmitsAtOnce (store_books disk) old new customer bound hose answer told → Turn (admission_of bound hose)
-  admit_turn bound hose admits = answers_turn disk known.seen old was new told customer held asked answer same stepped answered.network answered.met (joined told admits.none admits.enters)
+  pub admit_turn : (asks : Admission) → AdmitsAtOnce (store_books disk) old new customer asks answer told → Turn (admission_of asks.known asks.hose)
+  admit_turn asks admits = answers_turn disk known.seen old was new told customer held asked answer same stepped answered.network answered.met (joined told admits.none admits.enters)
     where
       asked : Command
-      asked = admission_of bound hose
+      asked = admission_of asks.known asks.hose
 
       stepped : Stepped asked
       stepped = step_of asked admits.step
 
-      joined : (told : Option Entry) → IfNone told (new ≡ old) → IfSome told (EntersPlan customer hose answer) → (new ≡ old) ⊎ IfSome (joined_of stepped.entry (committed_of answer)) (λ one. told ≡ Some one)
+      joined : (told : Option Entry) → IfNone told (new ≡ old) → IfSome told (EntersPlan customer asks.hose answer) → (new ≡ old) ⊎ IfSome (joined_of stepped.entry (committed_of answer)) (λ one. told ≡ Some one)
       joined None none enters = inl none
       joined (Some entry) none enters = inr (told_is (joined_of stepped.entry (committed_of answer)) (Some entry) entry refl
-          (admit_entry old.ledger.network known.seen customer held hose bound answer entry stepped.entry stepped.next stepped.after enters stepped.step))
+          (admit_entry old.ledger.network known.seen customer held asks.hose asks.known answer entry stepped.entry stepped.next stepped.after enters stepped.step))
 
 -- ---- replies without an entry
 

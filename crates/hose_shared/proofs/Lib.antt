@@ -1,5 +1,6 @@
 mod Bound
 mod Entries
 pub mod Passes
+mod Provided
 mod Recently
 mod Turned

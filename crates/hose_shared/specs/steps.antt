@@ -2,5 +2,6 @@
 pub mod Along
 pub mod Closing
 pub mod Keeping
+pub mod Providing
 pub mod Sharing
 pub mod Turns

@@ -12,7 +12,7 @@ ghost use Rattle.hose_shared.specs.steps.Sharing.{IsPassOf};
 use crate::caller::Caller;
 use crate::kept::Begun;
 use crate::shared::Shared;
-use hose_core::{Quote, admit_claimed_now, admit_now, claim_take};
+use hose_core::{Admission, Quote, admit_claimed_now, admit_now, claim_take};
 use hose_disk::Disk;
 use hose_graph::{Hose, Reply};
 use hose_paths::RowMaker;
@@ -41,7 +41,8 @@ impl<D: Disk, B: Begun<D>> Shared<D, B> {
             caller.now.customer.now held (Command.Admit hose) result.0 pass result.1 }
         ensures names { NamesPlaces self.now.network result.0 }
     {
-        self.admit_bound(caller, pass, None, hose, rows)
+        let asked = Admission { known: None, hose };
+        self.admit_bound(caller, pass, asked, rows)
     }
 
     /// Admits a hose as `admit` does, where the customer's newest live VPN has this number, or it
@@ -61,28 +62,29 @@ impl<D: Disk, B: Begun<D>> Shared<D, B> {
             caller.now.customer.now held (Command.AdmitAfter known hose) result.0 pass result.1 }
         ensures names { NamesPlaces self.now.network result.0 }
     {
-        self.admit_bound(caller, pass, Some(known), hose, rows)
+        let known = Some(known);
+        self.admit_bound(caller, pass, Admission { known, hose }, rows)
     }
 
-    // Admits a hose, bound to the customer's newest VPN where a number is named.
-    fn admit_bound<W: Wait, G: Gate, R: RowMaker>(
+    /// Admits a hose, bound to the customer's newest VPN where a number is named.
+    pub(crate) fn admit_bound<W: Wait, G: Gate, R: RowMaker>(
         &self,
         caller: &Caller<'_, W, G>,
         pass: Pass,
-        known: Option<u64>,
-        hose: Hose,
+        asked: Admission,
         rows: &mut R,
     ) -> (Reply, Pass)
         requires of { IsPassOf self.now pass }
-        requires nodes { AreNodes self.now.network hose }
-        ensures steps { (held : HeldQuotes) → StepsAlong self.now.network
-            caller.now.customer.now held (admission_of known hose) result.0 pass result.1 }
+        requires nodes { AreNodes self.now.network asked.hose }
+        ensures steps { (held : HeldQuotes) → StepsAlong self.now.network caller.now.customer.now
+            held (admission_of asked.known asked.hose) result.0 pass result.1 }
         ensures names { NamesPlaces self.now.network result.0 }
     {
         let mut pass = pass;
-        let mut hose = hose;
+        let mut asked = asked;
         for _ in 0..TRIES {
-            let (planned, seen) = self.plan(caller, pass, known, hose, rows);
+            let known = asked.known;
+            let (planned, seen) = self.plan(caller, pass, asked, rows);
             let quote = match planned {
                 Ok(quote) => quote,
                 Err(reply) => return (reply, seen),
@@ -94,10 +96,10 @@ impl<D: Disk, B: Begun<D>> Shared<D, B> {
             pass = later;
             match tried {
                 Ok(reply) => return (reply, pass),
-                Err(same) => hose = same,
+                Err(hose) => asked = Admission { known, hose },
             }
         }
-        self.admit_in_turn(caller, pass, known, hose, rows)
+        self.admit_in_turn(caller, pass, asked, rows)
     }
 
     // Takes a plan that was made of all that the pass has seen, bound as before. Where it is stale
@@ -133,20 +135,19 @@ impl<D: Disk, B: Begun<D>> Shared<D, B> {
         &self,
         caller: &Caller<'_, W, G>,
         pass: Pass,
-        known: Option<u64>,
-        hose: Hose,
+        asked: Admission,
         rows: &mut R,
     ) -> (Reply, Pass)
         requires of { IsPassOf self.now pass }
-        requires nodes { AreNodes self.now.network hose }
-        ensures steps { (held : HeldQuotes) → StepsAlong self.now.network
-            caller.now.customer.now held (admission_of known hose) result.0 pass result.1 }
+        requires nodes { AreNodes self.now.network asked.hose }
+        ensures steps { (held : HeldQuotes) → StepsAlong self.now.network caller.now.customer.now
+            held (admission_of asked.known asked.hose) result.0 pass result.1 }
         ensures names { NamesPlaces self.now.network result.0 }
     {
         let (mut held, start) = self.begin_turn(caller.context.rt, pass);
         let (alloc, customer) = (caller.context.alloc, caller.customer);
         let store = &mut held.value_mut().store;
-        let (reply, entry) = admit_now(alloc, store, customer, known, hose, rows);
+        let (reply, entry) = admit_now(alloc, store, customer, asked, rows);
         (reply, self.end_turn(held, start, entry))
     }
 }

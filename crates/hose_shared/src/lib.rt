@@ -23,10 +23,12 @@ mod entering;
 mod kept;
 mod operating;
 mod planning;
+mod providing;
 mod quoting;
 mod shared;
 mod taking;
 
 pub use caller::{Caller, Context};
 pub use kept::{AnyStore, Begun, Kept};
+pub use providing::SharedProvider;
 pub use shared::Shared;

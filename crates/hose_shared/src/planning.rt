@@ -14,9 +14,9 @@ use crate::caller::Caller;
 use crate::kept::Begun;
 use crate::shared::Shared;
 use hose_book::Books;
-use hose_core::{BookView, Quote, newest_now, plan_beside};
+use hose_core::{Admission, BookView, Quote, newest_now, plan_beside};
 use hose_disk::Disk;
-use hose_graph::{Hose, Reply};
+use hose_graph::Reply;
 use hose_links::LinkSet;
 use hose_paths::RowMaker;
 use hose_turn::Pass;
@@ -31,17 +31,17 @@ impl<D: Disk, B: Begun<D>> Shared<D, B> {
         &self,
         caller: &Caller<'_, W, G>,
         pass: Pass,
-        known: Option<u64>,
-        hose: Hose,
+        asked: Admission,
         rows: &mut R,
     ) -> (Result<Quote, Reply>, Pass)
         requires of { IsPassOf self.now pass }
-        requires nodes { AreNodes self.now.network hose }
+        requires nodes { AreNodes self.now.network asked.hose }
         ensures more { HasSeenMore pass result.1 }
         ensures planned { let book = book_of 0 result.1.seen in
-            MatchResult result.0 (IsPlannedFor self.now.network book hose)
-            (IsNotTried self.now.network book caller.now.customer.now known hose) }
+            MatchResult result.0 (IsPlannedFor self.now.network book asked.hose)
+            (IsNotTried self.now.network book caller.now.customer.now asked.known asked.hose) }
     {
+        let Admission { known, hose } = asked;
         let alloc = caller.context.alloc;
         let Ok(mut loads) = Vec::from_elem(alloc, 0, self.topology.links() as usize) else {
             return (Err(Reply::Memory), pass);

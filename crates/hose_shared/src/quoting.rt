@@ -11,7 +11,7 @@ ghost use Rattle.hose_shared.specs.steps.Sharing.{IsPassOf};
 use crate::caller::Caller;
 use crate::kept::Begun;
 use crate::shared::Shared;
-use hose_core::Quotes;
+use hose_core::{Admission, Quotes};
 use hose_disk::Disk;
 use hose_graph::{Hose, Reply};
 use hose_paths::RowMaker;
@@ -44,7 +44,8 @@ impl<D: Disk, B: Begun<D>> Shared<D, B> {
             let (at, pass) = self.now(caller.context.rt, pass);
             return (Reply::TooMany { at }, pass);
         };
-        let (planned, pass) = self.plan(caller, pass, None, hose, rows);
+        let asked = Admission { known: None, hose };
+        let (planned, pass) = self.plan(caller, pass, asked, rows);
         match planned {
             Err(reply) => (reply, pass),
             Ok(quote) => (quotes.hold(caller.context.alloc, number, quote), pass),

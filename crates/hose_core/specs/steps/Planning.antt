@@ -16,6 +16,7 @@ use Rattle.hose_core.specs.steps.Bound.{HasNewest, TellsNewest, admission_of}
 use Rattle.hose_core.specs.steps.Holding.{IsMadeAt}
 use Rattle.hose_book.specs.declared.books.Books.{Ghosts}
 use Rattle.hose_core.specs.steps.Stepping.{AdmitsCheapest, HaveAnswered, StepsAtEach, TellsPlan}
+use Rattle.hose_core.specs.declared.admitting.Admission.{Admission}
 use Rattle.hose_core.specs.declared.quotes.Quote.{Quote}
 
 -- the quote is made of the hose at the book
@@ -58,10 +59,10 @@ pub record EntersPlan (customer : List ℕ) (hose : List Endpoint) (reply : Repl
 -- they stand for, and by a cheapest plan. The entry is the one that was to join them, and without
 -- one they are as before.
 pub record AdmitsAtOnce {K R : Type 0} (books : Ghosts K R) (old new : K) (customer : List ℕ)
-    (known : Option ℕ) (hose : List Endpoint) (answer : Reply) (entry : Option Entry)
-    : Type 0 where
-  pub step : StepsAtEach books old new customer (admission_of known hose) answer
-  pub cheapest : AdmitsCheapest (books.ledger old).network (books.ledger old).book hose answer
+    (asked : Admission) (answer : Reply) (entry : Option Entry) : Type 0 where
+  pub step : StepsAtEach books old new customer (admission_of asked.known asked.hose) answer
+  pub cheapest :
+      AdmitsCheapest (books.ledger old).network (books.ledger old).book asked.hose answer
   pub answered : HaveAnswered books old new answer
   pub none : IfNone entry (new ≡ old)
-  pub enters : IfSome entry (EntersPlan customer hose answer)
+  pub enters : IfSome entry (EntersPlan customer asked.hose answer)

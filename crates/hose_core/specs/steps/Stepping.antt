@@ -153,3 +153,9 @@ abbrev pub Steps : {K R : Type 0} → Ghosts K R → State K → State K → Lis
 Steps books old new customer command answer = (epoch : ℕ) (history : List Entry)
     (holdings : Holdings) → FitsHistory books old epoch history holdings
     → StepsOn books old new epoch history holdings customer command answer
+
+-- A core answered a command by such a step, and so have its books answered.
+pub record HasAnswered {K R : Type 0} (books : Ghosts K R) (old new : State K) (customer : List ℕ)
+    (command : Command) (answer : Reply) : Type 0 where
+  pub step : Steps books old new customer command answer
+  pub answered : HaveAnswered books old.books new.books answer

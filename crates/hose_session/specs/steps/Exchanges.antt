@@ -7,7 +7,7 @@ use Rattle.hose_graph.specs.declared.command.Reply.{Reply}
 use Rattle.hose_graph.specs.declared.entry.Entry.{Entry}
 use Rattle.hose_law.specs.Quotes.{Held}
 use Rattle.hose_law.specs.Script.{disks_in, one_if_disk}
-use Rattle.hose_law.specs.Transcript.{IsPlainReply, IsSessionStep, IsTranscript, SessionLine, Stage}
+use Rattle.hose_law.specs.Transcript.{IsPlainReply, IsSessionStep, IsTranscript, SessionLine, Stage, session_state}
 use Rattle.hose_law.specs.Transcript.SessionLine.{Greets}
 use Rattle.hose_law.specs.Transcript.Stage.{Left, Refused, Serving, Waiting}
 use Rattle.hose_core.specs.steps.Holding.{AreHeld}
@@ -98,7 +98,8 @@ is_over None = true
 pub record GoesAlong (network : Network) (old new : Known) (lines : List SessionLine)
     (replies : List Reply) (stage : Stage) (own : List ℕ) : Type 0 where
   pub last : ℕ
-  pub transcript : IsTranscript network 0 new.seen (length old.seen) lines replies stage last own
+  pub transcript : IsTranscript network 0 new.seen (length old.seen) lines replies
+      (session_state stage last own)
   pub reached : last ≤ length new.seen
   pub entries : All (HasEntryAt network new.seen) own
   pub same : IsSamePass old new

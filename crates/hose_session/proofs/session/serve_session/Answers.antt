@@ -22,7 +22,7 @@ talked g c =
     let ended : done.new.answers.session.shared.now.network ≡ network = done.ensures.about ∙ begun in
     let was : done.new.answers.progress ≡ Some c.in-Some.progress = sym c.into_progress.ensures ∙ c.in-Some.is in
     let begins = subst (λ (p : Option Progress). IfSome p (λ progress. ComesAlong there pass progress [] [])) (sym c.new-talk.ensures.progress) (comes_none there pass (more_same pass c.requires.places).same) in
-    talks_there network g.S.Source g.O.Sink c.args.source.now done.new.source c.args.sink.now done.new.output pass c.in-Some.progress.pass done.new.answers _ (λ talk. is_over talk.progress) c.in-Some.progress.phase there begun
+    talks_there network g.S.Source g.O.Sink c.args.source.now done.new.source c.args.sink.now done.new.output pass c.in-Some.progress.pass start done.new.answers _ (λ talk. is_over talk.progress) c.in-Some.progress.phase there begun
     (λ lines replies comes. subst (λ (p : Option Progress). IfSome p (λ progress. ComesAlong network pass progress lines replies)) was (subst (λ (n : Network). IfSome done.new.answers.progress (λ progress. ComesAlong n pass progress lines replies)) ended comes))
     (ap is_over was) done.result (done.ensures.talks pass begins)
 

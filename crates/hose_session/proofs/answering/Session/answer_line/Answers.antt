@@ -22,7 +22,7 @@ pub returns-in-Ok-clause-answers : goal.returns-in-Ok-clause-answers
 returns-in-Ok-clause-answers g c = λ held are.
     let network = c.args.self.now.shared.now.network in
     let asks = subst (λ (n : Network). IsCommand n (words_of c.in-Text.text.now) c.in-Ok.command) c.topology.ensures.value c.in-Ok.ensures.ok in
-    served_at network c.args.pass c.answer-reply.result.1 c.args.line _ c.args.client c.answer-reply.new.client held (Asks c.in-Ok.command)
+    served_at network c.args.pass c.answer-reply.result.1 c.args.line _ c.args.client c.answer-reply.result.2 held (Asks c.in-Ok.command)
     (text_is (λ bytes. IsCommand network (words_of bytes) c.in-Ok.command) c.args.line c.in-Text.text c.in-Text.is asks) (c.answer-reply.ensures.exchange held are)
 
 pub returns-then-is_bye-clause-answers : goal.returns-then-is_bye-clause-answers

@@ -10,24 +10,24 @@ use Rattle.hose_shared.proofs.shared.Shared.admit_in_turn.Goals as goal
 pub admit_now-reply-requires : goal.admit_now-reply-requires
 admit_now-reply-requires g c =
     let same = ap (λ (k : _). k.store.ledger.network) (c.value_mut.ensures.value ∙ sym c.begin_turn-held.ensures.value) in
-    nodes_here c.args.hose c.args.self.now.network c.value_mut.result.now.store.ledger.network (same ∙ c.begin_turn-held.ensures.network) c.requires.nodes
+    nodes_here c.args.asked.hose c.args.self.now.network c.value_mut.result.now.store.ledger.network (same ∙ c.begin_turn-held.ensures.network) c.requires.nodes
 
 pub end_turn-requires-clause-answers : goal.end_turn-requires-clause-answers
 end_turn-requires-clause-answers g c =
     let same = ap (λ (k : _). k.store) (c.value_mut.ensures.value ∙ sym c.begin_turn-held.ensures.value) in
     let customer = c.args.caller.now.customer.now in
-    let known = c.args.known in
+    let asked = c.args.asked in
     let called = c.admit_now-reply.ensures in
-    (customer, none_held, admission_of known c.args.hose, c.admit_now-reply.result.0, admit_turn c.begin_turn-held.ensures.begins same called.answered _ customer none_held known c.args.hose called)
+    (customer, none_held, admission_of asked.known asked.hose, c.admit_now-reply.result.0, admit_turn c.begin_turn-held.ensures.begins same called.answered _ customer none_held asked called)
 
 pub returns-clause-steps : goal.returns-clause-steps
 returns-clause-steps g c = λ held.
     let same = ap (λ (k : _). k.store) (c.value_mut.ensures.value ∙ sym c.begin_turn-held.ensures.value) in
     let customer = c.args.caller.now.customer.now in
-    let known = c.args.known in
+    let asked = c.args.asked in
     let called = c.admit_now-reply.ensures in
     along_of _ customer held _ _ _ _ _ c.begin_turn-held.ensures.more
-    (c.end_turn.ensures customer held (admission_of known c.args.hose) c.admit_now-reply.result.0 (admit_turn c.begin_turn-held.ensures.begins same called.answered _ customer held known c.args.hose called))
+    (c.end_turn.ensures customer held (admission_of asked.known asked.hose) c.admit_now-reply.result.0 (admit_turn c.begin_turn-held.ensures.begins same called.answered _ customer held asked called))
 
 pub returns-clause-names : goal.returns-clause-names
 returns-clause-names g c =

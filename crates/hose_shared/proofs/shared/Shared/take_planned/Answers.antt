@@ -58,7 +58,7 @@ returns-in-Some g c =
     let hose = c.args.quote.hose in
     let reply = c.in-Some.reply in
     let entry = c.in-Ok.claim.entry in
-    let admits : AdmitsAtOnce (store_books g.D.Disk) c.value_mut.result.now.store c.admit_claimed_now-settled.new.books customer known hose reply (Some entry) = rw c.in-Some.is at c.admit_claimed_now-settled.ensures.admits in (
+    let admits : AdmitsAtOnce (store_books g.D.Disk) c.value_mut.result.now.store c.admit_claimed_now-settled.new.books customer (record { known = known; hose = hose }) reply (Some entry) = rw c.in-Some.is at c.admit_claimed_now-settled.ensures.admits in (
       λ held. along_of network customer held (admission_of known hose) reply c.args.pass (holder c.begin_turn-held.result.0) c.end_turn-pass.result begun.more
           (c.end_turn-pass.ensures customer held (admission_of known hose) reply (claimed_turn begun.begins same _ customer known hose entry (ap Some (c.of-entry.ensures ∙ c.entry.ensures)) held reply admits)),
       subst (λ (n : Network). NamesPlaces n reply) (ap (λ (s : _). s.ledger.network) same ∙ begun.network) admits.answered.names,

@@ -1,30 +1,36 @@
-use Rattle.std.proofs.Common.{◌≤◌, ◌∙◌, None, ap, sym, arith}
+use Rattle.std.proofs.Common.{◌≤◌, ◌∙◌, None, ap, refl, subst, sym, arith}
 use Rattle.hose_book.specs.Ledger.{Ledger}
 use Rattle.hose_graph.specs.declared.command.Command.TheVariants.{Take}
+use Rattle.hose_graph.specs.declared.command.Reply.TheVariants.{Memory, NoQuote}
 use Rattle.hose_graph.specs.declared.limits.TheConstants.{MOST_QUOTES}
 use Rattle.hose_law.specs.Quotes.{at_number, with_number}
 use Rattle.hose_law.proofs.Numbers.{some_at}
 use Rattle.hose_core.specs.steps.Holding.{State, quotes_in}
+use Rattle.hose_core.specs.steps.Stepping.{HaveAnswered}
 use Rattle.hose_core.proofs.Earlier.{grounds_since, kept_on}
 use Rattle.hose_core.proofs.HeldQuotes.{kept_now, kept_with, some_alike}
-use Rattle.hose_core.proofs.SteppedOn.{no_quote_on, of_fields, take_memory_on, taken_on}
-use Rattle.hose_core.proofs.stepping.Core.take.Goals as goal
+use Rattle.hose_core.proofs.SteppedOn.{no_quote_on, of_fields, stays_answered, take_memory_on, taken_on}
+use Rattle.hose_core.proofs.stepping.CoreProvider.take.Goals as goal
 
-pub returns-in_default-clause-step : goal.returns-in_default-clause-step
-returns-in_default-clause-step g c = λ epoch history holdings fits.
+pub returns-in_default : goal.returns-in_default
+returns-in_default g c =
     let customer = c.args.customer.now in
+    let number = c.args.number in
     let at = c.epoch-at.ensures.value ∙ ap (λ (l : Ledger). l.book.epoch) (c.book.ensures ∙ ap (λ (s : State _). g.K.Books.ledger s.books) c.self.view_is) in
-    let none = ap (λ (s : State _). at_number (quotes_in s.quotes customer) c.args.number) (sym c.self.view_is) ∙ c.in_default.ensures.none in
-    no_quote_on g.K.Books c.args.self.now epoch history holdings customer fits c.args.number c.epoch-at.result at none
+    let none = ap (λ (s : State _). at_number (quotes_in s.quotes customer) number) (sym c.self.view_is) ∙ c.in_default.ensures.none in
+    stays_answered g.K.Books c.args.self.now customer (Take number) (NoQuote number c.epoch-at.result)
+    (λ epoch history holdings fits. no_quote_on g.K.Books c.args.self.now epoch history holdings customer fits number c.epoch-at.result at none) refl tt
 
 pub claim_take-requires : goal.claim_take-requires
 claim_take-requires g c = ((c.self.invariant c.args.customer.now).made c.args.number c.in-Some.quote.now c.in-Some.ensures.some).made.ranges
 
-pub returns-in_default-claim_take-clause-step : goal.returns-in_default-claim_take-clause-step
-returns-in_default-claim_take-clause-step g c = λ epoch history holdings fits.
+pub returns-in_default-claim_take : goal.returns-in_default-claim_take
+returns-in_default-claim_take g c =
     let customer = c.args.customer.now in
-    let there = ap (λ (s : State _). at_number (quotes_in s.quotes customer) c.args.number) (sym c.self.view_is) ∙ c.in-Some.ensures.some in
-    take_memory_on g.K.Books c.args.self.now epoch history holdings customer fits c.args.number c.in-Some.quote.now there
+    let number = c.args.number in
+    let there = ap (λ (s : State _). at_number (quotes_in s.quotes customer) number) (sym c.self.view_is) ∙ c.in-Some.ensures.some in
+    stays_answered g.K.Books c.args.self.now customer (Take number) Memory
+    (λ epoch history holdings fits. take_memory_on g.K.Books c.args.self.now epoch history holdings customer fits number c.in-Some.quote.now there) refl tt
 
 pub take_now-reply-requires-clause-made : goal.take_now-reply-requires-clause-made
 take_now-reply-requires-clause-made g c =
@@ -55,8 +61,8 @@ invariant_of-self g c =
     let kept = kept_now ledger was c.clear.new.self customer (with_number quotes c.args.number None) c.clear.ensures one c.self.invariant in
     λ name. kept_on ledger _ c.take_now-reply.ensures.answered.ledger (quotes_in c.clear.new.self name) (kept name)
 
-pub returns-clause-step : goal.returns-clause-step
-returns-clause-step g c = λ epoch history holdings.
+pub returns : goal.returns
+returns g c =
     let books = g.K.Books in
     let fields : State _ = record { books = c.self.inside.books; quotes = c.self.inside.quotes } in
     let new : State _ = record { books = c.take_now-reply.new.books; quotes = c.clear.new.self } in
@@ -64,8 +70,13 @@ returns-clause-step g c = λ epoch history holdings.
     let number = c.args.number in
     let quote = c.in-Some.quote.now in
     let reply = c.take_now-reply.result in
-    of_fields books fields c.args.self.now new epoch history holdings customer (Take number) reply c.self.view_is
-    (λ fits.
-    let one = some_alike (books.ledger fields.books).network epoch history (holdings customer) (quotes_in fields.quotes customer) (fits.held customer) number quote c.in-Some.ensures.some in
-    taken_on books fields new epoch history holdings customer fits c.take_now-reply.ensures.answered.network number quote reply c.in-Some.ensures.some c.take_now-reply.ensures.memory
-    (c.take_now-reply.ensures.step customer epoch number history (holdings customer) one.0 c.in-Ok.ensures fits.book one.1 one.2) c.clear.ensures)
+    let called = c.take_now-reply.ensures in
+    record {
+      step = λ epoch history holdings.
+          of_fields books fields c.args.self.now new epoch history holdings customer (Take number) reply c.self.view_is
+          (λ fits.
+          let one = some_alike (books.ledger fields.books).network epoch history (holdings customer) (quotes_in fields.quotes customer) (fits.held customer) number quote c.in-Some.ensures.some in
+          taken_on books fields new epoch history holdings customer fits called.answered.network number quote reply c.in-Some.ensures.some called.memory
+          (called.step customer epoch number history (holdings customer) one.0 c.in-Ok.ensures fits.book one.1 one.2) c.clear.ensures);
+      answered = subst (λ (s : State _). HaveAnswered books s.books new.books reply) c.self.view_is called.answered;
+    }

@@ -1,0 +1,35 @@
+-- A shared book, as it answers one customer along a pass.
+use Rattle.std.specs.Prelude.{◌≡◌, ℕ, List, Option, Some}
+use Rattle.hose_graph.specs.steps.Naming.{NamesPlaces}
+use Rattle.hose_graph.specs.Network.{Network}
+use Rattle.hose_graph.specs.declared.command.Command.{Command}
+use Rattle.hose_graph.specs.declared.command.Reply.{Reply}
+use Rattle.hose_law.specs.Quotes.{Held}
+use Rattle.hose_core.specs.steps.Holding.{AreHeld}
+use Rattle.hose_core.specs.declared.quotes.Quote.{Quote}
+use Rattle.hose_turn.specs.Known.{Known}
+use Rattle.hose_shared.specs.steps.Along.{StepsHolding}
+use Rattle.hose_shared.specs.steps.Sharing.{IsPassOf, SharedBook}
+
+-- a customer of a shared book: the pass along which it is answered, where it is at hand, and the
+-- quotes that the customer holds
+pub record Customer : Type 0 where
+  pub pass : Option Known
+  pub quotes : List (Option Quote)
+
+-- the pass is one of the shared book, and the quotes were made along it
+abbrev pub CanProvide : SharedBook → List (Option Quote) → Known → Type 0
+CanProvide shared quotes pass =
+    IsPassOf shared pass × (held : Held) × AreHeld shared.network 0 pass.seen held quotes
+
+-- A command was answered by a step along the history, whatever the customer held whose quotes these
+-- were, with a reply that names what is there; and the pass is at hand before and after it.
+pub record Provides (network : Network) (old new : Customer) (customer : List ℕ)
+    (command : Command) (reply : Reply) : Type 0 where
+  pub before : Known
+  pub after : Known
+  pub was : old.pass ≡ Some before
+  pub is : new.pass ≡ Some after
+  pub steps : (held : Held) → AreHeld network 0 before.seen held old.quotes
+      → StepsHolding network customer held command reply before after new.quotes
+  pub names : NamesPlaces network reply
