@@ -1,19 +1,12 @@
 -- Lines of a script, one after another, and what they lead to.
-use Rattle.std.proofs.Common.{◌≡◌, ◌⊎◌, inl, inr, ⊎_elim, ℕ, zero, suc, ◌+◌, ◌-◌, ◌^◌, ◌≤◌, List, [], ◌∷◌, ◌++◌, Result, None, Some, Option, Ok, Err, false, refl, sym, ◌∙◌, ap, subst, arith, length, append-nil}
+use Rattle.std.proofs.Common.{◌≡◌, ◌⊎◌, inl, inr, ⊎_elim, ℕ, zero, suc, ◌+◌, ◌-◌, ◌^◌, ◌≤◌, List, [], ◌∷◌, ◌++◌, None, Some, Option, refl, sym, ◌∙◌, ap, subst, arith, length, append-nil}
 use Rattle.std.specs.Prelude.{IfSome, slice_get}
 use mathlib.Core.List.{IsPrefix}
-use Rattle.hose_words.proofs.OnReading.{WhereTold-map}
 use Rattle.hose_words.specs.Grammar.{IsFirstNotAllowed}
 use Rattle.hose_words.specs.Words.{words_of}
-use Rattle.hose_words.specs.steps.Lines.{Shows, Reader}
+use Rattle.hose_words.specs.steps.Lines.{Shows}
 use Rattle.hose_words.specs.declared.lines.Line.{Line}
 use Rattle.hose_words.specs.declared.lines.Line.TheVariants as line
-use Rattle.hose_talk.specs.Talk.{LastCut, TalksTo, TalksUpTo}
-use Rattle.hose_talk.specs.steps.Talk.{KeepsFault}
-use Rattle.hose_talk.specs.declared.talking.TalkEnd.{TalkEnd}
-use Rattle.hose_talk.specs.declared.talking.TalkEnd.TheVariants as talk_end
-use Rattle.hose_talk.specs.declared.talking.TalkFault.{TalkFault}
-use Rattle.hose_talk.specs.declared.talking.TalkFault.TheVariants as talk_fault
 use Rattle.hose_graph.specs.declared.entry.Entry.{Entry}
 use Rattle.hose_graph.specs.declared.command.Command.{Command}
 use Rattle.hose_graph.specs.declared.command.Reply.{Reply}
@@ -22,19 +15,15 @@ use Rattle.hose_law.specs.Book.{Book}
 use Rattle.hose_law.specs.History.{EntryKind, book_of, IsDecided, IsDecidedAt, IsSound, IsSoundAt}
 use Rattle.hose_law.specs.steps.History.{IsSoundWith}
 use Rattle.hose_law.specs.Answer.{IsStepOf}
-use Rattle.hose_law.specs.Quotes.{Held, Holdings, nothing_held, with_held}
+use Rattle.hose_law.specs.Quotes.{Held, nothing_held, with_held}
 use Rattle.hose_law.proofs.Fronts.{prefix_push}
-use Rattle.hose_law.proofs.Scripts.{decided_end, decided_push, disks_push, script_push}
+use Rattle.hose_law.proofs.Lines.{steps_many, steps_push}
+use Rattle.hose_law.proofs.Scripts.{decided_end, decided_push, disks_push}
 use Rattle.hose_law.specs.ReplyKind.{ReplyKind, failures_of, kind_of}
 use Rattle.hose_law.specs.ReplyKind.ReplyKind.{ByTheBook, ForDisk, ForMemory, ForNoCommand}
-use Rattle.hose_law.specs.Script.{ReadLine, IsLineStep, IsScript, one_if_disk}
+use Rattle.hose_law.specs.Script.{ReadLine, IsLineStep, one_if_disk, IsFixedReply, ScriptState, script_state}
 use Rattle.hose_law.specs.Script.ReadLine.{Asks, IsBad, IsLong, Unread}
 use Rattle.hose_offline.specs.ScriptLine.{IsAsking, WantsMemory, script_grammar}
-use Rattle.hose_words.specs.Reading.{WhereTold}
-use Rattle.hose_words.specs.Saying.{IsAllTaken, SayLines, no_line, one_more}
-use Rattle.hose_words.specs.steps.Saying.{SaysUpTo}
-use Rattle.hose_proto.specs.Replies.{CutsLast}
-use Rattle.hose_proto.specs.ReplyText.{line_of, reply_text}
 use Rattle.hose_io.specs.Frame.{Frame, Rose, Stays}
 use Rattle.hose_io.proofs.Frames.{Stays-next, Stays-none, Stays-same}
 use Rattle.hose_book.specs.steps.Commit.{IsMet, history_after}
@@ -44,10 +33,8 @@ use Rattle.hose_book.specs.declared.books.Committed.TheVariants.{Done, Disk as F
 use Rattle.hose_book.specs.declared.books.Books.{Ghosts as BooksGhosts}
 use Rattle.hose_core.specs.steps.Holding.{State}
 use Rattle.hose_core.specs.steps.Stepping.{FitsHistory, Goes, committed_for, committed_of, history_with}
-use Rattle.hose_offline.specs.Fault.{done_of_talk}
-use Rattle.hose_offline.specs.steps.Talk.{talk}
-use Rattle.hose_offline.specs.Talking.{IsAskedBy, Says, SaysNext, TellsDisks}
-use Rattle.hose_offline.specs.steps.Talking.{AnswersLine, HasAnswered, SaysAlone, SaysRead, SayOneThingEach, Talks, AnswersUpTo as UpTo, TalkTellings, line_more, none_said}
+use Rattle.hose_offline.specs.Talking.{IsAskedBy, Says, TellsDisks}
+use Rattle.hose_offline.specs.steps.Talking.{AnswersLine, HasAnswered, SaysRead}
 
 -- what a reader shows of a line says what the line says
 pub says_shown : (network : Network) (shown : Line) (bytes : List ℕ) (said : ReadLine) → Shows shown bytes → SaysRead network shown said → Says network bytes said
@@ -129,13 +116,6 @@ still_there [] more place x is = absurd (cc is)
 still_there (first ∷ xs) more zero x is = is
 still_there (first ∷ xs) more (suc place) x is = still_there xs more place x is
 
--- each line has a reply
-as_many : (network : Network) (epoch : ℕ) (history : List Entry) (holdings : Holdings) (lines : List ReadLine) (replies : List Reply) (last : List Entry) (left : Holdings) → IsScript network epoch history holdings lines replies last left → length lines ≡ length replies
-as_many network epoch history holdings [] [] last left script = refl
-as_many network epoch history holdings (line ∷ lines) (reply ∷ replies) last left (next, after, step, more) = ap suc (as_many network epoch next after lines replies last left more)
-as_many network epoch history holdings [] (reply ∷ replies) last left script = absurd script
-as_many network epoch history holdings (line ∷ lines) [] last left script = absurd script
-
 -- what lines ask for more of them ask for
 asked_more : (lines : List ReadLine) (replies : List Reply) (line : ReadLine) (reply : Reply) (network : Network) (book : Book) (entry : Entry) → IsAskedBy lines replies network book entry → IsAskedBy (lines ++ line ∷ []) (replies ++ reply ∷ []) network book entry
 asked_more lines replies line reply network book entry is = record {
@@ -196,18 +176,19 @@ module _ {K R : Type 0} (books : BooksGhosts K R) (since : List Entry) (first ol
       let step = subst (λ (n : Network). IsStepOf n 0 history customer held command reply entry on.stepped.next on.stepped.after) was.network on.stepped.step in
       let sound = subst (λ (n : Network). IsSoundWith n (book_of 0 history) entry) was.network on.stepped.sound in
       let decided = subst (λ (n : Network). IfSome entry (IsDecidedAt n (book_of 0 history))) was.network on.decided in
-      let many = as_many network 0 since nothing_held lines replies history left was.answered.script in
+      let many = steps_many (IsLineStep network 0) lines replies (script_state since nothing_held) (script_state history left) was.answered.script in
       let asked = asked_last lines replies customer command reply network history on.stepped.next held on.stepped.after entry many decided step in
       let before : Leads books (Asked (Asks customer command) reply) network since first.books history old.books = record { decided = was.answered.decided; begins = was.answered.begins; goes_on = longer (Asks customer command) reply } in
       let leads = subst (λ (all : List Entry). Leads books (Asked (Asks customer command) reply) network since first.books all new.books) (sym on.leads)
       (leads_on books (Asked (Asks customer command) reply) network since first.books old.books new.books history reply before entry decided sound asked on.stepped.goes) in
-      let line : IsLineStep network 0 history left (Asks customer command) reply on.stepped.next (with_held left customer on.stepped.after) = (on.stepped.after, (entry, step), refl) in
+      let there = script_state on.stepped.next (with_held left customer on.stepped.after) in
+      let line : IsLineStep network 0 (Asks customer command) reply (script_state history left) there = (on.stepped.after, (entry, step), refl) in
       let told = kept (books.frame old.books) (books.frame new.books) reply answers.2 in
       record {
         answered = record {
           history = on.stepped.next;
           left = with_held left customer on.stepped.after;
-          script = script_push network 0 since nothing_held lines replies history left (Asks customer command) reply on.stepped.next (with_held left customer on.stepped.after) was.answered.script line;
+          script = steps_push (IsLineStep network 0) lines replies (script_state since nothing_held) (script_state history left) there (Asks customer command) reply was.answered.script line;
           decided = leads.decided;
           begins = leads.begins;
           goes_on = leads.goes_on;
@@ -218,14 +199,22 @@ module _ {K R : Type 0} (books : BooksGhosts K R) (since : List Entry) (first ol
         network = answers.1 ∙ was.network;
       }
 
+  -- where the lines before it led
+  abbrev here : ScriptState
+  here = script_state was.answered.history was.answered.left
+
+  stays_so : (said : ReadLine) (reply : Reply) → IsFixedReply said reply → IsLineStep network 0 said reply here here
+  stays_so (Asks customer command) reply fixed = absurd fixed
+  stays_so said reply fixed = (fixed, refl)
+
   -- any other line changed nothing
-  fixed_more : (said : ReadLine) (reply : Reply) → IsLineStep network 0 was.answered.history was.answered.left said reply was.answered.history was.answered.left → one_if_disk reply ≡ 0 → new ≡ old
+  fixed_more : (said : ReadLine) (reply : Reply) → IsFixedReply said reply → one_if_disk reply ≡ 0 → new ≡ old
       → HasAnswered books since first new (lines ++ said ∷ []) (replies ++ reply ∷ [])
-  fixed_more said reply line no_disk same = subst (λ (s : State K). HasAnswered books since first s (lines ++ said ∷ []) (replies ++ reply ∷ [])) (sym same) (record {
+  fixed_more said reply fixed no_disk same = subst (λ (s : State K). HasAnswered books since first s (lines ++ said ∷ []) (replies ++ reply ∷ [])) (sym same) (record {
     answered = record {
       history = was.answered.history;
       left = was.answered.left;
-      script = script_push network 0 since nothing_held lines replies was.answered.history was.answered.left said reply was.answered.history was.answered.left was.answered.script line;
+      script = steps_push (IsLineStep network 0) lines replies (script_state since nothing_held) here here said reply was.answered.script (stays_so said reply fixed);
       decided = was.answered.decided;
       begins = was.answered.begins;
       goes_on = longer said reply;
@@ -239,9 +228,9 @@ module _ {K R : Type 0} (books : BooksGhosts K R) (since : List Entry) (first ol
   -- one line more is answered
   pub answered_more : (said : ReadLine) (reply : Reply) → AnswersLine books old new said reply → HasAnswered books since first new (lines ++ said ∷ []) (replies ++ reply ∷ [])
   answered_more (Asks customer command) reply answers = command_more customer command reply answers
-  answered_more (IsBad word) reply answers = fixed_more (IsBad word) reply (answers.0, refl, refl) (ap one_if_disk answers.0) answers.1
-  answered_more IsLong reply answers = fixed_more IsLong reply (answers.0, refl, refl) (ap one_if_disk answers.0) answers.1
-  answered_more Unread reply answers = fixed_more Unread reply (answers.0, refl, refl) (ap one_if_disk answers.0) answers.1
+  answered_more (IsBad word) reply answers = fixed_more (IsBad word) reply answers.0 (ap one_if_disk answers.0) answers.1
+  answered_more IsLong reply answers = fixed_more IsLong reply answers.0 (ap one_if_disk answers.0) answers.1
+  answered_more Unread reply answers = fixed_more Unread reply answers.0 (ap one_if_disk answers.0) answers.1
 
 -- nothing is answered yet
 pub answered_none : {K R : Type 0} (books : BooksGhosts K R) (since : List Entry) (core : State K) → IsSound (books.ledger core.books).network 0 since → FitsHistory books core 0 since nothing_held → HasAnswered books since core core [] []
@@ -249,7 +238,7 @@ answered_none books since core sound fits = record {
   answered = record {
     history = since;
     left = nothing_held;
-    script = (refl, refl);
+    script = refl;
     decided = decided_end (books.ledger core.books).network 0 since sound;
     begins = ([], append-nil since);
     goes_on = none_yet;
@@ -259,51 +248,3 @@ answered_none books since core sound fits = record {
   fits = fits;
   network = refl;
 }
-
--- ---- what answering lines comes to
-
-module _ (network : Network) where
-  said_next : {text rest : List ℕ} {lines : List ReadLine} → SayLines (λ before. SaysAlone network) text lines rest → SayLines (SaysNext network) text lines rest
-  said_next no_line = no_line
-  said_next (one_more line before some says) = one_more line (said_next before) some says.0
-
-  said_alone : {text rest : List ℕ} {lines : List ReadLine} → SayLines (λ before. SaysAlone network) text lines rest → SayOneThingEach network text rest
-  said_alone no_line = none_said
-  said_alone (one_more line before some says) = line_more (said_alone before) some says.1
-
-module _ {S O K R : Type 0} (tells : TalkTellings S O K R) (since : List Entry) (start now : Reader S) (output output' : O) (first last : State K) where
-  abbrev top : Network
-  top = (tells.books.ledger first.books).network
-
-  abbrev Alone : (List ℕ → List ℕ → List ℕ → Type 0) → List ReadLine → Type 0
-  Alone stops lines = SaysUpTo tells.source start now (λ before. SaysAlone top) lines stops
-
-  abbrev Before : (List ℕ → List ℕ → List ℕ → Type 0) → (List Reply → Type 0) → Type 0
-  Before = TalksUpTo Alone (λ lines replies core. HasAnswered tells.books since first core lines replies) last
-
-  up_to : (stops : List ℕ → List ℕ → List ℕ → Type 0) (puts outs : List Reply → Type 0) (talks : Before stops puts) → outs talks.replies → UpTo tells top since (talk start output first.books) (talk now output' last.books) stops outs
-  up_to stops puts outs talks out = record {
-    lines = talks.lines;
-    replies = talks.replies;
-    said = WhereTold-map (tells.source.content start.source) (tells.source.content now.source) _ _ talks.said (λ was left said. (said.0, said_next top said.1, said.2));
-    answered = talks.comes.answered;
-    out = out;
-  }
-
-  -- no line is left, so all say one thing
-  alone : (puts : List Reply → Type 0) → Before IsAllTaken puts → WhereTold (tells.source.content start.source) (tells.source.content now.source) (λ was _. SayOneThingEach top (start.pending ++ was) [])
-  alone puts talks = WhereTold-map (tells.source.content start.source) (tells.source.content now.source) _ _ talks.said (λ was left said. subst (SayOneThingEach top (start.pending ++ was)) said.2.0 (said_alone top said.1))
-
-  -- the last reply is cut off
-  cut : (replies : List Reply) → LastCut (λ reply. line_of (reply_text top reply)) tells.sink output output' replies → CutsLast top (tells.sink.content output) (tells.sink.content output') replies
-  cut replies (whole, reply, same, count, less, grows) = (whole, reply, same, (count, less, grows))
-
-  -- a talk by a core is one by its books
-  pub talks_so : (ended : Result TalkEnd TalkFault) → KeepsFault start now ended
-      → TalksTo tells.source tells.sink Alone (λ lines replies core. HasAnswered tells.books since first core lines replies) (λ _. false) (λ reply. line_of (reply_text top reply)) start.source now.source output output' last ended
-      → Talks tells top since (talk start output first.books) (talk now output' last.books) (done_of_talk ended)
-  talks_so (Ok talk_end.Input) kept talks = (up_to _ _ _ talks.0.0 talks.0.0.out, kept, talks.2, alone _ talks.0.0)
-  talks_so (Ok talk_end.Over) kept talks = absurd (cc talks.0.1)
-  talks_so (Err talk_fault.Read) kept talks = (record { talks = up_to _ _ _ talks.0.0 talks.0.0.out; before_end = kept.1; kept = kept.0; held = talks.2 }, talks.1)
-  talks_so (Err talk_fault.TooLong) kept talks = record { talks = up_to _ _ _ talks.0.0 talks.0.0.out; before_end = kept.1; kept = kept.0; held = talks.2 }
-  talks_so (Err talk_fault.Write) kept talks = (up_to _ _ (CutsLast top (tells.sink.content output) (tells.sink.content output')) talks.0 (cut talks.0.replies talks.0.out), kept, talks.2)

@@ -127,20 +127,20 @@ module _ {I O C E : Type 0} (tells : Tellings I O C E) (names : PricedNames) (be
     ends_well end.End (Err failed) has is held told = absurd (held.keeping_it (has.met.failed refl))
     ends_well (end.Packet at) (Ok done) has is held told = inr (inl (is, (at, refl)))
     ends_well (end.Packet at) (Err failed) has is held told = inr (inl (is, (at, refl)))
-    ends_well end.Read closing has is held told = absurd (held.others has.follows.ends.2)
-    ends_well end.Write closing has is held told = absurd (held.writing (Rose-before (tells.sink.frame before.output) (tells.sink.frame left) (tells.sink.frame after.output) has.follows.ends.1 stays))
+    ends_well end.Read closing has is held told = absurd (held.others has.follows.input.1.rose)
+    ends_well end.Write closing has is held told = absurd (held.writing (Rose-before (tells.sink.frame before.output) (tells.sink.frame left) (tells.sink.frame after.output) has.follows.output.1.rose stays))
     ends_well end.TooLong closing has is held told = absurd (few_given _ _ _ has.follows.gives told (has.follows.too_long.0 refl))
     ends_well end.Memory (Ok done) has is held told = inr (inr is)
     ends_well end.Memory (Err failed) has is held told = inr (inr is)
 
     completes : (ended : FollowEnd) (closing : Result ⊤ Failed) → Followed ended closing → IsOfPackets (tells.source.content before.input) → EndsWell ended → (status ≡ 0) ⊎ (status ≡ 7)
     completes ended closing has told (inl (zero, at_end)) = inl zero
-    completes (end.Packet byte) closing has told (inr (inl (eleven, (at, is)))) = absurd (all_packets _ _ has.follows.packets has.follows.rest has.follows.gives told has.follows.are has.follows.ends.1)
+    completes (end.Packet byte) closing has told (inr (inl (eleven, (at, is)))) = absurd (all_packets _ _ has.follows.packets has.follows.rest has.follows.gives told has.follows.are has.follows.input.1)
     completes another closing has told (inr (inl (eleven, (at, is)))) = cc is
     completes ended closing has told (inr (inr seven)) = inr seven
 
     cuts : (ended : FollowEnd) (closing : Result ⊤ Failed) → Followed ended closing → IsOfNoPackets (tells.source.content before.input) → EndsWell ended → (status ≡ 11) ⊎ (status ≡ 7)
-    cuts end.End closing has told (inl (zero, at_end)) = absurd (none_left _ _ has.follows.packets has.follows.rest has.follows.gives told has.follows.are has.follows.ends.0 has.follows.ends.1)
+    cuts end.End closing has told (inl (zero, at_end)) = absurd (none_left _ _ has.follows.packets has.follows.rest has.follows.gives told has.follows.are has.follows.input.0 has.follows.input.1)
     cuts another closing has told (inl (zero, at_end)) = cc at_end
     cuts ended closing has told (inr (inl (eleven, (at, is)))) = inl eleven
     cuts ended closing has told (inr (inr seven)) = inr seven
@@ -161,7 +161,8 @@ module _ {I O C E : Type 0} (tells : Tellings I O C E) (names : PricedNames) (be
           of_leaders = has.follows.of_leaders;
           begins = has.follows.begins;
           sound = has.follows.sound;
-          ends = has.follows.ends;
+          input = has.follows.input;
+          output = has.follows.output;
           limit = has.follows.limit;
           too_long = has.follows.too_long;
           memory = has.follows.memory;

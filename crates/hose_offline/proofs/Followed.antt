@@ -13,6 +13,7 @@ use Rattle.hose_store.specs.Recovery.{IsHistoryOf}
 use Rattle.hose_store.specs.steps.Store.{KeptStore}
 use Rattle.hose_follow.specs.Answers.{TellsDiskAnswers}
 use Rattle.hose_follow.specs.steps.Ends.{FollowsInput}
+use Rattle.hose_follow.specs.steps.Follower.{follower, follower_tellings}
 use Rattle.hose_follow.specs.declared.answers.Offered.{Offered}
 use Rattle.hose_follow.specs.declared.following.FollowEnd.{FollowEnd}
 use Rattle.hose_follow.specs.declared.following.FollowEnd.TheVariants.{TooLong}
@@ -31,7 +32,7 @@ tells_within answers before after low high under above (inl told) = inl (omega (
 tells_within answers before after low high under above (inr most) = inr (omega (arith, most, above))
 
 module _ {I O C E : Type 0} (tells : Tellings I O C E) (name : List ℕ) (before after : Parts I O C) (mid : C) (network : Network) (store last : KeptStore E) (ended : FollowEnd) (closing : Result ⊤ Failed)
-    (follows : FollowsInput tells.source tells.sink tells.disk before.input after.input before.output after.output store last ended)
+    (follows : FollowsInput (follower_tellings tells.source tells.sink tells.disk) (follower before.input before.output store) (follower after.input after.output last) ended)
     (opens : OpensJournal tells.cabinet tells.disk (IsBrought follows.packets) name before.cabinet mid network store)
     (closes : ClosesJournal tells.cabinet tells.disk mid after.cabinet last closing) where
   abbrev opened : IsOpenedOn tells.disk opens.was network store
@@ -58,7 +59,8 @@ module _ {I O C E : Type 0} (tells : Tellings I O C E) (name : List ℕ) (before
     of_leaders = follows_leaders network follows.packets follows.answers opened.history on.history (answered_by on);
     begins = on.begins;
     sound = subst (λ (n : Network). IsSound n 0 on.history) (on.same_network ∙ opened.network) on.has.sound;
-    ends = follows.ends;
+    input = follows.input;
+    output = follows.output;
     limit = subst (λ (bytes : List ℕ). length bytes ≤ INPUT_LIMIT + 1) follows.parts follows.limit;
     too_long = subst (λ (bytes : List ℕ). (ended ≡ TooLong) ↔ (INPUT_LIMIT < length bytes)) follows.parts follows.too_long;
     memory = λ is. none_answered store.ledger.network opened.history follows.packets follows.answers on.history follows.rest on.answered (sym follows.parts ∙ (follows.memory is).0);

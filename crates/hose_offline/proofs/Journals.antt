@@ -35,7 +35,7 @@ use Rattle.hose_offline.specs.Journal.{IsLeftWith}
 use Rattle.hose_offline.specs.steps.Journal.{ClosesJournal, IsJustOpened, OpensJournal}
 use Rattle.hose_offline.specs.Parts.{Parts, Tellings, parts, tellings}
 use Rattle.hose_offline.specs.OnDisk.{opening_of}
-use Rattle.hose_offline.specs.steps.Talk.{talk}
+use Rattle.hose_talk.specs.Talk.{talk}
 use Rattle.hose_offline.specs.Talking.{IsAskedBy, TellsDisks}
 use Rattle.hose_offline.specs.steps.Talking.{Talks, TalkTellings, talk_tellings}
 use Rattle.hose_offline.specs.steps.TalkingOnDisk.{HasTalkedInCabinet}
@@ -83,18 +83,18 @@ leaves_for disk counts untold only_now One Other network old store is history la
     closed_left disk Other (disk.may_leave old) begins ⊤ last left history closing (counts left) (run_stands disk Other (disk.may_leave old) begins is.opened.history store history last stands goes) closes
 
 -- what is told of a store that was just opened is told for entries of each kind
-pub opened_for : {E : Type 0} (disk : DiskGhosts E) → ((at : E) (t : ℕ) (image : List ℕ) → t ≤ disk.moment at → disk.may_leave at image → disk.left_since at t image) → ((at : E) (t : ℕ) (image : List ℕ) → disk.content at ≡ None → disk.left_since at t image → ⊥)
-    → ((at : E) (image : List ℕ) → disk.left_since at (disk.moment at) image → disk.may_leave at image) → (One Other : EntryKind) (network : Network) (old : E) (store : KeptStore E) → IsJustOpened disk One old network store → IsJustOpened disk Other old network store
-opened_for disk counts untold only_now One Other network old store is =
+pub opened_for : {E : Type 0} (disk : DiskGhosts E) (One Other : EntryKind) (network : Network) (old : E) (store : KeptStore E) → IsJustOpened disk One old network store → IsJustOpened disk Other old network store
+opened_for disk One Other network old store is =
     let begins = opening_of disk network is.opened.history old in
-    let stands = opened_stands disk Other (disk.may_leave old) begins old store is.opened refl is.images is.stands.tells refl (counts old) (untold store.journal.disk) (le_refl _) (only_now old) in
+    let laws = is.lawful in
     record {
+      lawful = laws;
       opened = is.opened;
       images = is.images;
       count = is.count;
-      stands = stands;
+      stands = opened_stands disk Other (disk.may_leave old) begins old store is.opened refl is.images is.stands.tells refl (laws.counts_now old) (laws.untold store.journal.disk) (le_refl _) (laws.only_now old);
       unused = is.unused;
-      leaves = leaves_for disk counts untold only_now One Other network old store is;
+      leaves = leaves_for disk laws.counts_now laws.untold laws.only_now One Other network old store is;
     }
 
 -- A store was opened, and closed before anything was asked of it: at each moment an image is one of

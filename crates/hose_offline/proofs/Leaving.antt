@@ -17,7 +17,7 @@ use Rattle.hose_offline.specs.OnDisk.{on_disk}
 use Rattle.hose_offline.specs.Parts.{Parts, Tellings, parts, tellings}
 use Rattle.hose_offline.specs.Run.{HasNetwork, HasText, in_memory}
 use Rattle.hose_offline.specs.RunOutcome.{InputWorked, RunLeaves}
-use Rattle.hose_offline.specs.steps.Talk.{talk}
+use Rattle.hose_talk.specs.Talk.{talk}
 use Rattle.hose_offline.specs.steps.Talking.{TalksInMemory, plain_books, talk_tellings}
 use Rattle.hose_offline.specs.steps.TalkingOnDisk.{HasTalkedInCabinet, TalksInCabinet}
 use Rattle.hose_offline.specs.TopologyTold.{TellsPriced}

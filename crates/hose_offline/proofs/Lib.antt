@@ -29,6 +29,7 @@ pub mod PutBack
 pub mod Running
 mod Sheets
 mod ShipEnds
+mod StreamsStay
 mod Taken
 mod TalksTold
 mod Texts

@@ -31,7 +31,7 @@ use Rattle.hose_offline.specs.Ending.{IsOut, OutputWorked}
 use Rattle.hose_offline.specs.Fault.{status_of}
 use Rattle.hose_offline.specs.MoveEnd.{EndsMoved, moved_done, stop_status}
 use Rattle.hose_offline.specs.MoveOutcome.{CanTake, EachNamed, FitsMoved, IsHeldTold, IsMovable}
-use Rattle.hose_offline.specs.Moving.{Enters, IsComplete, IsLent, MoveNames, MovesFrom, MovesNew, ReadsOld, read_done}
+use Rattle.hose_offline.specs.Moving.{Enters, IsComplete, IsLent, LendsDisk, LendsOld, MoveNames, MovesFrom, read_done, to_move, to_read}
 use Rattle.hose_offline.specs.OnDisk.{CabinetFailed}
 use Rattle.hose_offline.specs.Parts.{Parts, Tellings}
 use Rattle.hose_offline.specs.Run.{IsFor, IsServable}
@@ -153,7 +153,7 @@ module _ {C E : Type 0} (cabinet : CabinetGhosts C E) (disk : DiskGhosts E) wher
       read_stated stated (Err why) same lent = absurd (cc same)
 
     old_journal : (name : List ℕ) (which : Scope) (old new : C) (Is : List Entry → Type 0) (why : Fault) → IsHeldTold cabinet disk old name (λ bytes. (history : List Entry) × IsHistoryOf network history bytes × Is history) → Stays (object_of (cabinet.frame first)) (object_of (cabinet.frame old))
-        → ¬ CabinetFailed cabinet first new → ReadsOld cabinet disk name which old new network (Err why) → status_of why ≡ 7
+        → ¬ CabinetFailed cabinet first new → LendsOld cabinet disk name old new (to_read disk network which) (Err why) → status_of why ≡ 7
     old_journal name which old new Is why told stays none (inl (same, not)) = absurd (none (Rose-later _ _ _ stays not.failed))
     old_journal name which old new Is why told stays none (inr (found, looked, inl (same, not))) = absurd (none (Rose-later _ _ _ (Stays-next stays looked.only_texts.stays) not.failed))
     old_journal name which old new Is why told stays none (inr (found, looked, inr (read, same, lent))) =
@@ -182,7 +182,7 @@ module _ {C E : Type 0} (cabinet : CabinetGhosts C E) (disk : DiskGhosts E) wher
     moved_ends (Err moving.Disk) lent = absurd (none (Rose-later _ _ _ stays (lent_failed name old new _ lent lent.done.0.told)))
     moved_ends (Err moving.Memory) lent = refl
 
-    new_ends : (result : Result Moved MoveStop) → MovesNew cabinet disk name old new network entries result → Ends Holds result
+    new_ends : (result : Result Moved MoveStop) → LendsDisk cabinet disk name old new (to_move disk network entries) result → Ends Holds result
     new_ends result (inl (same, not)) = absurd (none (Rose-later _ _ _ stays not.failed))
     new_ends result (inr (moved, same, lent)) = subst (Ends Holds) (sym same) (moved_ends moved lent)
 
@@ -222,32 +222,32 @@ module _ {I O C E : Type 0} (tells : Tellings I O C E) (names : MoveNames) (befo
       abbrev TakesIt : List Entry → Type 0
       TakesIt = FitsMoved tells.cabinet tells.disk names before.cabinet old new
 
-      told_2 : IsHeldTold tells.cabinet tells.disk c2 names.journal (λ bytes. (history : List Entry) × IsHistoryOf old history bytes × TakesIt history)
-      told_2 = after_texts tells.cabinet tells.disk names.journal c1 c2 _ reads'.only_texts (after_texts tells.cabinet tells.disk names.journal before.cabinet c1 _ reads.only_texts (taken new c2 reads').1)
+      told_2 : IsHeldTold tells.cabinet tells.disk c2 names.journals.old (λ bytes. (history : List Entry) × IsHistoryOf old history bytes × TakesIt history)
+      told_2 = after_texts tells.cabinet tells.disk names.journals.old c1 c2 _ reads'.only_texts (after_texts tells.cabinet tells.disk names.journals.old before.cabinet c1 _ reads.only_texts (taken new c2 reads').1)
 
       module _ (stated : Stated) (c3 c4 : C) (looked : OnlyTextsRead tells.cabinet c2 c3) (read : Result Stated StoreFault) (same : Ok stated ≡ read_done read)
-          (lent : IsLent tells.cabinet tells.disk names.journal c3 c4 (λ opened left. ReadsJournal tells.disk opened left old names.scope read × IsUnchanged tells.disk opened left)) where
+          (lent : IsLent tells.cabinet tells.disk names.journals.old c3 c4 (λ opened left. ReadsJournal tells.disk opened left old names.journals.scope read × IsUnchanged tells.disk opened left)) where
         stays_4 : Stays (object_of (tells.cabinet.frame before.cabinet)) (object_of (tells.cabinet.frame c4))
-        stays_4 = Stays-next (Stays-next stays_2 looked.stays) (lent_stays tells.cabinet tells.disk names.journal c3 c4 _ lent)
+        stays_4 = Stays-next (Stays-next stays_2 looked.stays) (lent_stays tells.cabinet tells.disk names.journals.old c3 c4 _ lent)
 
-        was : (history : List Entry) × (stated.entries.items ≡ stated_entries names.scope old history) × TakesIt history
-        was = read_stated tells.cabinet tells.disk before.cabinet old one names.journal names.scope c3 c4 TakesIt (after_texts tells.cabinet tells.disk names.journal c2 c3 _ looked told_2) stated read same lent
+        was : (history : List Entry) × (stated.entries.items ≡ stated_entries names.journals.scope old history) × TakesIt history
+        was = read_stated tells.cabinet tells.disk before.cabinet old one names.journals.old names.journals.scope c3 c4 TakesIt (after_texts tells.cabinet tells.disk names.journals.old c2 c3 _ looked told_2) stated read same lent
 
-        to_new : (Is : List ℕ → Type 0) → IsHeldTold tells.cabinet tells.disk before.cabinet names.new_journal Is → IsHeldTold tells.cabinet tells.disk c4 names.new_journal Is
-        to_new Is told = lent_later tells.cabinet tells.disk names.journal c3 c4 _ lent names.new_journal Is movable.apart (after_texts tells.cabinet tells.disk names.new_journal c2 c3 Is looked
-            (after_texts tells.cabinet tells.disk names.new_journal c1 c2 Is reads'.only_texts (after_texts tells.cabinet tells.disk names.new_journal before.cabinet c1 Is reads.only_texts told)))
+        to_new : (Is : List ℕ → Type 0) → IsHeldTold tells.cabinet tells.disk before.cabinet names.journals.new Is → IsHeldTold tells.cabinet tells.disk c4 names.journals.new Is
+        to_new Is told = lent_later tells.cabinet tells.disk names.journals.old c3 c4 _ lent names.journals.new Is movable.apart (after_texts tells.cabinet tells.disk names.journals.new c2 c3 Is looked
+            (after_texts tells.cabinet tells.disk names.journals.new c1 c2 Is reads'.only_texts (after_texts tells.cabinet tells.disk names.journals.new before.cabinet c1 Is reads.only_texts told)))
 
-        entered : (result : Result Moved MoveStop) → Enters tells names.new_journal (record before { cabinet = c4 }) after new stated result → Ends Worked result
+        entered : (result : Result Moved MoveStop) → Enters tells names.journals.new (record before { cabinet = c4 }) after new stated result → Ends Worked result
         entered result (inl (is, rose, part, held)) = absurd (not_put rose)
-        entered result (inr (out, worked, moves)) = new_ends tells.cabinet tells.disk names.new_journal before.cabinet c4 after.cabinet new stated.entries.items Worked worked stays_4 none
+        entered result (inr (out, worked, moves)) = new_ends tells.cabinet tells.disk names.journals.new before.cabinet c4 after.cabinet new stated.entries.items Worked worked stays_4 none
             (subst (IsSound new 0) (sym was.1) was.2.0)
-            (subst (λ (es : List Entry). IsHeldTold tells.cabinet tells.disk c4 names.new_journal (StandsForPart new es)) (sym was.1) (to_new _ was.2.1)) result moves
+            (subst (λ (es : List Entry). IsHeldTold tells.cabinet tells.disk c4 names.journals.new (StandsForPart new es)) (sym was.1) (to_new _ was.2.1)) result moves
 
     from_ends : (result : Result Moved MoveStop) → MovesFrom tells names (record before { cabinet = c1 }) after old result → Ends Worked result
     from_ends result (inl (why, same, reads', out)) = subst (Ends Worked) (sym same) (text_refused tells.cabinet before.cabinet c1 after.cabinet names.prices names.new_topology why reads.only_texts.stays reads' (subst (IsServable (notation_of names.new_topology)) (sym same_new) movable.new_servable) none)
     from_ends result (inr (new, c2, reads', inl (first, same, is, out, held))) = absurd (no_change old new first (taken new c2 reads').0 is)
     from_ends result (inr (new, c2, reads', inr (goes_on, inl (why, same, not, out)))) =
-        subst (Ends Worked) (sym same) (old_journal tells.cabinet tells.disk before.cabinet old one names.journal names.scope c2 after.cabinet (TakesIt new c2 reads') why (told_2 new c2 reads') (stays_2 new c2 reads') none not)
+        subst (Ends Worked) (sym same) (old_journal tells.cabinet tells.disk before.cabinet old one names.journals.old names.journals.scope c2 after.cabinet (TakesIt new c2 reads') why (told_2 new c2 reads') (stays_2 new c2 reads') none not)
     from_ends result (inr (new, c2, reads', inr (goes_on, inr (stated, c4, inl (same, not), enters)))) = absurd (cc same)
     from_ends result (inr (new, c2, reads', inr (goes_on, inr (stated, c4, inr (c3, looked, inl (same, not)), enters)))) = absurd (cc same)
     from_ends result (inr (new, c2, reads', inr (goes_on, inr (stated, c4, inr (c3, looked, inr (read, same, lent)), enters)))) = entered new c2 reads' stated c3 c4 looked.only_texts read same lent result enters

@@ -14,7 +14,7 @@ use Rattle.hose_store.specs.declared.fault.StoreFault.TheVariants as store
 use Rattle.hose_offline.specs.Fault.{of_store, status_of}
 use Rattle.hose_offline.specs.MoveEnd.{EndsMoved, moved_done, stop_status}
 use Rattle.hose_offline.specs.MoveOutcome.{MoveOutcome}
-use Rattle.hose_offline.specs.Moving.{Enters, MoveNames, MovesFrom, MovesNamed, MovesNew, MovesOn, MovesStated, ReadsOld, ReadsThere, read_done}
+use Rattle.hose_offline.specs.Moving.{Enters, LendsDisk, LendsOld, MoveNames, MovedJournals, MovesFrom, MovesNamed, MovesOn, MovesStated, read_done, to_move, to_read}
 use Rattle.hose_offline.specs.Parts.{Parts, Tellings}
 use Rattle.hose_offline.specs.declared.fault.Fault.{Fault}
 use Rattle.hose_offline.specs.declared.move_end.MoveStop.{MoveStop}
@@ -50,15 +50,15 @@ moved_not_1 entries (Err moving.Disk) one = omega (arith, one)
 moved_not_1 entries (Err moving.Memory) one = omega (arith, one)
 
 module _ {C E : Type 0} (cabinet : CabinetGhosts C E) (disk : DiskGhosts E) where
-  there_not_1 : (name : List ℕ) (which : Scope) (old new : C) (network : Network) (result : Result Stated Fault) → ReadsThere cabinet disk name which old new network result → read_status result ≡ 1 → ⊥
+  there_not_1 : (name : List ℕ) (which : Scope) (old new : C) (network : Network) (result : Result Stated Fault) → LendsDisk cabinet disk name old new (to_read disk network which) result → read_status result ≡ 1 → ⊥
   there_not_1 name which old new network result (inl (same, none)) one = omega (arith, sym (ap read_status same) ∙ one)
   there_not_1 name which old new network result (inr (read, same, lent)) one = read_not_1 read (sym (ap read_status same) ∙ one)
 
-  old_not_1 : (name : List ℕ) (which : Scope) (old new : C) (network : Network) (result : Result Stated Fault) → ReadsOld cabinet disk name which old new network result → read_status result ≡ 1 → ⊥
+  old_not_1 : (name : List ℕ) (which : Scope) (old new : C) (network : Network) (result : Result Stated Fault) → LendsOld cabinet disk name old new (to_read disk network which) result → read_status result ≡ 1 → ⊥
   old_not_1 name which old new network result (inl (same, none)) one = omega (arith, sym (ap read_status same) ∙ one)
   old_not_1 name which old new network result (inr (found, looked, there)) one = there_not_1 name which found new network result there one
 
-  new_not_1 : (name : List ℕ) (old new : C) (network : Network) (entries : List Entry) (result : Result Moved MoveStop) → MovesNew cabinet disk name old new network entries result → done_status result ≡ 1 → ⊥
+  new_not_1 : (name : List ℕ) (old new : C) (network : Network) (entries : List Entry) (result : Result Moved MoveStop) → LendsDisk cabinet disk name old new (to_move disk network entries) result → done_status result ≡ 1 → ⊥
   new_not_1 name old new network entries result (inl (same, none)) one = omega (arith, sym (ap done_status same) ∙ one)
   new_not_1 name old new network entries result (inr (moved, same, lent)) one = moved_not_1 (length entries) moved (sym (ap done_status same) ∙ one)
 
@@ -67,17 +67,17 @@ module _ {I O C E : Type 0} (tells : Tellings I O C E) where
   enters_not_1 name before after network stated result (inl (same, rose, part, cabinet)) one = omega (arith, sym (ap done_status same) ∙ one)
   enters_not_1 name before after network stated result (inr (out, worked, moves)) one = new_not_1 tells.cabinet tells.disk name before.cabinet after.cabinet network stated.entries.items result moves one
 
-  stated_not_1 : (journal new_journal : List ℕ) (which : Scope) (before after : Parts I O C) (old new : Network) (result : Result Moved MoveStop) → MovesStated tells journal new_journal which before after old new result → done_status result ≡ 1 → ⊥
-  stated_not_1 journal new_journal which before after old new result (inl (why, same, reads, out)) one = old_not_1 tells.cabinet tells.disk journal which before.cabinet after.cabinet old (Err why) reads (sym (ap done_status same) ∙ one)
-  stated_not_1 journal new_journal which before after old new result (inr (stated, read, reads, enters)) one = enters_not_1 new_journal (record before { cabinet = read }) after new stated result enters one
+  stated_not_1 : (journals : MovedJournals) (before after : Parts I O C) (old new : Network) (result : Result Moved MoveStop) → MovesStated tells journals before after old new result → done_status result ≡ 1 → ⊥
+  stated_not_1 journals before after old new result (inl (why, same, reads, out)) one = old_not_1 tells.cabinet tells.disk journals.old journals.scope before.cabinet after.cabinet old (Err why) reads (sym (ap done_status same) ∙ one)
+  stated_not_1 journals before after old new result (inr (stated, read, reads, enters)) one = enters_not_1 journals.new (record before { cabinet = read }) after new stated result enters one
 
-  on_not_1 : (journal new_journal : List ℕ) (which : Scope) (before after : Parts I O C) (old new : Network) (result : Result Moved MoveStop) → MovesOn tells journal new_journal which before after old new result → done_status result ≡ 1 → ⊥
-  on_not_1 journal new_journal which before after old new result (inl (change, same, first, out, cabinet)) one = omega (arith, sym (ap done_status same) ∙ one)
-  on_not_1 journal new_journal which before after old new result (inr (goes_on, moves)) one = stated_not_1 journal new_journal which before after old new result moves one
+  on_not_1 : (journals : MovedJournals) (before after : Parts I O C) (old new : Network) (result : Result Moved MoveStop) → MovesOn tells journals before after old new result → done_status result ≡ 1 → ⊥
+  on_not_1 journals before after old new result (inl (change, same, first, out, cabinet)) one = omega (arith, sym (ap done_status same) ∙ one)
+  on_not_1 journals before after old new result (inr (goes_on, moves)) one = stated_not_1 journals before after old new result moves one
 
   from_not_1 : (names : MoveNames) (before after : Parts I O C) (old : Network) (result : Result Moved MoveStop) → MovesFrom tells names before after old result → done_status result ≡ 1 → ⊥
   from_not_1 names before after old result (inl (why, same, reads, out)) one = topology_not_1 tells.cabinet before.cabinet after.cabinet names.prices names.new_topology why reads (sym (ap done_status same) ∙ one)
-  from_not_1 names before after old result (inr (new, read, reads, moves)) one = on_not_1 names.journal names.new_journal names.scope (record before { cabinet = read }) after old new result moves one
+  from_not_1 names before after old result (inr (new, read, reads, moves)) one = on_not_1 names.journals (record before { cabinet = read }) after old new result moves one
 
   named_not_1 : (names : MoveNames) (before after : Parts I O C) (result : Result Moved MoveStop) → MovesNamed tells names before after result → done_status result ≡ 1 → ⊥
   named_not_1 names before after result (inl (why, same, reads, out)) one = topology_not_1 tells.cabinet before.cabinet after.cabinet names.prices names.topology why reads (sym (ap done_status same) ∙ one)

@@ -166,9 +166,9 @@ module _ {C E : Type 0} (cabinet : CabinetGhosts C E) (disk : DiskGhosts E) wher
 
   -- all of it together
   finish : (names : MoveNames) (c0 c1 c2 c3 c4 c5 : C) (old new : Network) (stated : Stated) → ReadsTopology cabinet c0 c1 names.prices names.topology (Ok old) → ReadsTopology cabinet c1 c2 names.prices names.new_topology (Ok new) → GoesOnFrom old new
-      → IsLookedFor cabinet names.journal c2 c3 → WasStated names.journal names.scope c3 c4 old stated → WasMoved names.new_journal c5 new stated.entries.items → IsMoved cabinet disk names c0 c5
+      → IsLookedFor cabinet names.journals.old c2 c3 → WasStated names.journals.old names.journals.scope c3 c4 old stated → WasMoved names.journals.new c5 new stated.entries.items → IsMoved cabinet disk names c0 c5
   finish names c0 c1 c2 c3 c4 c5 old new stated reads reads' goes_on looked was moved =
-      let here = same_next names.journal c0 c1 c3 (same_texts names.journal c0 c1 reads.only_texts) (same_next names.journal c1 c2 c3 (same_texts names.journal c1 c2 reads'.only_texts) (same_texts names.journal c2 c3 looked.only_texts)) in
+      let here = same_next names.journals.old c0 c1 c3 (same_texts names.journals.old c0 c1 reads.only_texts) (same_next names.journals.old c1 c2 c3 (same_texts names.journals.old c1 c2 reads'.only_texts) (same_texts names.journals.old c2 c3 looked.only_texts)) in
       let sound = subst (IsSound new 0) was.entries moved.sound in
       record {
         old = old;
@@ -177,12 +177,12 @@ module _ {C E : Type 0} (cabinet : CabinetGhosts C E) (disk : DiskGhosts E) wher
         new_told = (reads'.left, subst (λ (text : Option Stream). WhereTold text reads'.left (λ bytes _. TellsPriced (notation_of names.new_topology) names.prices bytes new)) (same_stream cabinet c0 c1 names.new_topology 0 reads.only_texts) reads'.text.2);
         goes_on = goes_on;
         history = was.history;
-        had = has_same names.journal c0 c3 _ here was.had;
+        had = has_same names.journals.old c0 c3 _ here was.had;
         sound = was.sound;
-        images = subst (λ (es : List Entry). Has (cabinet.frame c5).tells (cabinet.held c5 names.new_journal) (λ left. Images disk left (IsHistoryOf new es))) was.entries moved.images;
+        images = subst (λ (es : List Entry). Has (cabinet.frame c5).tells (cabinet.held c5 names.journals.new) (λ left. Images disk left (IsHistoryOf new es))) was.entries moved.images;
         new_sound = sound;
-        none_oversold = λ place l. sold new 0 (stated_entries names.scope old was.history) place l sound;
-        carried = sound_carried new 0 (stated_entries names.scope old was.history) sound;
+        none_oversold = λ place l. sold new 0 (stated_entries names.journals.scope old was.history) place l sound;
+        carried = sound_carried new 0 (stated_entries names.journals.scope old was.history) sound;
       }
 
 -- ---- step by step
@@ -198,8 +198,8 @@ module _ {I O C E : Type 0} (tells : Tellings I O C E) (names : MoveNames) (befo
   moved_named done (inr (old, c1, reads, inr (new, c2, reads', inr (goes_on, inr (stated, c4, inr (c3, looked, inr (read, same, lent)), inl (same', rose, part, held)))))) = absurd (cc same')
   moved_named done (inr (old, c1, reads, inr (new, c2, reads', inr (goes_on, inr (stated, c4, inr (c3, looked, inr (read, same, lent)), inr (out, worked, inl (same', none))))))) = absurd (cc same')
   moved_named done (inr (old, c1, reads, inr (new, c2, reads', inr (goes_on, inr (stated, c4, inr (c3, looked, inr (read, same, lent)), inr (out, worked, inr (moved, same', lent'))))))) =
-      finish tells.cabinet tells.disk names before.cabinet c1 c2 c3 c4 after.cabinet old new stated reads reads' goes_on looked (was_stated tells.cabinet tells.disk names.journal names.scope c3 c4 old stated read same lent)
-      (was_moved tells.cabinet tells.disk names.new_journal c4 after.cabinet new stated.entries.items done moved same' lent')
+      finish tells.cabinet tells.disk names before.cabinet c1 c2 c3 c4 after.cabinet old new stated reads reads' goes_on looked (was_stated tells.cabinet tells.disk names.journals.old names.journals.scope c3 c4 old stated read same lent)
+      (was_moved tells.cabinet tells.disk names.journals.new c4 after.cabinet new stated.entries.items done moved same' lent')
 
   pub whole_of : (done : Result Moved MoveStop) (was now : O) (status : ℕ) → MovesNamed tells names before after done → EndsMoved tells.sink was now status done → status ≡ 0 → IsMoved tells.cabinet tells.disk names before.cabinet after.cabinet
   whole_of (Ok done) was now status moves ends is_0 = moved_named done moves
@@ -207,33 +207,33 @@ module _ {I O C E : Type 0} (tells : Tellings I O C E) (names : MoveNames) (befo
 
   -- ---- the old journal
 
-  module _ (apart : names.new_journal ≢ names.journal) where
+  module _ (apart : names.journals.new ≢ names.journals.old) where
     abbrev Same : C → C → Type 0
-    Same one other = HoldsSame tells.cabinet tells.disk names.journal one other
+    Same one other = HoldsSame tells.cabinet tells.disk names.journals.old one other
 
     abbrev Kept : C → C → Type 0
-    Kept one other = IsOnlyRead tells.cabinet tells.disk names.journal one other
+    Kept one other = IsOnlyRead tells.cabinet tells.disk names.journals.old one other
 
     texts : (one other : C) → OnlyTextsRead tells.cabinet one other → Same one other
-    texts = same_texts tells.cabinet tells.disk names.journal
+    texts = same_texts tells.cabinet tells.disk names.journals.old
 
     on : (one two three : C) → Same one two → Same two three → Same one three
-    on = same_next tells.cabinet tells.disk names.journal
+    on = same_next tells.cabinet tells.disk names.journals.old
 
     same_kept : (one other : C) → Same one other → Kept one other
-    same_kept = read_same tells.cabinet tells.disk names.journal
+    same_kept = read_same tells.cabinet tells.disk names.journals.old
 
-    other : (old new : C) (Done : E → E → Type 0) → IsLent tells.cabinet tells.disk names.new_journal old new Done → Same old new
-    other old new Done lent = lent_other tells.cabinet tells.disk names.new_journal old new Done lent names.journal (λ same. apart (sym same))
+    other : (old new : C) (Done : E → E → Type 0) → IsLent tells.cabinet tells.disk names.journals.new old new Done → Same old new
+    other old new Done lent = lent_other tells.cabinet tells.disk names.journals.new old new Done lent names.journals.old (λ same. apart (sym same))
 
     between : (one two three four : C) → Same one two → Kept two three → Same three four → Kept one four
-    between = read_between tells.cabinet tells.disk names.journal
+    between = read_between tells.cabinet tells.disk names.journals.old
 
     not_lent : (one other : C) → tells.cabinet.held other ≡ tells.cabinet.held one → (tells.cabinet.frame other).tells ≡ (tells.cabinet.frame one).tells → Same one other
-    not_lent one other held told = record { held = ap (λ (h : List ℕ → Option E). h names.journal) held; tells = told }
+    not_lent one other held told = record { held = ap (λ (h : List ℕ → Option E). h names.journals.old) held; tells = told }
 
-    later : (c4 : C) (new : Network) (stated : Stated) (done : Result Moved MoveStop) → Enters tells names.new_journal (record before { cabinet = c4 }) after new stated done → Same c4 after.cabinet
-    later c4 new stated done (inl (same', rose, part, held)) = same_none tells.cabinet tells.disk names.journal c4 after.cabinet held
+    later : (c4 : C) (new : Network) (stated : Stated) (done : Result Moved MoveStop) → Enters tells names.journals.new (record before { cabinet = c4 }) after new stated done → Same c4 after.cabinet
+    later c4 new stated done (inl (same', rose, part, held)) = same_none tells.cabinet tells.disk names.journals.old c4 after.cabinet held
     later c4 new stated done (inr (out, worked, inl (same', none))) = not_lent c4 after.cabinet none.same none.tells
     later c4 new stated done (inr (out, worked, inr (moved, same', lent'))) = other c4 after.cabinet _ lent'
 
@@ -241,16 +241,16 @@ module _ {I O C E : Type 0} (tells : Tellings I O C E) (names : MoveNames) (befo
     kept_named done (inl (why, same, reads, out)) = same_kept before.cabinet after.cabinet (texts before.cabinet after.cabinet reads.only_texts)
     kept_named done (inr (old, c1, reads, inl (why, same, reads', out))) = same_kept before.cabinet after.cabinet (on before.cabinet c1 after.cabinet (texts before.cabinet c1 reads.only_texts) (texts c1 after.cabinet reads'.only_texts))
     kept_named done (inr (old, c1, reads, inr (new, c2, reads', inl (change, same, first, out, held)))) =
-        same_kept before.cabinet after.cabinet (on before.cabinet c2 after.cabinet (on before.cabinet c1 c2 (texts before.cabinet c1 reads.only_texts) (texts c1 c2 reads'.only_texts)) (same_none tells.cabinet tells.disk names.journal c2 after.cabinet held))
+        same_kept before.cabinet after.cabinet (on before.cabinet c2 after.cabinet (on before.cabinet c1 c2 (texts before.cabinet c1 reads.only_texts) (texts c1 c2 reads'.only_texts)) (same_none tells.cabinet tells.disk names.journals.old c2 after.cabinet held))
     kept_named done (inr (old, c1, reads, inr (new, c2, reads', inr (goes_on, inl (why, same, inl (none, not), out))))) =
         same_kept before.cabinet after.cabinet (on before.cabinet c2 after.cabinet (on before.cabinet c1 c2 (texts before.cabinet c1 reads.only_texts) (texts c1 c2 reads'.only_texts)) (texts c2 after.cabinet not.only_texts))
     kept_named done (inr (old, c1, reads, inr (new, c2, reads', inr (goes_on, inl (why, same, inr (c3, looked, inl (none, not)), out))))) =
         same_kept before.cabinet after.cabinet (on before.cabinet c3 after.cabinet (on before.cabinet c2 c3 (on before.cabinet c1 c2 (texts before.cabinet c1 reads.only_texts) (texts c1 c2 reads'.only_texts)) (texts c2 c3 looked.only_texts)) (not_lent c3 after.cabinet not.same not.tells))
     kept_named done (inr (old, c1, reads, inr (new, c2, reads', inr (goes_on, inl (why, same, inr (c3, looked, inr (read, is, lent)), out))))) =
         between before.cabinet c3 after.cabinet after.cabinet (on before.cabinet c2 c3 (on before.cabinet c1 c2 (texts before.cabinet c1 reads.only_texts) (texts c1 c2 reads'.only_texts)) (texts c2 c3 looked.only_texts))
-        (lent_read tells.cabinet tells.disk names.journal c3 after.cabinet _ lent lent.done.1) (record { held = refl; tells = refl })
+        (lent_read tells.cabinet tells.disk names.journals.old c3 after.cabinet _ lent lent.done.1) (record { held = refl; tells = refl })
     kept_named done (inr (old, c1, reads, inr (new, c2, reads', inr (goes_on, inr (stated, c4, inl (same, none), enters))))) = absurd (cc same)
     kept_named done (inr (old, c1, reads, inr (new, c2, reads', inr (goes_on, inr (stated, c4, inr (c3, looked, inl (same, none)), enters))))) = absurd (cc same)
     kept_named done (inr (old, c1, reads, inr (new, c2, reads', inr (goes_on, inr (stated, c4, inr (c3, looked, inr (read, same, lent)), enters))))) =
         between before.cabinet c3 c4 after.cabinet (on before.cabinet c2 c3 (on before.cabinet c1 c2 (texts before.cabinet c1 reads.only_texts) (texts c1 c2 reads'.only_texts)) (texts c2 c3 looked.only_texts))
-        (lent_read tells.cabinet tells.disk names.journal c3 c4 _ lent lent.done.1) (later c4 new stated done enters)
+        (lent_read tells.cabinet tells.disk names.journals.old c3 c4 _ lent lent.done.1) (later c4 new stated done enters)

@@ -18,7 +18,7 @@ use Rattle.hose_proto.specs.Command.{IsCommand, command_form, command_grammar}
 use Rattle.hose_offline.specs.ScriptLine.{IsAsking, script_grammar}
 use Rattle.hose_words.specs.Saying.{SayLines, no_line, one_more as one_line}
 use Rattle.hose_offline.specs.Talking.{Says, SaysNext}
-use Rattle.hose_offline.specs.steps.Talking.{IsRead, SaysOneThing, SayOneThingEach, none_said, line_more}
+use Rattle.hose_offline.specs.steps.Talking.{SaysAlone, IsRead, SaysOneThing}
 
 -- ---- one line
 
@@ -95,13 +95,19 @@ from_first network {text = text} more (one_line {lines = lines} line before some
     subst (SayAll network text) (sym (append_assoc lines (line ∷ []) more)) (from_first network (line ∷ more) before (some, says, all))
 
 -- the lines of a text, from the first on: each says one thing
-data OneThingEach (network : Network) : List ℕ → Type 0 where
+pub data OneThingEach (network : Network) : List ℕ → Type 0 where
   no_more : OneThingEach network []
   first_line : {text : List ℕ} → SaysOneThing network (before_first is_line_feed text) → OneThingEach network (after_first is_line_feed text) → OneThingEach network text
 
-each_from_first : {network : Network} {text rest : List ℕ} → SayOneThingEach network text rest → OneThingEach network rest → OneThingEach network text
-each_from_first none_said each = each
-each_from_first (line_more before some alone) each = each_from_first before (first_line alone each)
+-- lines of which each says one thing at most, up to where all that are left do
+pub said_alone : {network : Network} {text rest : List ℕ} {lines : List ReadLine} → SayLines (λ _. SaysAlone network) text lines rest → OneThingEach network rest → OneThingEach network text
+said_alone no_line each = each
+said_alone (one_line line before some says) each = said_alone before (first_line says.1 each)
+
+-- what they say
+pub said_next : {network : Network} {text rest : List ℕ} {lines : List ReadLine} → SayLines (λ _. SaysAlone network) text lines rest → SayLines (SaysNext network) text lines rest
+said_next no_line = no_line
+said_next (one_line line before some says) = one_line line (said_next before) some says.0
 
 first_alone : {network : Network} {text : List ℕ} → text ≢ [] → OneThingEach network text → SaysOneThing network (before_first is_line_feed text) × OneThingEach network (after_first is_line_feed text)
 first_alone some no_more = absurd (some refl)
@@ -119,9 +125,9 @@ all_unique network text (l ∷ ls) (o ∷ os) each says says' read read' =
     λ i. first i ∷ rest i
 
 -- a whole text says one list of lines, where all of them are read
-pub lines_unique : (network : Network) (text : List ℕ) (lines others : List ReadLine) → SayOneThingEach network text [] → SayLines (SaysNext network) text lines [] → SayLines (SaysNext network) text others [] → All IsRead lines → All IsRead others → lines ≡ others
+pub lines_unique : (network : Network) (text : List ℕ) (lines others : List ReadLine) → OneThingEach network text → SayLines (SaysNext network) text lines [] → SayLines (SaysNext network) text others [] → All IsRead lines → All IsRead others → lines ≡ others
 lines_unique network text lines others each says says' read read' =
-    all_unique network text lines others (each_from_first each no_more) (whole lines says) (whole others says') read read'
+    all_unique network text lines others each (whole lines says) (whole others says') read read'
   where
     whole : (said : List ReadLine) → SayLines (SaysNext network) text said [] → SayAll network text said
     whole said says = subst (SayAll network text) (append-nil said) (from_first network [] says refl)

@@ -5,12 +5,11 @@ use Rattle.std.proofs.lemmas.List.{length_push, map-append}
 use Rattle.std.proofs.lemmas.List.Elements.{All-nil, All-push, All-tail}
 use Rattle.std.proofs.lemmas.List.Sums.{sum_by_push}
 use Rattle.hose_io.proofs.Frames.{Stays-none}
-use Rattle.hose_graph.specs.declared.entry.Entry.{Entry}
 use Rattle.hose_graph.specs.declared.command.Reply.{Reply}
 use Rattle.hose_graph.specs.steps.Naming.{AsksOf}
 use Rattle.hose_graph.specs.Network.{IsNetwork, Network}
 use Rattle.hose_law.specs.Quotes.{nothing_held}
-use Rattle.hose_law.specs.Script.{ReadLine, IsForMemory}
+use Rattle.hose_law.specs.Script.{ReadLine, IsForMemory, ScriptState, script_state}
 use Rattle.hose_law.specs.Script.ReadLine.{Asks}
 use Rattle.hose_law.proofs.Scripts.{decided_end}
 use Rattle.hose_law.proofs.Unique.{script_unique}
@@ -44,7 +43,7 @@ module _ {K R : Type 0} (books : BooksGhosts K R) (first : State K) where
     answered = record {
       history = [];
       left = nothing_held;
-      script = (refl, refl);
+      script = refl;
       decided = decided_end (books.ledger first.books).network 0 [] tt;
       begins = ([], append-nil []);
       goes_on = none_yet;
@@ -105,10 +104,10 @@ summary_of sizes tally network was =
       script = was.script;
       tells = line;
       alone = λ others other is.
-          let same = script_unique (network_of_sizes sizes) network 0 [] nothing_held (asked (script_of_sizes sizes)) was.replies others was.history other was.script.left is.left was.script.script is.script
+          let same = script_unique (network_of_sizes sizes) network 0 (asked (script_of_sizes sizes)) was.replies others (script_state [] nothing_held) (script_state was.history was.script.left) (script_state other is.left) was.script.script is.script
           (record { memory = was.script.memory; disk = was.script.disk }) (record { memory = is.memory; disk = is.disk }) in
           line ∙ ap (λ (replies : List Reply). summary_of_replies sizes replies was.history) same.0
-          ∙ ap (λ (history : List Entry). summary_of_replies sizes others history) same.1;
+          ∙ ap (λ (state : ScriptState). summary_of_replies sizes others state.history) same.1;
     }
 
 -- Of orders those before these were answered.

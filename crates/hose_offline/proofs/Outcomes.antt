@@ -1,29 +1,25 @@
 -- What the top call makes of a run.
-use Rattle.std.proofs.Common.{◌≡◌, ◌⊎◌, ℕ, ◌<◌, ◌≤◌, List, ◌∷◌, [], ◌++◌, Option, None, Some, IfSome, IsSome, MatchOption, Result, Ok, Err, inl, inr, refl, ap, subst, arith, length, length-append}
+use Rattle.std.proofs.Common.{◌≡◌, ◌⊎◌, ℕ, ◌<◌, ◌≤◌, List, Option, None, Some, IfSome, IsSome, MatchOption, Result, Ok, Err, inl, inr, refl, ap, subst, arith, length, length-append}
 use Rattle.std.specs.Prelude.{option_map, ⊤}
 use Rattle.hose_io.specs.Frame.{Stays}
 use Rattle.hose_io.specs.Stream.{Stream, Gives}
 use Rattle.hose_io.specs.declared.Failed.{Failed}
 use Rattle.hose_io.proofs.Frames.{Rose-before}
-use Rattle.hose_words.specs.Lines.{StopsAfterLines}
 use Rattle.hose_words.specs.declared.lines.TheConstants.{INPUT_LIMIT}
 use Rattle.hose_words.specs.Reading.{WhereTold}
 use Rattle.hose_words.specs.declared.lines.LineFault.{LineFault}
 use Rattle.hose_words.specs.declared.lines.LineFault.TheVariants as line
 use Rattle.hose_graph.specs.Network.{Network}
 use Rattle.hose_graph.specs.declared.entry.Entry.{Entry}
-use Rattle.hose_graph.specs.declared.command.Reply.{Reply}
 use Rattle.hose_disk.specs.declared.cabinet.Cabinet.{Ghosts as CabinetGhosts}
 use Rattle.hose_disk.specs.declared.disk.Disk.{Ghosts as DiskGhosts}
 use Rattle.hose_journal.specs.Image.{Meaning, damaged, other}
 use Rattle.hose_store.specs.Recovery.{IsHistoryOf, digest_of}
-use Rattle.hose_law.specs.Script.{ReadLine}
 use Rattle.hose_offline.specs.Ending.{status_of_done}
 use Rattle.hose_offline.specs.OnDisk.{HadContent, IsRefusedOnDisk, JournalIsTold, keeping_of}
 use Rattle.hose_offline.specs.Parts.{Parts, Tellings}
 use Rattle.hose_offline.specs.Run.{HasNetwork, HasRun, HasText, IsFor, IsRefusedText, IsRun, IsServable, Keeping, TellsNoNetwork}
 use Rattle.hose_offline.specs.RunOutcome.{EndsInputRefused, InputStops, IsInterrupted, AnyJournalIs, JournalRefused, NothingFailed, OfText, RunLeaves, keeping}
-use Rattle.hose_words.specs.Saying.{IsAllTaken, IsLeftOver}
 use Rattle.hose_offline.specs.TopologyTold.{TellsPriced, limit_of}
 use Rattle.hose_offline.specs.declared.fault.Fault.{Fault}
 use Rattle.hose_offline.specs.declared.notation.Notation.{Notation}
@@ -67,11 +63,10 @@ not_long written None new bytes gives servable long = servable
 
 -- ---- an input whose topology is refused
 
-no_run : (prices : Network → Network → Type 0) (keeping : Keeping) (old new : Option Stream) (network : Network) (lines : List ReadLine) (replies : List Reply) (stops : List ℕ → List ℕ → List ℕ → Type 0) → IsRefusedText Lines old new
-    → HasRun prices keeping old new network lines replies stops → ⊥
-no_run prices keeping (Some old) (Some new) network lines replies stops refused run = refused run.told (run.text.0, run.text.2)
-no_run prices keeping (Some old) None network lines replies stops refused run = refused
-no_run prices keeping None new network lines replies stops refused run = refused
+no_run : {prices : Network → Network → Type 0} {keeping : Keeping} {stops : List ℕ → List ℕ → List ℕ → Type 0} (old new : Option Stream) → IsRefusedText Lines old new → HasRun prices keeping old new stops → ⊥
+no_run (Some old) (Some new) refused run = refused run.told (run.text.0, run.text.2)
+no_run (Some old) None refused run = refused
+no_run None new refused run = refused
 
 pub no_text : (written : Notation) (old new : Option Stream) → IsRefusedText written old new → HasText written old new → ⊥
 no_text written (Some old) (Some new) refused text = refused text.0 text.1
@@ -92,11 +87,11 @@ of_read written prices (Some old) (Some new) bytes network Is gives text all = a
 of_read written prices (Some old) None bytes network Is gives text all = absurd gives
 of_read written prices None new bytes network Is gives text all = absurd all
 
-of_run : (prices : Network → Network → Type 0) (keeping : Keeping) (old new : Option Stream) (bytes : List ℕ) (network : Network) (lines : List ReadLine) (replies : List Reply) (stops : List ℕ → List ℕ → List ℕ → Type 0) (Is : Network → Type 0) → Gives old new bytes
-    → HasRun prices keeping old new network lines replies stops → IsFor Lines prices old Is → Is network
-of_run prices keeping (Some old) (Some new) bytes network lines replies stops Is gives run all = all network (run.told, (run.text.0, run.text.2), run.priced)
-of_run prices keeping (Some old) None bytes network lines replies stops Is gives run all = absurd gives
-of_run prices keeping None new bytes network lines replies stops Is gives run all = absurd all
+of_run : {prices : Network → Network → Type 0} {keeping : Keeping} {stops : List ℕ → List ℕ → List ℕ → Type 0} (old new : Option Stream) (bytes : List ℕ) (Is : Network → Type 0) → Gives old new bytes
+    → (run : HasRun prices keeping old new stops) → IsFor Lines prices old Is → Is run.network
+of_run (Some old) (Some new) bytes Is gives run all = all run.network (run.told, (run.text.0, run.text.2), run.priced)
+of_run (Some old) None bytes Is gives run all = absurd gives
+of_run None new bytes Is gives run all = absurd all
 
 module _ {C E : Type 0} (cabinet : CabinetGhosts C E) (disk : DiskGhosts E) (old new : C) where
   -- what a journal was read as, and what it was told to be
@@ -122,7 +117,7 @@ module _ {I O C E : Type 0} (tells : Tellings I O C E) (prices : Network → Net
 
   stops_refused : (fault : LineFault) → IsRefusedText Lines old new → IsInterrupted tells prices journal before left fault → InputStops tells before after fault
   stops_refused fault refused (inl stops) = stops.0
-  stops_refused fault refused (inr run) = absurd (no_run prices _ _ _ run.1.network run.1.lines run.1.replies (StopsAfterLines fault) refused run.1.run)
+  stops_refused fault refused (inr run) = absurd (no_run old new refused run.1.run)
 
   abbrev Leaves : {T : Type 0} → Result T Fault → Type 0
   Leaves done = RunLeaves tells prices journal before left done
@@ -131,16 +126,16 @@ module _ {I O C E : Type 0} (tells : Tellings I O C E) (prices : Network → Net
   nothing_read Is refused read = no_network_read Lines prices _ _ read.network refused read.text
 
   pub refused_ends : (done : Result ⊤ Fault) → Leaves done → IsRefusedText Lines old new → EndsInputRefused tells before after (status_of_done done)
-  refused_ends (Ok _) leaves refused = absurd (no_run prices _ _ _ leaves.0.network leaves.0.lines leaves.0.replies IsAllTaken refused leaves.0.run)
+  refused_ends (Ok _) leaves refused = absurd (no_run old new refused leaves.0.run)
   refused_ends (Err (Topology refusal)) leaves refused = inl refl
   refused_ends (Err Memory) (inl none, held, same) refused = inr (inl (refl, none.0))
   refused_ends (Err Memory) (inr (inl text), held, same) refused = absurd (no_text Lines _ _ refused text.0)
   refused_ends (Err Memory) (inr (inr read), held, same) refused = absurd (nothing_read _ refused read)
-  refused_ends (Err Write) leaves refused = absurd (no_run prices _ _ _ leaves.0.1.network leaves.0.1.lines (leaves.0.1.replies ++ leaves.0.1.reply ∷ []) IsLeftOver refused leaves.0.1.run)
+  refused_ends (Err Write) leaves refused = absurd (no_run old new refused leaves.0.1.run)
   refused_ends (Err (Other kept given)) leaves refused = absurd (nothing_read _ refused leaves.0)
   refused_ends (Err (Damaged at)) leaves refused = absurd (nothing_read _ refused leaves.0)
   refused_ends (Err Cabinet) (inl read, rose) refused = absurd (nothing_read _ refused read.0)
-  refused_ends (Err Cabinet) (inr run, rose) refused = absurd (no_run prices _ _ _ run.2.network run.2.lines run.2.replies IsAllTaken refused run.2.run)
+  refused_ends (Err Cabinet) (inr run, rose) refused = absurd (no_run old new refused run.2.run)
   refused_ends (Err Read) leaves refused = inr (inr (inl (refl, stops_refused line.Read refused leaves.0)))
   refused_ends (Err TooLong) leaves refused = inr (inr (inr (refl, stops_refused line.TooLong refused leaves.0)))
   refused_ends (Err another) leaves refused = absurd leaves
@@ -174,9 +169,9 @@ module _ {I O C E : Type 0} (tells : Tellings I O C E) (prices : Network → Net
     -- no run is over a journal that stands for no history
     no_such_run : (closing : Result ⊤ Failed) → IsSome journal → OfText tells before left (IsRun prices (keeping tells prices journal before left closing))
         → Told (λ network image. (history : List Entry) → ¬ IsHistoryOf network history image) → ⊥
-    no_such_run closing some run told = at journal some run.run.begun (of_run prices (keeping tells prices journal before left closing) old new bytes run.network run.lines run.replies IsAllTaken _ gives run.run told)
+    no_such_run closing some run told = at journal some run.run.begun (of_run old new bytes _ gives run.run told)
       where
-        at : (one : Option (List ℕ)) → IsSome one → (keeping_of tells.cabinet tells.disk before.cabinet left.cabinet one closing).Begins run.network run.run.since → JournalIsTold tells.cabinet tells.disk before.cabinet one (λ image. (history : List Entry) → ¬ IsHistoryOf run.network history image) → ⊥
+        at : (one : Option (List ℕ)) → IsSome one → (keeping_of tells.cabinet tells.disk before.cabinet left.cabinet one closing).Begins run.run.network run.run.since → JournalIsTold tells.cabinet tells.disk before.cabinet one (λ image. (history : List Entry) → ¬ IsHistoryOf run.run.network history image) → ⊥
         at None is begun told_as = absurd (cc is)
         at (Some name) is begun told_as = clash tells.cabinet tells.disk before.cabinet left.cabinet name _ _ (λ image history none. none run.run.since history) begun told_as
 

@@ -4,13 +4,12 @@ use Rattle.std.specs.Prelude.{⊤}
 use Rattle.hose_io.proofs.Streams.{Gives-nil}
 use Rattle.hose_graph.specs.Network.{Network}
 use Rattle.hose_io.specs.Stream.{Stream}
-use Rattle.hose_price.specs.Sheet.{Sheet}
 use Rattle.hose_offline.specs.Auditing.{ReadsTopology}
 use Rattle.hose_offline.specs.Ending.{IsLastLine, IsOut, status_of_done}
 use Rattle.hose_offline.specs.Fault.{last_line, status_of}
 use Rattle.hose_offline.specs.Named.{NamesNone}
 use Rattle.hose_offline.specs.Parts.{Parts, Tellings}
-use Rattle.hose_offline.specs.PriceOutcome.{AnswersBySheet, PriceLeaves, PriceOutcome}
+use Rattle.hose_offline.specs.PriceOutcome.{AnswersBySheet, PriceLeaves, PriceOutcome, Pricing}
 use Rattle.hose_offline.specs.steps.PriceOutcome.{PricesInput}
 use Rattle.hose_offline.specs.TopologyTold.{own_costs}
 use Rattle.hose_offline.specs.declared.fault.Fault.{Fault}
@@ -18,9 +17,9 @@ use Rattle.hose_offline.specs.declared.fault.Fault.TheVariants as fault
 use Rattle.hose_offline.proofs.Taken.{both_failed, both_then}
 use Rattle.hose_offline.proofs.TalksTold.{Result_err, told_no_words}
 
-module _ {I O C E : Type 0} (tells : Tellings I O C E) (makes : Network → Sheet → Type 0) (names : List (List ℕ)) where
+module _ {I O C E : Type 0} (tells : Tellings I O C E) (pricing : Pricing) where
   -- there was no memory for a sheet or for rows
-  pub starved : (before : Parts I O C) (network : Network) → PricesInput tells makes names before before network (Err fault.Memory)
+  pub starved : (before : Parts I O C) (network : Network) → PricesInput tells pricing before before network (Err fault.Memory)
   starved before network = record {
     taken = [];
     gives = Gives-nil (tells.source.content before.input);
@@ -36,7 +35,7 @@ module _ {I O C E : Type 0} (tells : Tellings I O C E) (makes : Network → Shee
 
     -- no topology was read, and so nothing of the input
     pub priced_none : (place : C) (output : O) (why : Fault) (status : ℕ) → Reads place (Err why) → IsOut tells.sink before.output output (last_line why) → status ≡ status_of why
-        → PriceOutcome tells makes names topology before (record before { output = output; cabinet = place }) status
+        → PriceOutcome tells pricing topology before (record before { output = output; cabinet = place }) status
     priced_none place output why status reads last is = record {
       done = Err why;
       left = before.output;
@@ -46,8 +45,8 @@ module _ {I O C E : Type 0} (tells : Tellings I O C E) (makes : Network → Shee
     }
 
     -- one was read, and then the input was answered, or not, and the cabinet left alone
-    pub priced_then : (place : C) (after : Parts I O C) (output : O) (network : Network) (result : Result ⊤ Fault) (status : ℕ) → after.cabinet ≡ place → Reads place (Ok network) → PricesInput tells makes names (record before { cabinet = place }) after network result
-        → IsLastLine tells.sink after.output output result → status ≡ status_of_done result → PriceOutcome tells makes names topology before (record after { output = output }) status
+    pub priced_then : (place : C) (after : Parts I O C) (output : O) (network : Network) (result : Result ⊤ Fault) (status : ℕ) → after.cabinet ≡ place → Reads place (Ok network) → PricesInput tells pricing (record before { cabinet = place }) after network result
+        → IsLastLine tells.sink after.output output result → status ≡ status_of_done result → PriceOutcome tells pricing topology before (record after { output = output }) status
     priced_then place after output network result status alone reads answered last is =
         let there : Reads after.cabinet (Ok network) = subst (λ (place : C). Reads place (Ok network)) (sym alone) reads in
         record {
@@ -60,7 +59,7 @@ module _ {I O C E : Type 0} (tells : Tellings I O C E) (makes : Network → Shee
         }
 
     -- no answers end with wrong words
-    words : (after : Parts I O C) (word : ℕ) (network : Network) → AnswersBySheet tells makes names before after network (Err (fault.Words word)) → ⊥
+    words : (after : Parts I O C) (word : ℕ) (network : Network) → AnswersBySheet tells pricing before after network (Err (fault.Words word)) → ⊥
     words after word network (inl starved) = cc starved.0
     words after word network (inr (sheet, is, ended, same, answers)) = told_no_words ended word same
 
@@ -71,10 +70,10 @@ module _ {I O C E : Type 0} (tells : Tellings I O C E) (makes : Network → Shee
         subst (λ (w : Fault). NamesNone tells topology before after left w) is text
 
     -- wrong words are judged elsewhere
-    pub price_not_1 : (after : Parts I O C) (status : ℕ) → PriceOutcome tells makes names topology before after status → status ≢ 1
+    pub price_not_1 : (after : Parts I O C) (status : ℕ) → PriceOutcome tells pricing topology before after status → status ≢ 1
     price_not_1 after status outcome one = by outcome.done (sym outcome.is_status ∙ one) outcome.leaves.comes
       where
-        by : (done : Result ⊤ Fault) → status_of_done done ≡ 1 → PriceLeaves tells makes names topology before (record after { output = outcome.left }) outcome.leaves.left done → ⊥
+        by : (done : Result ⊤ Fault) → status_of_done done ≡ 1 → PriceLeaves tells pricing topology before (record after { output = outcome.left }) outcome.leaves.left done → ⊥
         by (Ok value) is leaves = omega (arith, is)
         by (Err (fault.Words word)) is (inl (read, held)) = words (record after { output = outcome.left }) word read.network read.is
         by (Err (fault.Words word)) is (inr (same, none, last)) = never (record after { output = outcome.left }) outcome.leaves.left word last.0 last.1 last.2

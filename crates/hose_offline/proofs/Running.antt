@@ -1,5 +1,5 @@
 -- A run as a whole, from its topology and the exchanges behind it.
-use Rattle.std.proofs.Common.{◌≡◌, ◌≢◌, ◌∙◌, ℕ, List, [], ◌∷◌, ◌++◌, length, Option, Some, None, Result, Ok, Err, inl, inr, refl, ap, subst, arith}
+use Rattle.std.proofs.Common.{◌≡◌, ◌≢◌, ◌∙◌, ℕ, List, [], ◌∷◌, ◌++◌, length, IsFalse, Option, Some, None, Result, Ok, Err, inl, inr, refl, sym, ap, subst, arith}
 use Rattle.std.specs.Prelude.{⊤}
 use Rattle.std.proofs.lemmas.List.Elements.{All-cons, All-nil}
 use Rattle.hose_io.specs.Stream.{Stream, Grows}
@@ -25,17 +25,25 @@ use Rattle.hose_book.specs.steps.GoingOn.{GoesOn}
 use Rattle.hose_book.specs.declared.books.Books.{Ghosts as BooksGhosts}
 use Rattle.hose_io.specs.declared.sink.Sink.{Ghosts as SinkGhosts}
 use Rattle.hose_offline.specs.RunOutcome.{RunLeaves}
-use Rattle.hose_offline.specs.steps.Fault.{of_topology}
 use Rattle.hose_offline.specs.Parts.{Tellings, parts}
 use Rattle.hose_offline.specs.Run.{HasRun, IsCutOff, IsRun, IsRunUpTo, Keeping, TellsNoNetwork}
 use Rattle.hose_words.specs.Saying.{IsAllTaken, IsLeftOver, SayLines}
+use Rattle.hose_proto.specs.ReplyText.{line_of, reply_text}
 use Rattle.hose_proto.specs.Replies.{CutsLast, texts_of}
 use Rattle.hose_offline.specs.TopologyTold.{TellsPriced}
 use Rattle.hose_offline.specs.declared.notation.Notation.TheVariants.{Lines}
 use Rattle.hose_offline.specs.declared.notation.Refusal.TheVariants.{Word}
-use Rattle.hose_offline.specs.steps.Talk.{Talk, talk}
-use Rattle.hose_offline.specs.Talking.{IsAskedBy, TellsDisks, SaysNext}
-use Rattle.hose_offline.specs.steps.Talking.{SayOneThingEach, Talks, TalksUntil, AnswersUpTo, TalkTellings, talk_tellings}
+use Rattle.hose_offline.specs.Fault.{done_of_talk}
+use Rattle.hose_offline.specs.steps.Fault.{of_topology}
+use Rattle.hose_talk.specs.Talk.{talk}
+use Rattle.hose_offline.specs.Talking.{IsAskedBy, SaysNext, TellsDisks}
+use Rattle.hose_offline.specs.steps.Talking.{Talks, talk_tellings, book_terms}
+use Rattle.hose_talk.specs.Talk.{AllOut, LastCut, TalksTo, TalksUpTo}
+use Rattle.hose_talk.specs.steps.Talk.{KeepsFault}
+use Rattle.hose_talk.specs.declared.talking.TalkEnd.{TalkEnd}
+use Rattle.hose_talk.specs.declared.talking.TalkEnd.TheVariants as talk_end
+use Rattle.hose_talk.specs.declared.talking.TalkFault.{TalkFault}
+use Rattle.hose_talk.specs.declared.talking.TalkFault.TheVariants as talk_fault
 use Rattle.hose_topo.specs.Reading.{StopsInTopology}
 use Rattle.hose_topo.specs.steps.Reading.{fault_of, KeepsLineFault}
 use Rattle.hose_topo.specs.TopologyText.{IsTopologyText, IsWrongAt}
@@ -43,6 +51,7 @@ use Rattle.hose_offline.specs.declared.fault.Fault.{Fault}
 use Rattle.hose_offline.specs.declared.fault.Fault.TheVariants as fault
 use Rattle.hose_topo.specs.declared.fault.TopoFault.{TopoFault}
 use Rattle.hose_topo.specs.declared.fault.TopoFault.TheVariants.{At, Read, TooLong, Memory as TopoMemory}
+use Rattle.hose_offline.proofs.OneReading.{OneThingEach, no_more, said_alone, said_next}
 use Rattle.hose_offline.proofs.OneRun.{OneInput, OneText, right_alone}
 
 -- reading stopped inside the topology
@@ -72,67 +81,17 @@ wrong_told source start last line word empty wrong none =
       λ network tells. subst (λ (p : List ℕ). (n : Network) (rest : List ℕ) → IsTopologyText (p ++ a) n rest → ⊥) empty both.1 network tells.0 tells.1,
     ))
 
--- a network was read, and then lines were answered; what `stops` says behind the topology it says of the whole input
-abbrev pub has_run : {S O K R : Type 0} (prices : Network → Network → Type 0) (tells : TalkTellings S O K R) (keeping : Keeping) (start : Reader S) (before after : Talk (Reader S) O K) (told network : Network) (priced : prices told network) (since : List Entry) → keeping.Begins network since
-    → ((history : List Entry) (lines : List ReadLine) (replies : List Reply) → GoesOn tells.books (IsAskedBy lines replies) network since before.by history after.by → TellsDisks (tells.books.frame before.by).faults replies (tells.books.frame after.by).faults → keeping.Keeps network since history lines replies)
-    → IsNetwork network → (stops : List ℕ → List ℕ → List ℕ → Type 0) (puts : List Reply → Type 0) → start.pending ≡ []
-    → WhereTold (tells.source.content start.source) (tells.source.content before.lines.source) (λ input left. IsTopologyText (start.pending ++ input) told (before.lines.pending ++ left))
-    → ReadsOn tells.source start before.lines
-    → WhereTold (tells.source.content start.source) (tells.source.content before.lines.source) (λ input left. (behind rest : List ℕ) → stops (before.lines.pending ++ left) behind rest → stops (start.pending ++ input) behind rest)
-    → (served : AnswersUpTo tells network since before after stops puts)
-    → HasRun prices keeping (tells.source.content start.source) (tells.source.content after.lines.source) network served.lines served.replies stops
-has_run prices tells keeping start before after told network priced since begun keeps is stops puts empty text reads joins served = record {
-  told = told;
-  priced = priced;
-  since = since;
-  history = served.answered.history;
-  begun = begun;
-  begins = served.answered.begins;
-  text = WhereTold-then (tells.source.content start.source) (tells.source.content before.lines.source) (tells.source.content after.lines.source) reads.takes.0 _ _ _ reads.takes.1
-      (WhereTold-both (tells.source.content start.source) (tells.source.content before.lines.source) _ _ text joins) served.said
-      (λ a b c both said. (
-        before.lines.pending ++ b,
-        said.0,
-        subst (λ (p : List ℕ). IsTopologyText (p ++ a) told (before.lines.pending ++ b)) empty both.0,
-        said.1,
-        subst (λ (p : List ℕ). stops (p ++ a) said.0 c) empty (both.1 said.0 c said.2),
-      ));
-  left = served.answered.left;
-  script = served.answered.script;
-  decided = served.answered.decided;
-  keeps = keeps served.answered.history served.lines served.replies served.answered.goes_on served.answered.disks;
-  none_oversold = λ place l. sold network 0 served.answered.history place l served.answered.decided.sound;
-  held = live_held 0 served.answered.history;
-  kept = stays_live 0 served.answered.history;
-  cheapest = decided_cheapest network is 0 (length since) served.answered.history served.answered.decided;
-}
-
 -- up to the end of the input
-pub run_of : (prices : Network → Network → Type 0) (keeping : Keeping) (old new : Option Stream) (network : Network) (lines : List ReadLine) (replies : List Reply) (before after : Option (List ℕ)) → IsNetwork network
-    → (run : HasRun prices keeping old new network lines replies IsAllTaken) → WhereTold old new (λ input _. OneInput input run.told network) → Grows before after (texts_of network replies) → IsRun prices keeping old new before after
-run_of prices keeping old new network lines replies before after is run one out = record {
-  network = network;
-  lines = lines;
-  replies = replies;
+pub run_of : (prices : Network → Network → Type 0) (keeping : Keeping) (old new : Option Stream) (before after : Option (List ℕ)) (run : HasRun prices keeping old new IsAllTaken) → IsNetwork run.network
+    → WhereTold old new (λ input _. OneInput input run.told run.network) → Grows before after (texts_of run.network run.replies) → IsRun prices keeping old new before after
+run_of prices keeping old new before after run is one out = record {
   run = run;
   out = out;
   alone = λ memory disk. WhereTold-map old new _ _ (WhereTold-both old new _ _ one run.text)
       (λ input left both output right.
       let text = both.1 in
-      right_alone prices run.told network run.since input text.0 output lines replies run.history run.left is both.0 text.2
-      (subst (SayLines (SaysNext network) text.0 lines) text.4.0 text.3) run.script (record { memory = memory; disk = disk }) right);
-}
-
--- up to a reply that was cut off
-pub cut_of : (prices : Network → Network → Type 0) (keeping : Keeping) (old new : Option Stream) (network : Network) (lines : List ReadLine) (replies : List Reply) (before after : Option (List ℕ))
-    → HasRun prices keeping old new network lines replies IsLeftOver → CutsLast network before after replies → IsCutOff prices keeping old new before after
-cut_of prices keeping old new network lines replies before after run cuts = record {
-  network = network;
-  lines = lines;
-  replies = cuts.0;
-  reply = cuts.1;
-  run = subst (λ (r : List Reply). HasRun prices keeping old new network lines r IsLeftOver) cuts.2 run;
-  out = cuts.3;
+      right_alone prices run.told run.network run.since input text.0 output run.lines run.replies run.history run.left is both.0 text.2
+      (subst (SayLines (SaysNext run.network) text.0 run.lines) text.4.0 text.3) run.script (record { memory = memory; disk = disk }) right);
 }
 
 -- where a count never rises no failure of a disk is told
@@ -182,65 +141,97 @@ module _ (prices : Network → Network → Type 0) {S O : Type 0} (source : Ghos
 
   -- and then lines were answered
   module _ {K R : Type 0} (books : BooksGhosts K R) (keeping : Keeping) (since : List Entry) (first now : K) (begun : keeping.Begins network since)
-      (keeps : (history : List Entry) (lines : List ReadLine) (replies : List Reply) → GoesOn books (IsAskedBy lines replies) network since first history now → TellsDisks (books.frame first).faults replies (books.frame now).faults → keeping.Keeps network since history lines replies)
+      (keeps : (history : List Entry) (lines : List ReadLine) (replies : List Reply) → GoesOn books (IsAskedBy lines replies) network since first history now → TellsDisks (books.frame first).faults replies (books.frame now).faults
+      → keeping.Keeps (record { network = network; since = since; history = history; lines = lines; replies = replies }))
       (more : ReadsOn source middle last) where
-    abbrev tells : TalkTellings S O K R
-    tells = talk_tellings source sink books
+    abbrev old_text : Option Stream
+    old_text = source.content start.source
 
-    -- the talk after the topology
-    abbrev before : Talk (Reader S) O K
-    before = talk middle output first
+    abbrev new_text : Option Stream
+    new_text = source.content last.source
 
-    abbrev after : Talk (Reader S) O K
-    after = talk last output' now
+    -- how much of what was to come was answered
+    abbrev Answers : (List ℕ → List ℕ → List ℕ → Type 0) → (List Reply → Type 0) → Type 0
+    Answers = TalksUpTo (book_terms (talk_tellings source sink books) network since (talk middle output first) (talk last output' now)) (tt {0})
 
     held_over : last.fault ≢ Some line.Read → source.frame last.source ≡ source.frame start.source
     held_over other = more.unfailed other ∙ held_before
 
     -- where `stops` says nothing of the text before
-    whatever_before : (stops : List ℕ → List ℕ → Type 0) → WhereTold (source.content start.source) (source.content middle.source) (λ _ _. (behind rest : List ℕ) → stops behind rest → stops behind rest)
-    whatever_before stops = WhereTold-map (source.content start.source) (source.content middle.source) _ _ text (λ _ _ _ _ _ same. same)
+    whatever_before : (stops : List ℕ → List ℕ → Type 0) → WhereTold old_text (source.content middle.source) (λ _ _. (behind rest : List ℕ) → stops behind rest → stops behind rest)
+    whatever_before stops = WhereTold-map old_text (source.content middle.source) _ _ text (λ _ _ _ _ _ same. same)
+
+    -- what `stops` says behind the topology it says of the whole input
+    abbrev has_run : (stops : List ℕ → List ℕ → List ℕ → Type 0) (puts : List Reply → Type 0) → WhereTold old_text (source.content middle.source) (λ input left. (behind rest : List ℕ) → stops (middle.pending ++ left) behind rest → stops (start.pending ++ input) behind rest)
+        → (talks : Answers stops puts) → HasRun prices keeping old_text new_text stops
+    has_run stops puts joins talks = record {
+      told = told;
+      network = network;
+      priced = priced;
+      since = since;
+      history = talks.comes.history;
+      lines = talks.lines;
+      replies = talks.replies;
+      begun = begun;
+      begins = talks.comes.begins;
+      text = WhereTold-then old_text (source.content middle.source) new_text reads.takes.0 _ _ _ reads.takes.1
+          (WhereTold-both old_text (source.content middle.source) _ _ text joins) talks.said
+          (λ a b c both said. (
+            middle.pending ++ b,
+            said.0,
+            subst (λ (p : List ℕ). IsTopologyText (p ++ a) told (middle.pending ++ b)) empty both.0,
+            said_next said.1,
+            subst (λ (p : List ℕ). stops (p ++ a) said.0 c) empty (both.1 said.0 c said.2),
+          ));
+      left = talks.comes.left;
+      script = talks.comes.script;
+      decided = talks.comes.decided;
+      keeps = keeps talks.comes.history talks.lines talks.replies talks.comes.goes_on talks.comes.disks;
+      none_oversold = λ place l. sold network 0 talks.comes.history place l talks.comes.decided.sound;
+      held = live_held 0 talks.comes.history;
+      kept = stays_live 0 talks.comes.history;
+      cheapest = decided_cheapest network is 0 (length since) talks.comes.history talks.comes.decided;
+    }
 
     -- each line after the topology says one thing
-    one_input : WhereTold (source.content middle.source) (source.content last.source) (λ was _. SayOneThingEach network (middle.pending ++ was) [])
-        → WhereTold (source.content start.source) (source.content last.source) (λ input _. OneInput input told network)
-    one_input each = WhereTold-then (source.content start.source) (source.content middle.source) (source.content last.source) reads.takes.0 _ _ _ reads.takes.1 one each
-        (λ a b c alone lines. record {
+    one_input : (puts : List Reply → Type 0) → Answers IsAllTaken puts → WhereTold old_text new_text (λ input _. OneInput input told network)
+    one_input puts talks = WhereTold-then old_text (source.content middle.source) new_text reads.takes.0 _ _ _ reads.takes.1 one talks.said
+        (λ a b c alone said. record {
           rest = middle.pending ++ b;
           text = subst (λ (p : List ℕ). OneText (p ++ a) told (middle.pending ++ b)) empty alone;
-          lines = lines;
+          lines = said_alone said.1 (subst (OneThingEach network) (sym said.2.0) no_more);
         })
 
-    run_until : (fault : LineFault) → TalksUntil tells network since before after fault
-        → IsRunUpTo prices keeping fault (source.content start.source) (source.content last.source) (sink.content output) (sink.content output')
-    run_until fault served =
-        let joins = WhereTold-map (source.content start.source) (source.content middle.source) _
+    run_until : (fault : LineFault) → IsFalse middle.ended → Answers (StopsAfterLines fault) (AllOut (λ reply. line_of (reply_text network reply)) sink output output')
+        → IsRunUpTo prices keeping fault old_text new_text (sink.content output) (sink.content output')
+    run_until fault before_end talks =
+        let joins = WhereTold-map old_text (source.content middle.source) _
         (λ input left. (behind rest : List ℕ) → StopsAfterLines fault (middle.pending ++ left) behind rest → StopsAfterLines fault (start.pending ++ input) behind rest)
-        (reads.whole none served.before_end)
+        (reads.whole none before_end)
         (λ input left lines behind rest stops. (IsAfterLines-then (start.pending ++ input) (middle.pending ++ left) behind lines stops.0, stops.1)) in
-        record {
-          network = network;
-          lines = served.talks.lines;
-          replies = served.talks.replies;
-          run = has_run prices tells keeping start before after told network priced since begun keeps is (StopsAfterLines fault) _ empty text reads joins served.talks;
-          out = served.talks.out;
-        }
+        record { run = has_run (StopsAfterLines fault) _ joins talks; out = talks.out }
+
+    -- the last reply is cut off
+    cut : (replies : List Reply) → LastCut (λ reply. line_of (reply_text network reply)) sink output output' replies → CutsLast network (sink.content output) (sink.content output') replies
+    cut replies (whole, reply, same, count, less, grows) = (whole, reply, same, (count, less, grows))
 
     -- what answering them comes to, of the whole input
     pub ran : (P : Result ⊤ Fault → Type 0)
-        → (IsRun prices keeping (source.content start.source) (source.content last.source) (sink.content output) (sink.content output') → source.frame last.source ≡ source.frame start.source → sink.frame output' ≡ sink.frame output → P (Ok tt))
-        → (IsRunUpTo prices keeping line.Read (source.content start.source) (source.content last.source) (sink.content output) (sink.content output') → sink.frame output' ≡ sink.frame output → Rose (source.frame start.source) (source.frame last.source) → P (Err fault.Read))
-        → (IsRunUpTo prices keeping line.TooLong (source.content start.source) (source.content last.source) (sink.content output) (sink.content output') → sink.frame output' ≡ sink.frame output → source.frame last.source ≡ source.frame start.source → P (Err fault.TooLong))
-        → (IsCutOff prices keeping (source.content start.source) (source.content last.source) (sink.content output) (sink.content output') → source.frame last.source ≡ source.frame start.source → Rose (sink.frame output) (sink.frame output') → P (Err fault.Write))
-        → (done : Result ⊤ Fault) → Talks tells network since before after done → P done
-    ran P to_end at_read at_too_long at_write (Ok tt) served = to_end
-        (run_of prices keeping (source.content start.source) (source.content last.source) network served.0.lines served.0.replies (sink.content output) (sink.content output') is
-        (has_run prices tells keeping start before after told network priced since begun keeps is IsAllTaken _ empty text reads (whatever_before (IsAllTaken [])) served.0) (one_input served.3) served.0.out)
-        (held_over (λ read. absurd (cc (served.1, read)))) served.2
-    ran P to_end at_read at_too_long at_write (Err fault.Read) served = at_read (run_until line.Read served.0) served.0.held (rw held_before at served.1)
-    ran P to_end at_read at_too_long at_write (Err fault.TooLong) served = at_too_long (run_until line.TooLong served) served.held (held_over (λ read. absurd (cc (served.kept, read))))
-    ran P to_end at_read at_too_long at_write (Err fault.Write) served = at_write
-        (cut_of prices keeping (source.content start.source) (source.content last.source) network served.0.lines served.0.replies (sink.content output) (sink.content output')
-        (has_run prices tells keeping start before after told network priced since begun keeps is IsLeftOver _ empty text reads (whatever_before (IsLeftOver [])) served.0) served.0.out)
-        (held_over (λ read. absurd (cc (served.1, read)))) served.2
-    ran P to_end at_read at_too_long at_write (Err another) served = absurd served
+        → (IsRun prices keeping old_text new_text (sink.content output) (sink.content output') → source.frame last.source ≡ source.frame start.source → sink.frame output' ≡ sink.frame output → P (Ok tt))
+        → (IsRunUpTo prices keeping line.Read old_text new_text (sink.content output) (sink.content output') → sink.frame output' ≡ sink.frame output → Rose (source.frame start.source) (source.frame last.source) → P (Err fault.Read))
+        → (IsRunUpTo prices keeping line.TooLong old_text new_text (sink.content output) (sink.content output') → sink.frame output' ≡ sink.frame output → source.frame last.source ≡ source.frame start.source → P (Err fault.TooLong))
+        → (IsCutOff prices keeping old_text new_text (sink.content output) (sink.content output') → source.frame last.source ≡ source.frame start.source → Rose (sink.frame output) (sink.frame output') → P (Err fault.Write))
+        → (done : Result ⊤ Fault) → Talks (talk_tellings source sink books) network since (talk middle output first) (talk last output' now) done → P done
+    ran P to_end at_read at_too_long at_write done (ended, is_done, kept, talks) = subst P (sym is_done) (at ended kept talks)
+      where
+        at : (end : Result TalkEnd TalkFault) → KeepsFault middle last end
+            → TalksTo source sink (book_terms (talk_tellings source sink books) network since (talk middle output first) (talk last output' now)) (talk middle.source output (tt {0})) (talk last.source output' (tt {0})) end
+            → P (done_of_talk end)
+        at (Ok talk_end.Input) kept talks = to_end
+            (run_of prices keeping old_text new_text (sink.content output) (sink.content output') (has_run IsAllTaken _ (whatever_before (IsAllTaken [])) talks.0.0) is (one_input _ talks.0.0) talks.0.0.out)
+            (held_over (λ read. absurd (cc (kept, read)))) talks.2
+        at (Ok talk_end.Over) kept talks = absurd (cc talks.0.1)
+        at (Err talk_fault.Read) kept talks = at_read (run_until line.Read kept.1 talks.0.0) talks.2 (rw held_before at talks.1)
+        at (Err talk_fault.TooLong) kept talks = at_too_long (run_until line.TooLong kept.1 talks.0.0) talks.2 (held_over (λ read. absurd (cc (kept.0, read))))
+        at (Err talk_fault.Write) kept talks = at_write (record { run = has_run IsLeftOver _ (whatever_before (IsLeftOver [])) talks.0; out = cut talks.0.replies talks.0.out })
+            (held_over (λ read. absurd (cc (kept, read)))) talks.2

@@ -22,7 +22,7 @@ use Rattle.hose_store.specs.Replaying.{KeepsRead}
 use Rattle.hose_store.specs.declared.fault.StoreFault.{StoreFault}
 use Rattle.hose_store.specs.declared.fault.StoreFault.TheVariants as store
 use Rattle.hose_follow.specs.Packet.{Packet, packets_bytes, packets_from}
-use Rattle.hose_follow.specs.steps.Shipping.{Ships, ShipsUpTo}
+use Rattle.hose_follow.specs.steps.Shipping.{Ships, ShipsUpTo, shipment}
 use Rattle.hose_follow.specs.declared.shipping.ShipFault.{ShipFault}
 use Rattle.hose_follow.specs.declared.shipping.ShipFault.TheVariants.{Store, Write}
 use Rattle.hose_offline.specs.AuditOutcome.{NoneFailed}
@@ -63,7 +63,7 @@ module _ {I O C E : Type 0} (tells : Tellings I O C E) (name : List ℕ) (from :
   )
 
   module _ (mid : C) (opened left : E) (back : IsPutBack tells.cabinet tells.disk name before.cabinet mid after.cabinet opened left) where
-    part : (Puts : List ℕ → Type 0) → ShipsUpTo tells.disk opened network from Puts → ShipsPart tells name from before after network Puts
+    part : (Puts : List ℕ → Type 0) → ShipsUpTo tells.disk (shipment opened network from) Puts → ShipsPart tells name from before after network Puts
     part Puts up = record {
       entries = up.entries;
       sound = up.held.sound;
@@ -84,11 +84,11 @@ module _ {I O C E : Type 0} (tells : Tellings I O C E) (name : List ℕ) (from :
         (λ was taken. subst (λ (content : Option (List ℕ)). AddsNoRecord content (tells.disk.content left) (digest_of network)) taken.0 adds))
 
     module _ (one : (image : List ℕ) (one two : Meaning Entry) → IsRecoveredAs network image one → IsRecoveredAs network image two → one ≡ two) (run : LeavesOnly tells.disk opened left (IsAtOpening tells.disk opened network)) where
-      not_shipped : (why : StoreFault) → Ships tells.sink tells.disk before.output after.output opened left network from (Err (Store why)) → IsNotServed tells.cabinet tells.disk name before.cabinet after.cabinet network (Err (of_store why))
+      not_shipped : (why : StoreFault) → Ships tells.sink tells.disk before.output after.output (shipment opened network from) left (Err (Store why)) → IsNotServed tells.cabinet tells.disk name before.cabinet after.cabinet network (Err (of_store why))
       not_shipped why ships =
           not_served tells.cabinet tells.disk name before.cabinet mid after.cabinet network opened left back (Err (of_store why)) (not_opened tells.disk network opened left why one run ships.2)
 
-      pub ships_in : (shipped : Result ℕ ShipFault) → Ships tells.sink tells.disk before.output after.output opened left network from shipped → ShipsJournal tells name from before after network (shipping_done shipped)
+      pub ships_in : (shipped : Result ℕ ShipFault) → Ships tells.sink tells.disk before.output after.output (shipment opened network from) left shipped → ShipsJournal tells name from before after network (shipping_done shipped)
       ships_in (Ok count) ships = record {
         history = ships.0.history;
         held = held_as tells.cabinet tells.disk name before.cabinet mid after.cabinet network opened left back (IsHistoryOf network ships.0.history) ships.0.read;
@@ -97,7 +97,7 @@ module _ {I O C E : Type 0} (tells : Tellings I O C E) (name : List ℕ) (from :
         keeping = ap (λ (f : CabinetFrame). f.returned) back.in_place.call ∙ (ships.2 ∙ ap (λ (f : DiskFrame). f.faults) back.out.fresh);
         read = as_before ships.3;
       }
-      ships_in (Err Write) ships = (part _ ships.0, ships.1, as_before ships.2)
+      ships_in (Err Write) ships = (part _ ships.0, ships.1.rose, as_before ships.2)
       ships_in (Err (Store store.Disk)) ships = (not_shipped store.Disk ships, part _ ships.0, ships.1, without_record ships.3)
       ships_in (Err (Store (store.Other kept given))) ships = (not_shipped (store.Other kept given) ships, part _ ships.0, ships.1, without_record ships.3)
       ships_in (Err (Store (store.Damaged at))) ships = (not_shipped (store.Damaged at) ships, part _ ships.0, ships.1, without_record ships.3)

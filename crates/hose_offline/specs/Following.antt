@@ -14,7 +14,7 @@ use Rattle.hose_journal.specs.Chain.{chain}
 use Rattle.hose_store.specs.Beginning.{HasLeft}
 use Rattle.hose_store.specs.Recovery.{IsHistoryOf, digest_of}
 use Rattle.hose_follow.specs.Answers.{TellsDiskAnswers}
-use Rattle.hose_follow.specs.Ends.{EndsSo}
+use Rattle.hose_follow.specs.Ends.{InputEnds, OutputEnds}
 use Rattle.hose_follow.specs.Packet.{IsPacket, Packet, packets_bytes}
 use Rattle.hose_follow.specs.Replication.{IsLeader, IsSentOf}
 use Rattle.hose_follow.specs.declared.answers.Offered.{Offered}
@@ -104,8 +104,8 @@ FollowsLeaders network packets answers since history = (leader : List Entry)
 
 -- What following the input comes to for a journal that had a history: its whole packets are
 -- answered one after another, which leads to this history. The history goes on from the first one
--- and is sound. `EndsSo` says how the input stands to what comes after the packets, and what is
--- out.
+-- and is sound. `InputEnds` says how the input stands to what comes after the packets, and
+-- `OutputEnds` what is out.
 pub record FollowsFrom {I O C E : Type 0} (tells : Tellings I O C E) (before after : Parts I O C)
     (network : Network) (since history : List Entry) (ended : FollowEnd) : Type 0 where
   pub packets : List Packet
@@ -118,8 +118,8 @@ pub record FollowsFrom {I O C E : Type 0} (tells : Tellings I O C E) (before aft
   pub of_leaders : FollowsLeaders network packets answers since history
   pub begins : IsPrefix since history
   pub sound : IsSound network 0 history
-  pub ends : EndsSo tells.source tells.sink before.input after.input before.output after.output
-      packets answers rest ended
+  pub input : InputEnds tells.source before.input after.input packets rest ended
+  pub output : OutputEnds tells.sink before.output after.output answers ended
   pub limit : length (packets_bytes packets ++ rest) ≤ follow_limit + 1
   pub too_long : (ended ≡ end.TooLong) ↔ (follow_limit < length (packets_bytes packets ++ rest))
   -- without memory to begin with nothing was taken

@@ -53,14 +53,15 @@ module _ {C E : Type 0} (cabinet : CabinetGhosts C E) (disk : DiskGhosts E) (nam
     pub new_told : IsNamed names.new_topology new
     pub goes_on : GoesOnFrom old new
     pub history : List Entry
-    pub had : HadContent cabinet disk before names.journal (IsHistoryOf old history)
+    pub had : HadContent cabinet disk before names.journals.old (IsHistoryOf old history)
     pub sound : IsSound old 0 history
-    pub images : Has (cabinet.frame after).tells (cabinet.held after names.new_journal) (λ left.
-        Images disk left (IsHistoryOf new (stated_entries names.scope old history)))
-    pub new_sound : IsSound new 0 (stated_entries names.scope old history)
+    pub images : Has (cabinet.frame after).tells (cabinet.held after names.journals.new) (λ left.
+        Images disk left (IsHistoryOf new (stated_entries names.journals.scope old history)))
+    pub new_sound : IsSound new 0 (stated_entries names.journals.scope old history)
     pub none_oversold : (place l : ℕ)
-        → ¬ IsOversold new (book_of 0 (take place (stated_entries names.scope old history))) l
-    pub carried : AreCarried new 0 (stated_entries names.scope old history)
+        → ¬ IsOversold new
+        (book_of 0 (take place (stated_entries names.journals.scope old history))) l
+    pub carried : AreCarried new 0 (stated_entries names.journals.scope old history)
 
 module _ {C E : Type 0} (cabinet : CabinetGhosts C E) (disk : DiskGhosts E) where
   -- the journal of a name is told, and this holds of the bytes that it held
@@ -71,13 +72,13 @@ module _ {C E : Type 0} (cabinet : CabinetGhosts C E) (disk : DiskGhosts E) wher
     -- What is moved of a history is sound on the new network, and the new journal stands for a part
     -- of it, from the first entry on.
     abbrev pub FitsMoved : Network → Network → List Entry → Type 0
-    FitsMoved old new history = IsSound new 0 (stated_entries names.scope old history)
-        × IsHeldTold before names.new_journal
-        (StandsForPart new (stated_entries names.scope old history))
+    FitsMoved old new history = IsSound new 0 (stated_entries names.journals.scope old history)
+        × IsHeldTold before names.journals.new
+        (StandsForPart new (stated_entries names.journals.scope old history))
 
     -- the old journal stands for a history of the old network, and what is moved of it fits
     abbrev pub CanTake : Network → Network → Type 0
-    CanTake old new = IsHeldTold before names.journal (λ bytes.
+    CanTake old new = IsHeldTold before names.journals.old (λ bytes.
         (history : List Entry) × IsHistoryOf old history bytes × FitsMoved old new history)
 
     -- the text of a name is told, and this holds of each network that it tells, at the prices
@@ -92,7 +93,7 @@ module _ {C E : Type 0} (cabinet : CabinetGhosts C E) (disk : DiskGhosts E) wher
           (whole_text cabinet before names.topology)
       pub new_servable : IsServable (notation_of names.new_topology)
           (whole_text cabinet before names.new_topology)
-      pub apart : names.new_journal ≢ names.journal
+      pub apart : names.journals.new ≢ names.journals.old
       pub moves : EachNamed names.topology (λ old. EachNamed names.new_topology (λ new.
           GoesOnFrom old new × CanTake old new))
 
@@ -106,8 +107,8 @@ pub record MoveOutcome {I O C E : Type 0} (tells : Tellings I O C E) (names : Mo
   pub ends : EndsMoved tells.sink left after.output status done
   pub whole : status ≡ 0
       → IsMoved tells.cabinet tells.disk names before.cabinet after.cabinet
-  pub old_kept : names.new_journal ≢ names.journal
-      → IsOnlyRead tells.cabinet tells.disk names.journal before.cabinet after.cabinet
+  pub old_kept : names.journals.new ≢ names.journals.old
+      → IsOnlyRead tells.cabinet tells.disk names.journals.old before.cabinet after.cabinet
   -- what can be moved is moved, but for want of memory and where a call failed
   pub complete : IsMovable tells.cabinet tells.disk names before.cabinet
       → NoneFailed tells before after ⊤ → (status ≡ 0) ⊎ (status ≡ 7)

@@ -34,19 +34,23 @@ use Rattle.hose_offline.specs.declared.move_end.Moved.{Moved}
 
 -- ---- what is moved
 
--- What a move names, the prices of networks, and whether all entries are moved or what is live.
-pub record MoveNames : Type 1 where
-  pub prices : Network → Network → Type 0
-  pub scope : Scope
-  pub topology : List ℕ
-  pub journal : List ℕ
-  pub new_topology : List ℕ
-  pub new_journal : List ℕ
-
 -- which entries are moved, by whether the live VPNs alone are
 abbrev pub scope_of : Bool → Scope
 scope_of true = scope.Live
 scope_of false = scope.All
+
+-- the journals that a move names, and whether all entries are moved or what is live
+pub record MovedJournals : Type 0 where
+  pub scope : Scope
+  pub old : List ℕ
+  pub new : List ℕ
+
+-- what a move names: the journals, the topologies, and the prices of networks
+pub record MoveNames : Type 1 where
+  pub prices : Network → Network → Type 0
+  pub journals : MovedJournals
+  pub topology : List ℕ
+  pub new_topology : List ℕ
 
 -- what came of reading a journal that is moved, as a fault of the program
 abbrev pub read_done : Result Stated StoreFault → Result Stated Fault
@@ -62,6 +66,13 @@ IsComplete disk opened network entries moved = (bytes : List ℕ)
     → IsSound network 0 entries → HasEnough moved → IsOk moved
 
 -- ---- the disks of a cabinet
+
+-- How the disk of a journal is used that a cabinet lends: what it comes to where it is not taken
+-- out, how what was done is told, and what that does to the disk.
+pub record Lending (E R T : Type 0) : Type 1 where
+  pub refused : R
+  pub told : T → R
+  pub Does : T → E → E → Type 0
 
 module _ {C E : Type 0} (cabinet : CabinetGhosts C E) where
   -- no disk was taken out, and the cabinet failed
@@ -95,31 +106,41 @@ module _ {C E : Type 0} (cabinet : CabinetGhosts C E) (disk : DiskGhosts E) wher
         → cabinet.held new other ≡ cabinet.held old other
     pub texts : cabinet.text new ≡ cabinet.text old
 
-  module _ (name : List ℕ) (which : Scope) (old new : C) (network : Network) where
-    -- What reading the journal of a name comes to: its disk is not taken out, or its images are as
-    -- before at each moment, and it states entries or is refused.
-    abbrev pub ReadsThere : Result Stated Fault → Type 0
-    ReadsThere result = ((result ≡ Err Cabinet) × IsNotLent cabinet old new)
-        ⊎ ((read : Result Stated StoreFault) × (result ≡ read_done read)
-        × IsLent name old new (λ opened left.
-        ReadsJournal disk opened left network which read × IsUnchanged disk opened left))
+  -- What lending the disk of a name comes to: it is not taken out; or it is lent, and this is done.
+  abbrev pub LendsDisk : {R T : Type 0} → List ℕ → C → C → Lending E R T → R → Type 0
+  LendsDisk {T = T} name old new lending result =
+      ((result ≡ lending.refused) × IsNotLent cabinet old new)
+      ⊎ ((done : T) × (result ≡ lending.told done)
+      × IsLent name old new (lending.Does done))
 
-  -- What reading the journal of a name comes to, which has to be there.
-  abbrev pub ReadsOld : List ℕ → Scope → C → C → Network → Result Stated Fault → Type 0
-  ReadsOld name which old new network result =
-      ((result ≡ Err Cabinet) × IsNotFound cabinet old new)
+  -- What lending the disk of a name comes to, which has to be there.
+  abbrev pub LendsOld : {R T : Type 0} → List ℕ → C → C → Lending E (Result R Fault) T
+      → Result R Fault → Type 0
+  LendsOld name old new lending result = ((result ≡ Err Cabinet) × IsNotFound cabinet old new)
       ⊎ ((found : C) × IsLookedFor cabinet name old found
-      × ReadsThere name which found new network result)
+      × LendsDisk name found new lending result)
 
-  -- What moving entries into the journal of a name comes to: its disk is not taken out, or its
-  -- images at each moment are of the move, and all entries are in it or it is told why not.
-  abbrev pub MovesNew : List ℕ → C → C → Network → List Entry → Result Moved MoveStop → Type 0
-  MovesNew name old new network entries result =
-      ((result ≡ Err (New Cabinet)) × IsNotLent cabinet old new)
-      ⊎ ((moved : Result ℕ MoveFault) × (result ≡ moved_done (length entries) moved)
-      × IsLent name old new (λ opened left. Moves disk opened network entries left moved
-      × OnlyMoves disk opened network entries left
-      × IsComplete disk opened network entries moved))
+module _ {E : Type 0} (disk : DiskGhosts E) (network : Network) where
+  -- A journal is read: its disk's images are as before at each moment, and it states entries or is
+  -- refused.
+  abbrev pub to_read : Scope → Lending E (Result Stated Fault) (Result Stated StoreFault)
+  to_read which = record {
+    refused = Err Cabinet;
+    told = read_done;
+    Does = λ read opened left.
+        ReadsJournal disk opened left network which read × IsUnchanged disk opened left;
+  }
+
+  -- Entries are moved into a journal: its disk's images at each moment are of the move, and all
+  -- entries are in it or it is told why not.
+  abbrev pub to_move : List Entry → Lending E (Result Moved MoveStop) (Result ℕ MoveFault)
+  to_move entries = record {
+    refused = Err (New Cabinet);
+    told = moved_done (length entries);
+    Does = λ moved opened left. Moves disk opened network entries left moved
+        × OnlyMoves disk opened network entries left
+        × IsComplete disk opened network entries moved;
+  }
 
 -- ---- step by step
 
@@ -134,30 +155,30 @@ module _ {I O C E : Type 0} (tells : Tellings I O C E) where
       (number_lines stated.numbers.items) × (after.cabinet ≡ before.cabinet))
       ⊎ (Grows (tells.sink.content before.output) (tells.sink.content after.output)
       (number_lines stated.numbers.items) × OutputWorked tells.sink before.output after.output
-      × MovesNew tells.cabinet tells.disk name before.cabinet after.cabinet network
-      stated.entries.items result)
+      × LendsDisk tells.cabinet tells.disk name before.cabinet after.cabinet
+      (to_move tells.disk network stated.entries.items) result)
 
   -- The old journal was read, and what it states was entered in the new one; or it was not read,
   -- and nothing is out.
-  abbrev pub MovesStated : List ℕ → List ℕ → Scope → Parts I O C → Parts I O C → Network
-      → Network → Result Moved MoveStop → Type 0
-  MovesStated journal new_journal which before after old new result =
-      ((why : Fault) × (result ≡ Err (Old why))
-      × ReadsOld tells.cabinet tells.disk journal which before.cabinet after.cabinet old (Err why)
+  abbrev pub MovesStated : MovedJournals → Parts I O C → Parts I O C → Network → Network
+      → Result Moved MoveStop → Type 0
+  MovesStated journals before after old new result = ((why : Fault) × (result ≡ Err (Old why))
+      × LendsOld tells.cabinet tells.disk journals.old before.cabinet after.cabinet
+      (to_read tells.disk old journals.scope) (Err why)
       × (after.output ≡ before.output))
       ⊎ ((stated : Stated) × (read : C)
-      × ReadsOld tells.cabinet tells.disk journal which before.cabinet read old (Ok stated)
-      × Enters new_journal (record before { cabinet = read }) after new stated result)
+      × LendsOld tells.cabinet tells.disk journals.old before.cabinet read
+      (to_read tells.disk old journals.scope) (Ok stated)
+      × Enters journals.new (record before { cabinet = read }) after new stated result)
 
   -- The new network goes on from the old one, and the journal was moved; or it does not, the first
   -- change is told, and nothing else was done.
-  abbrev pub MovesOn : List ℕ → List ℕ → Scope → Parts I O C → Parts I O C → Network → Network
+  abbrev pub MovesOn : MovedJournals → Parts I O C → Parts I O C → Network → Network
       → Result Moved MoveStop → Type 0
-  MovesOn journal new_journal which before after old new result = ((change : Change)
+  MovesOn journals before after old new result = ((change : Change)
       × (result ≡ Err (Changed change)) × IsFirstChange old new (Some change)
       × (after.output ≡ before.output) × (after.cabinet ≡ before.cabinet))
-      ⊎ (GoesOnFrom old new
-      × MovesStated journal new_journal which before after old new result)
+      ⊎ (GoesOnFrom old new × MovesStated journals before after old new result)
 
   -- The new topology was read, and the journal was moved on to its network; or it was not read, and
   -- nothing is out.
@@ -168,8 +189,7 @@ module _ {I O C E : Type 0} (tells : Tellings I O C E) where
       (Err why) × (after.output ≡ before.output))
       ⊎ ((new : Network) × (read : C)
       × ReadsTopology tells.cabinet before.cabinet read names.prices names.new_topology (Ok new)
-      × MovesOn names.journal names.new_journal names.scope (record before { cabinet = read }) after
-      old new result)
+      × MovesOn names.journals (record before { cabinet = read }) after old new result)
 
   -- The old topology was read, and its journal was moved; or it was not read, and nothing is out.
   abbrev pub MovesNamed : MoveNames → Parts I O C → Parts I O C → Result Moved MoveStop → Type 0

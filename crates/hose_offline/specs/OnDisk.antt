@@ -4,8 +4,6 @@ use Rattle.hose_io.specs.Frame.{Met, Rose}
 use Rattle.hose_io.specs.declared.Failed.{Failed}
 use Rattle.hose_graph.specs.Network.{Network}
 use Rattle.hose_graph.specs.declared.entry.Entry.{Entry}
-use Rattle.hose_graph.specs.declared.command.Reply.{Reply}
-use Rattle.hose_law.specs.Script.{ReadLine}
 use Rattle.hose_disk.specs.Cabinet.{Has, object_of}
 use Rattle.hose_disk.specs.declared.cabinet.Cabinet.{Ghosts as CabinetGhosts}
 use Rattle.hose_disk.specs.declared.disk.Disk.{Ghosts as DiskGhosts}
@@ -13,7 +11,7 @@ use Rattle.hose_journal.specs.Image.{Meaning}
 use Rattle.hose_store.specs.Beginning.{Beginning, HasLeft}
 use Rattle.hose_store.specs.Opening.{IsAtOpening}
 use Rattle.hose_store.specs.Recovery.{IsHistoryOf, IsRecoveredAs}
-use Rattle.hose_offline.specs.Run.{Keeping, in_memory}
+use Rattle.hose_offline.specs.Run.{Keeping, ScriptRun, in_memory}
 use Rattle.hose_offline.specs.Talking.{IsAskedBy, TellsDisks}
 
 -- the opening of a disk that stood for a history then
@@ -30,14 +28,13 @@ opening_of disk network since was = record {
 -- had at its opening. Where an image of the disk has one entry more than a part of the history, one
 -- of the lines asked for it.
 pub record KeptOnDisk {C E : Type 0} (cabinet : CabinetGhosts C E) (disk : DiskGhosts E)
-    (name : List ℕ) (old new : C) (closing : Result ⊤ Failed) (network : Network)
-    (since history : List Entry) (lines : List ReadLine) (replies : List Reply) : Type 0 where
-  pub told : TellsDisks 0 replies (cabinet.frame new).returned
+    (name : List ℕ) (old new : C) (closing : Result ⊤ Failed) (run : ScriptRun) : Type 0 where
+  pub told : TellsDisks 0 run.replies (cabinet.frame new).returned
   pub met : Met (object_of (cabinet.frame old)) (object_of (cabinet.frame new)) closing
   pub left : Has (cabinet.frame old).tells (cabinet.held old name) (λ was.
       Has (cabinet.frame new).tells (cabinet.held new name) (λ left.
-      HasLeft disk (IsAskedBy lines replies) (disk.may_leave was)
-      (opening_of disk network since was) history left closing))
+      HasLeft disk (IsAskedBy run.lines run.replies) (disk.may_leave was)
+      (opening_of disk run.network run.since was) run.history left closing))
 
 -- no call of the cabinet failed
 abbrev pub CabinetWorked : {C E : Type 0} → CabinetGhosts C E → C → C → Type 0

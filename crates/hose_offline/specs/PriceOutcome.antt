@@ -1,9 +1,7 @@
 -- What stands after `price`, by what ended it.
-use Rattle.std.specs.Prelude.{◌≡◌, ◌⊎◌, ℕ, ◌<◌, List, length, false, Option, Result, Err, slice_index_or, ⊤}
+use Rattle.std.specs.Prelude.{◌≡◌, ◌⊎◌, ℕ, ◌<◌, List, length, map, false, Option, Result, Err, slice_index_or, ⊤}
 use Rattle.hose_io.specs.Stream.{Stream}
-use Rattle.hose_io.specs.declared.source.Source.{Ghosts as SourceGhosts}
-use Rattle.hose_io.specs.declared.sink.Sink.{Ghosts as SinkGhosts}
-use Rattle.hose_talk.specs.Talk.{TalksTo, TellsOf}
+use Rattle.hose_talk.specs.Talk.{TalksTo, TellsOf, talk}
 use Rattle.hose_talk.specs.declared.talking.TalkEnd.{TalkEnd}
 use Rattle.hose_talk.specs.declared.talking.TalkFault.{TalkFault}
 use Rattle.hose_graph.specs.Network.{Network}
@@ -23,12 +21,15 @@ use Rattle.hose_offline.specs.declared.fault.Fault.TheVariants.{Memory}
 
 -- What answering the lines of an input by a sheet comes to, as a talk, where tariffs have these
 -- names: what a line says is its answer, and the answers are the replies.
-abbrev pub AnswersInput : {I O : Type 0} → SourceGhosts I → SinkGhosts O → List (List ℕ) → Sheet
-    → I → I → O → O → Result TalkEnd TalkFault → Type 0
-AnswersInput source sink names sheet input input' output output' = TalksTo source sink
-    (TellsOf (AnswersNext sheet) (source.content input) (source.content input'))
-    (λ said answers _. said ≡ answers) (λ _. false)
-    (λ answer. line_of (answer_text names answer)) input input' output output' (tt {0})
+abbrev pub AnswersInput : {I O C E : Type 0} → Tellings I O C E → List (List ℕ) → Sheet
+    → Parts I O C → Parts I O C → Result TalkEnd TalkFault → Type 0
+AnswersInput tells names sheet before after = TalksTo tells.source tells.sink (record {
+  tells = TellsOf (AnswersNext sheet) (tells.source.content before.input)
+      (tells.source.content after.input);
+  comes = λ said answers _. said ≡ answers;
+  over = λ _. false;
+  text = λ answer. line_of (answer_text names answer);
+}) (talk before.input before.output (tt {0})) (talk after.input after.output (tt {0}))
 
 -- ---- the topology and the input
 
@@ -44,18 +45,26 @@ pub record IsSheetBy {T : Type 0} (prices : T → Network → Network → Type 0
       (base (slice_index_or tariffs k tariff)) (per (slice_index_or tariffs k tariff)) network
       (slice_index_or sheet.columns k column)
 
--- Sheets are made so of a network, and tariffs have these names.
-module _ {I O C E : Type 0} (tells : Tellings I O C E) (makes : Network → Sheet → Type 0)
-    (names : List (List ℕ)) where
+-- the tariffs under which hoses are priced: the sheets that are made of a network, and their names
+pub record Pricing : Type 1 where
+  pub makes : Network → Sheet → Type 0
+  pub names : List (List ℕ)
+
+-- those of tariffs with such prices, names and bounds
+abbrev pub pricing_of : {T : Type 0} → (T → Network → Network → Type 0) → (T → List ℕ) → (T → ℕ)
+    → (T → ℕ) → List T → Pricing
+pricing_of prices name base per tariffs =
+    record { makes = IsSheetBy prices base per tariffs; names = map name tariffs }
+
+module _ {I O C E : Type 0} (tells : Tellings I O C E) (pricing : Pricing) where
   -- There was no memory for a sheet or for rows, nothing was taken of the input, and nothing is
   -- out; or the lines of the input were answered by a sheet of the network.
   abbrev pub AnswersBySheet : Parts I O C → Parts I O C → Network → Result ⊤ Fault → Type 0
   AnswersBySheet before after network result = ((result ≡ Err Memory)
       × (after.input ≡ before.input) × (after.output ≡ before.output))
-      ⊎ ((sheet : Sheet) × makes network sheet × (ended : Result TalkEnd TalkFault)
+      ⊎ ((sheet : Sheet) × pricing.makes network sheet × (ended : Result TalkEnd TalkFault)
       × (result ≡ done_of_talk ended)
-      × AnswersInput tells.source tells.sink names sheet before.input after.input before.output
-      after.output ended)
+      × AnswersInput tells pricing.names sheet before after ended)
 
   -- The topology that was named was read, and the input answered by its network; or it was not, and
   -- why, and then nothing was taken of the input, and nothing is out. Of its text this is left.
@@ -76,10 +85,10 @@ module _ {I O C E : Type 0} (tells : Tellings I O C E) (makes : Network → Shee
 -- A topology was read and the lines of the input answered, or not. That left the output as `left`
 -- is, and then the last line was put, which tells the fault, if there is one.
 pub record PriceOutcome {I O C E : Type 0} (tells : Tellings I O C E)
-    (makes : Network → Sheet → Type 0) (names : List (List ℕ)) (topology : List ℕ)
-    (before after : Parts I O C) (status : ℕ) : Type 0 where
+    (pricing : Pricing) (topology : List ℕ) (before after : Parts I O C) (status : ℕ) :
+    Type 0 where
   pub done : Result ⊤ Fault
   pub left : O
-  pub leaves : PricesNamed tells makes names topology before (record after { output = left }) done
+  pub leaves : PricesNamed tells pricing topology before (record after { output = left }) done
   pub last_line : IsLastLine tells.sink left after.output done
   pub is_status : status ≡ status_of_done done

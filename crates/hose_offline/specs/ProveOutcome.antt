@@ -1,7 +1,7 @@
 -- What stands after `prove`, by what ended it.
-use Rattle.std.specs.Prelude.{◌≡◌, ◌⊎◌, ℕ, ◌+◌, List, codes, Option, Result, Ok, Err, ⊤}
+use Rattle.std.specs.Prelude.{◌≡◌, ◌⊎◌, ℕ, ◌+◌, List, codes, Result, Ok, Err, ⊤}
 use Rattle.hose_io.specs.Frame.{Rose}
-use Rattle.hose_io.specs.Stream.{Grows, Stream}
+use Rattle.hose_io.specs.Stream.{Grows}
 use Rattle.hose_io.specs.Writing.{GrowsInPart}
 use Rattle.hose_io.specs.declared.sink.Sink.{Ghosts as SinkGhosts}
 use Rattle.hose_graph.specs.Hose.{Endpoint}
@@ -89,17 +89,13 @@ ProvesWords sink ends network output output' result =
 module _ {I O C E : Type 0} (tells : Tellings I O C E) (prices : Network → Network → Type 0)
     (topology : List ℕ) (ends : EndsFrom) (before after : Parts I O C) where
   -- The topology that was named was read, and the endpoints taken as those of its network; or it
-  -- was not, and why, and then nothing is out. Of its text this is left.
-  abbrev pub ProveLeaves : Option Stream → Result ⊤ Fault → Type 0
-  ProveLeaves left result = NamesNetwork tells prices topology before after left
+  -- was not, and why, and then nothing is out. What was taken of its text is told too.
+  abbrev pub ProvesNamed : Result ⊤ Fault → Type 0
+  ProvesNamed = TakesText tells.cabinet before.cabinet after.cabinet (notation_of topology) topology
+      (λ left result. NamesNetwork tells prices topology before after left
       (λ network. ProvesWords tells.sink ends network before.output after.output result)
       ⊎ ((after.output ≡ before.output) × ((why : Fault) × (result ≡ Err why)
-      × NamesNone tells topology before after left why))
-
-  -- whether a topology that was named was read and what was written, and what was taken of the text
-  abbrev pub ProvesNamed : Result ⊤ Fault → Type 0
-  ProvesNamed = TakesText tells.cabinet before.cabinet after.cabinet (notation_of topology)
-      topology ProveLeaves
+      × NamesNone tells topology before after left why)))
 
 -- A topology was read and the certificate written, or not, and the input left alone. That left the
 -- output as `left` is, and then the last line was put, which tells the fault, if there is one.

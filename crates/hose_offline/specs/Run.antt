@@ -1,5 +1,5 @@
 -- A run from its first byte to its last.
-use Rattle.std.specs.Prelude.{◌≡◌, ℕ, ◌≤◌, List, [], ◌∷◌, ◌++◌, length, Option, None, Some, take}
+use Rattle.std.specs.Prelude.{◌≡◌, ℕ, ◌≤◌, List, [], length, Option, None, Some, take}
 use mathlib.Core.List.{IsPrefix}
 use Rattle.hose_io.specs.Stream.{Stream, Grows}
 use Rattle.hose_words.specs.Lines.{StopsAfterLines}
@@ -12,28 +12,36 @@ use Rattle.hose_law.specs.Cheapest.{AreCheapest}
 use Rattle.hose_law.specs.History.{book_of, IsDecided}
 use Rattle.hose_law.specs.Live.{AreLiveUnreleased, StaysLive}
 use Rattle.hose_law.specs.Quotes.{Holdings, nothing_held}
-use Rattle.hose_law.specs.Script.{ReadLine, IsScript, WithoutDisk, WithoutMemory}
+use Rattle.hose_law.specs.Script.{ReadLine, IsScript, WithoutDisk, WithoutMemory, script_state}
 use Rattle.hose_topo.specs.TopologyText.{IsTopologyText}
 use Rattle.hose_words.specs.Reading.{WhereTold}
-use Rattle.hose_proto.specs.ReplyText.{line_of, reply_text}
-use Rattle.hose_proto.specs.Replies.{GrowsShort, texts_of}
+use Rattle.hose_proto.specs.Replies.{CutsLast, texts_of}
 use Rattle.hose_words.specs.Saying.{IsAllTaken, IsLeftOver, SayLines}
 use Rattle.hose_offline.specs.Talking.{SaysNext}
 use Rattle.hose_offline.specs.TopologyTold.{IsRefusedAs, Tells, TellsPriced, limit_of}
 use Rattle.hose_offline.specs.declared.notation.Notation.{Notation}
 use Rattle.hose_offline.specs.declared.notation.Refusal.{Refusal}
 
--- Where a run keeps its book: the history with which it may begin, and what holds of that history,
--- the one at the end, the lines and the replies.
+-- lines that were answered on a network from a history on: the history that they led to, and their
+-- replies
+pub record ScriptRun : Type 0 where
+  pub network : Network
+  pub since : List Entry
+  pub history : List Entry
+  pub lines : List ReadLine
+  pub replies : List Reply
+
+-- Where a run keeps its book: the history with which it may begin, and what holds of a script that
+-- was run from there.
 pub record Keeping : Type 1 where
   pub Begins : Network → List Entry → Type 0
-  pub Keeps : Network → List Entry → List Entry → List ReadLine → List Reply → Type 0
+  pub Keeps : ScriptRun → Type 0
 
 -- a run keeps its book in memory: it begins with nothing, and no reply is for a failure of a disk
 abbrev pub in_memory : Keeping
 in_memory = record {
   Begins = λ network since. since ≡ [];
-  Keeps = λ network since history lines replies. WithoutDisk replies;
+  Keeps = λ run. WithoutDisk run.replies;
 }
 
 -- This output is right for this input, a book of this history, and this network: the input is the
@@ -50,7 +58,8 @@ pub record IsRightFor (prices : Network → Network → Type 0) (network : Netwo
   pub priced : prices told network
   pub said : SayLines (SaysNext network) rest lines []
   pub left : Holdings
-  pub script : IsScript network 0 since nothing_held lines replies history left
+  pub script : IsScript network 0 lines replies (script_state since nothing_held)
+      (script_state history left)
   pub memory : WithoutMemory replies
   pub disk : WithoutDisk replies
   pub out : output ≡ texts_of network replies
@@ -64,22 +73,30 @@ pub record IsRightFor (prices : Network → Network → Type 0) (network : Netwo
 -- tree over the links allowed at the book before it carries them at less cost. `stops` says how the
 -- input stands to what comes after the lines and to what is left.
 pub record HasRun (prices : Network → Network → Type 0) (keeping : Keeping)
-    (old new : Option Stream) (network : Network)
-    (lines : List ReadLine) (replies : List Reply)
-    (stops : List ℕ → List ℕ → List ℕ → Type 0) : Type 0 where
+    (old new : Option Stream) (stops : List ℕ → List ℕ → List ℕ → Type 0) : Type 0 where
   pub told : Network
+  pub network : Network
   pub priced : prices told network
   pub since : List Entry
   pub history : List Entry
+  pub lines : List ReadLine
+  pub replies : List Reply
   pub begun : keeping.Begins network since
   pub begins : IsPrefix since history
   pub text : WhereTold old new (λ input left. (lines_text rest : List ℕ)
       × IsTopologyText input told lines_text × SayLines (SaysNext network) lines_text lines rest
       × stops input rest left)
   pub left : Holdings
-  pub script : IsScript network 0 since nothing_held lines replies history left
+  pub script : IsScript network 0 lines replies (script_state since nothing_held)
+      (script_state history left)
   pub decided : IsDecided network 0 (length since) history
-  pub keeps : keeping.Keeps network since history lines replies
+  pub keeps : keeping.Keeps (record {
+    network = network;
+    since = since;
+    history = history;
+    lines = lines;
+    replies = replies;
+  })
   pub none_oversold : (place l : ℕ) → ¬ IsOversold network (book_of 0 (take place history)) l
   pub held : (place : ℕ) → place ≤ length history → AreLiveUnreleased 0 history place
   pub kept : (place : ℕ) → StaysLive 0 history place
@@ -90,35 +107,25 @@ pub record HasRun (prices : Network → Network → Type 0) (keeping : Keeping)
 -- at the beginning.
 pub record IsRun (prices : Network → Network → Type 0) (keeping : Keeping) (old new : Option Stream)
     (before after : Option (List ℕ)) : Type 0 where
-  pub network : Network
-  pub lines : List ReadLine
-  pub replies : List Reply
-  pub run : HasRun prices keeping old new network lines replies IsAllTaken
-  pub out : Grows before after (texts_of network replies)
-  pub alone : WithoutMemory replies → WithoutDisk replies → WhereTold old new (λ input _.
-      (output : List ℕ) → IsRightFor prices network run.since input output
-      → output ≡ texts_of network replies)
+  pub run : HasRun prices keeping old new IsAllTaken
+  pub out : Grows before after (texts_of run.network run.replies)
+  pub alone : WithoutMemory run.replies → WithoutDisk run.replies → WhereTold old new (λ input _.
+      (output : List ℕ) → IsRightFor prices run.network run.since input output
+      → output ≡ texts_of run.network run.replies)
 
 -- Reading stopped at a fault after the topology and whole lines, and the output has the replies to
 -- these lines.
 pub record IsRunUpTo (prices : Network → Network → Type 0) (keeping : Keeping)
     (fault : LineFault) (old new : Option Stream) (before after : Option (List ℕ)) : Type 0 where
-  pub network : Network
-  pub lines : List ReadLine
-  pub replies : List Reply
-  pub run : HasRun prices keeping old new network lines replies (StopsAfterLines fault)
-  pub out : Grows before after (texts_of network replies)
+  pub run : HasRun prices keeping old new (StopsAfterLines fault)
+  pub out : Grows before after (texts_of run.network run.replies)
 
 -- The output was cut off in a reply: it has the replies before, and a part of this one. Bytes after
 -- the lines may have been taken.
 pub record IsCutOff (prices : Network → Network → Type 0) (keeping : Keeping)
     (old new : Option Stream) (before after : Option (List ℕ)) : Type 0 where
-  pub network : Network
-  pub lines : List ReadLine
-  pub replies : List Reply
-  pub reply : Reply
-  pub run : HasRun prices keeping old new network lines (replies ++ reply ∷ []) IsLeftOver
-  pub out : GrowsShort before after (texts_of network replies) (line_of (reply_text network reply))
+  pub run : HasRun prices keeping old new IsLeftOver
+  pub out : CutsLast run.network before after run.replies
 
 -- the text tells no network, and is refused so
 abbrev pub TellsNoNetwork : Notation → Refusal → Option Stream → Option Stream → Type 0

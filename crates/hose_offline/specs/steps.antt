@@ -2,12 +2,14 @@
 pub mod AuditOutcome
 pub mod CabinetText
 pub mod CheckOutcome
+pub mod Ending
 pub mod Fault
 pub mod Following
 pub mod GenOutcome
 pub mod Generating
 pub mod Journal
 pub mod JsonRead
+pub mod LastLine
 pub mod Moving
 pub mod Parts
 pub mod PriceOutcome
@@ -15,7 +17,6 @@ pub mod ProveOutcome
 pub mod ServingOnDisk
 pub mod SheetLine
 pub mod ShipOutcome
-pub mod Talk
 pub mod Talking
 pub mod TalkingOnDisk
 pub mod Tally

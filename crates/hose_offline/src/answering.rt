@@ -1,5 +1,5 @@
 // A run: a topology, and then a reply for each line.
-ghost use Rattle.std.specs.Prelude.{◌≡◌, ◌≢◌, ◌↔◌, ◌+◌, [], ◌<◌, ◌≤◌, ℕ, List, length, None, Err, Result, ⊤};
+ghost use Rattle.std.specs.Prelude.{◌≡◌, ◌≢◌, ◌↔◌, ◌+◌, [], ◌<◌, ◌≤◌, ℕ, List, length, IsSome, None, Err, Result, ⊤};
 ghost use Rattle.std.specs.Prelude.{option_map};
 ghost use Rattle.hose_io.specs.Frame.{Stays};
 ghost use Rattle.hose_io.specs.Stream.{Gives};
@@ -14,17 +14,17 @@ ghost use Rattle.hose_graph.specs.declared.entry.Entry.{Entry};
 ghost use Rattle.hose_graph.specs.declared.command.Reply.{Reply};
 ghost use Rattle.hose_io.specs.declared.Failed.{Failed};
 ghost use Rattle.hose_book.specs.steps.GoingOn.{GoesOn};
+ghost use Rattle.hose_book.specs.Ledger.{HasBookOf};
 ghost use Rattle.hose_store.specs.Beginning.{HasLeft};
 ghost use Rattle.hose_store.specs.steps.Commit.{Closes, store_books};
 ghost use Rattle.hose_store.specs.steps.Store.{KeptStore};
 ghost use Rattle.hose_core.specs.steps.Stepping.{FitsHistory};
-ghost use Rattle.hose_disk.specs.Cabinet.{object_of};
-ghost use Rattle.hose_offline.specs.steps.Journal.{IsJustOpened};
+ghost use Rattle.hose_offline.specs.steps.Journal.{IsJustOpened, OpensJournal};
 ghost use Rattle.hose_offline.specs.OnDisk.{opening_of};
-ghost use Rattle.hose_offline.specs.Parts.{parts, tellings};
+ghost use Rattle.hose_offline.specs.Parts.{AllStay, parts, tellings};
 ghost use Rattle.hose_offline.specs.steps.Parts.{KeepsAll, held};
 ghost use Rattle.hose_offline.specs.RunOutcome.{RunLeaves, RunOutcome};
-ghost use Rattle.hose_offline.specs.steps.Talk.{talk};
+ghost use Rattle.hose_talk.specs.Talk.{talk};
 ghost use Rattle.hose_offline.specs.Talking.{IsAskedBy};
 ghost use Rattle.hose_offline.specs.steps.Talking.{AnswersLine, SaysOneThing, SaysRead, Talks, TalksInMemory, plain_books, talk_tellings};
 ghost use Rattle.hose_offline.specs.steps.TalkingOnDisk.{TalksInCabinet};
@@ -40,7 +40,7 @@ use hose_graph::{Reply, Topology};
 use hose_io::{Failed, Sink, Source};
 use hose_paths::{RowMaker, RowTable, TableRows};
 use hose_proto::{ReadFault, put_reply};
-use hose_store::Decided;
+use hose_store::{Decided, Store};
 use hose_talk::{Answers, converse};
 use hose_tariff::Prices;
 use hose_topo::read;
@@ -95,9 +95,8 @@ fn run_input<P: Prices, I: Source, O: Sink, C: Cabinet>(
     ensures in_memory { journal.entry ≡ None → cabinet.new ≡ cabinet.old }
     ensures absent { (C.frame cabinet.new).absent ≡ (C.frame cabinet.old).absent }
     ensures back { (C.frame cabinet.new).out ≡ None }
-    ensures input { Stays (I.frame input.old) (I.frame input.new) }
-    ensures output { Stays (O.frame output.old) (O.frame output.new) }
-    ensures cabinet { Stays (object_of (C.frame cabinet.old)) (object_of (C.frame cabinet.new)) }
+    ensures stay { AllStay (tellings I.Source O.Sink C.Cabinet C.Disk.Disk)
+        (parts input.old output.old cabinet.old) (parts input.new output.new cabinet.new) }
 {
     let mut lines = LineReader::new(input);
     let done = run_lines(alloc, costs, journal, &mut lines, output, cabinet);
@@ -129,14 +128,18 @@ fn run_lines<P: Prices, S: Source, O: Sink, C: Cabinet>(
     ensures in_memory { journal.entry ≡ None → cabinet.new ≡ cabinet.old }
     ensures absent { (C.frame cabinet.new).absent ≡ (C.frame cabinet.old).absent }
     ensures back { (C.frame cabinet.new).out ≡ None }
-    ensures output { Stays (O.frame output.old) (O.frame output.new) }
-    ensures cabinet { Stays (object_of (C.frame cabinet.old)) (object_of (C.frame cabinet.new)) }
+    ensures stay { AllStay (tellings S.Source O.Sink C.Cabinet C.Disk.Disk)
+        (parts lines.old.source output.old cabinet.old)
+        (parts lines.new.source output.new cabinet.new) }
 {
     let told = read(alloc, lines)?;
     let topology = costs.apply(alloc, told)?;
     match journal {
         None => answer_in_memory(alloc, topology, lines, output),
-        Some(name) => answer_in_cabinet(alloc, name, topology, lines, output, cabinet),
+        Some(name) => {
+            let store = open_journal::<C, Decided>(alloc, name, topology, cabinet)?;
+            answer_by_journal(alloc, store, lines, output, cabinet)
+        }
     }
 }
 
@@ -166,41 +169,40 @@ fn answer_in_memory<S: Source, O: Sink>(
     answer_all(&mut clerk, lines, output)
 }
 
-// Answers all lines by the book of the journal of a name. The first fault is told, and the disk is
-// back in the cabinet. The rows of all nodes are made once the journal is open; where there is no
-// memory for them, it is closed as it is.
-fn answer_in_cabinet<S: Source, O: Sink, C: Cabinet>(
+// Answers all lines by a store that was just opened, whose disk is out of the cabinet. The first
+// fault is told, and the disk is back then. The rows of all nodes are made first; where there is no
+// memory for them, the journal is closed as it is.
+fn answer_by_journal<S: Source, O: Sink, C: Cabinet>(
     alloc: Global,
-    name: &str,
-    topology: Topology,
+    store: Store<C::Disk>,
     lines: &mut LineReader<S>,
     output: &mut O,
     cabinet: &mut C,
 ) -> Result<(), Fault>
-    requires none_out { (C.frame cabinet.old).out ≡ None }
+    requires out { IsSome (C.frame cabinet.old).out }
     requires limit { lines.old.taken ≤ INPUT_LIMIT }
     requires no_fault { lines.old.fault ≡ None }
-    ensures talks { TalksInCabinet (tellings S.Source O.Sink C.Cabinet C.Disk.Disk) name.now
-        (parts lines.old output.old cabinet.old) (parts lines.new output.new cabinet.new)
-        topology result }
+    ensures talks { (name : List ℕ) → (before : C) → (network : Network)
+        → OpensJournal C.Cabinet C.Disk.Disk IsDecidedAt name before cabinet.old network store
+        → TalksInCabinet (tellings S.Source O.Sink C.Cabinet C.Disk.Disk) name
+        (parts lines.old output.old before) (parts lines.new output.new cabinet.new)
+        network result }
     ensures too_long { (result ≡ Err Fault.TooLong) ↔ (INPUT_LIMIT < lines.new.taken) }
     ensures reads_on { ReadsOn S.Source lines.old lines.new }
     ensures limit { lines.new.taken ≤ INPUT_LIMIT + 1 }
     ensures absent { (C.frame cabinet.new).absent ≡ (C.frame cabinet.old).absent }
     ensures back { (C.frame cabinet.new).out ≡ None }
-    ensures output { Stays (O.frame output.old) (O.frame output.new) }
-    ensures cabinet { Stays (object_of (C.frame cabinet.old)) (object_of (C.frame cabinet.new)) }
+    ensures stay { AllStay (tellings S.Source O.Sink C.Cabinet C.Disk.Disk)
+        (parts lines.old.source output.old cabinet.old)
+        (parts lines.new.source output.new cabinet.new) }
 {
-    // What is told of entries that lines ask for comes from the law.
-    law_asked::<C::Disk>();
-    let store = open_journal::<C, Decided>(alloc, name, topology, cabinet)?;
     let Ok(table) = RowTable::of_all(alloc, store.book().topology()) else {
         let _ = close_journal(store, cabinet);
         return Err(Fault::Memory);
     };
     let mut clerk = Clerk {
         alloc,
-        core: Core::new(alloc, store),
+        core: core_over(alloc, store),
         rows: TableRows::new(&table),
     };
     let answered = answer_all(&mut clerk, lines, output);
@@ -208,17 +210,22 @@ fn answer_in_cabinet<S: Source, O: Sink, C: Cabinet>(
     first_fault(answered, closed.0)
 }
 
-// What is left of the disk of a store that was just opened, after commits of entries that lines ask
-// for.
-fn law_asked<D: Disk>()
-    ensures { (lines : List ReadLine) → (replies : List Reply) → (old : D) → (network : Network) →
-        (store : KeptStore D) → (opens : IsJustOpened D.Disk IsDecidedAt old network store) →
-        (history : List Entry) → (last : KeptStore D) → (left : D) → (closing : Result ⊤ Failed) →
-        GoesOn (store_books D.Disk) (IsAskedBy lines replies) network opens.opened.history store
-        history last → Closes D.Disk last left closing →
-        HasLeft D.Disk (IsAskedBy lines replies) (D.may_leave old)
+// A core over a store. Where the store was just opened, its disk is left, after commits of entries
+// that lines ask for, as closing says.
+fn core_over<D: Disk>(alloc: Global, store: Store<D>) -> Core<Store<D>>
+    ensures books { result.books ≡ store }
+    ensures fits { (history : List Entry) → HasBookOf 0 history store.ledger
+        → FitsHistory (store_books D.Disk) result 0 history nothing_held }
+    ensures leaves { (lines : List ReadLine) → (replies : List Reply) → (old : D)
+        → (network : Network) → (opens : IsJustOpened D.Disk IsDecidedAt old network store)
+        → (history : List Entry) → (last : KeptStore D) → (left : D) → (closing : Result ⊤ Failed)
+        → GoesOn (store_books D.Disk) (IsAskedBy lines replies) network opens.opened.history store
+        history last → Closes D.Disk last left closing
+        → HasLeft D.Disk (IsAskedBy lines replies) (D.may_leave old)
         (opening_of D.Disk network opens.opened.history old) history left closing }
-{}
+{
+    Core::new(alloc, store)
+}
 
 // Who answers the lines of a script: where memory is taken, a core of books, and what makes rows.
 #[derive(Drop)]

@@ -1,10 +1,10 @@
 // An audit: the book of a journal, as a text.
 ghost use Rattle.std.specs.Prelude.{◌≡◌, ◌≢◌, IsSome, IsTrue, None};
-ghost use Rattle.hose_io.specs.Frame.{Stays};
 ghost use Rattle.hose_audit.specs.Audit.{audit_text};
 ghost use Rattle.hose_offline.specs.AuditOutcome.{AuditOutcome, EndsTold};
 ghost use Rattle.hose_offline.specs.steps.AuditOutcome.{AuditsJournal};
 ghost use Rattle.hose_offline.specs.Auditing.{ReadsText, ReadsTopology, priced_names};
+ghost use Rattle.hose_offline.specs.steps.Ending.{Wrote};
 ghost use Rattle.hose_offline.specs.Parts.{tellings};
 ghost use Rattle.hose_offline.specs.steps.Parts.{KeepsAll, held};
 ghost use Rattle.hose_offline.specs.TopologyTold.{own_costs};
@@ -86,9 +86,8 @@ fn audit_journal<I: Source, O: Sink, C: Cabinet>(
 /// Writes what a book holds, and the last line of a fault that was met before, if one was; gives
 /// the exit status.
 pub fn tell<O: Sink>(book: &Book, done: Result<(), Fault>, output: &mut O) -> u8
-    ensures ends { EndsTold O.Sink output.old output.new result done
-        (audit_text book.now.network book.now.book) }
-    ensures output { Stays (O.frame output.old) (O.frame output.new) }
+    ensures { Wrote O.Sink output.old output.new (EndsTold O.Sink output.old output.new result
+        done (audit_text book.now.network book.now.book)) }
 {
     let told = hose_audit::audit(book, output);
     match done {

@@ -1,11 +1,12 @@
 // A check: the certificate of an input, judged by the topology of a text.
 ghost use Rattle.std.specs.Prelude.{◌≡◌, ◌≢◌, ◌↔◌, ◌+◌, ◌<◌, ◌≤◌, [], Err, IfOk, None};
-ghost use Rattle.hose_io.specs.Frame.{Rose, Stays};
+ghost use Rattle.hose_io.specs.Frame.{Rose};
 ghost use Rattle.hose_cert.specs.Verdict.{AreCheapestFound, IsVerdict};
 ghost use Rattle.hose_words.specs.Reading.{WhereTold};
 ghost use Rattle.hose_words.specs.steps.Reading.{ReadsOn};
 ghost use Rattle.hose_offline.specs.CheckOutcome.{CheckOutcome, EndsVerdict, JudgesNamed};
 ghost use Rattle.hose_offline.specs.steps.CheckOutcome.{JudgesInput};
+ghost use Rattle.hose_offline.specs.steps.Ending.{Wrote};
 ghost use Rattle.hose_offline.specs.Parts.{tellings};
 ghost use Rattle.hose_offline.specs.steps.Parts.{KeepsAll, held};
 
@@ -63,8 +64,7 @@ fn judge_named<P: Prices, I: Source, O: Sink, C: Cabinet>(
 
 // The verdict on the certificate of the input, by a network.
 fn judge<I: Source>(alloc: Global, top: &Topology, input: &mut I) -> Result<Verdict, Fault>
-    ensures judges { JudgesInput I.Source input.old input.new top.now result }
-    ensures input { Stays (I.frame input.old) (I.frame input.new) }
+    ensures { JudgesInput I.Source input.old input.new top.now result }
 {
     let mut lines = LineReader::new(input);
     let verdict = judge_lines(alloc, top, &mut lines);
@@ -101,8 +101,8 @@ fn judge_lines<S: Source>(
 
 // Writes what was found, and gives the exit status.
 fn tell_verdict<O: Sink>(verdict: &Verdict, output: &mut O) -> u8
-    ensures ends { EndsVerdict O.Sink output.old output.new result verdict.now }
-    ensures output { Stays (O.frame output.old) (O.frame output.new) }
+    ensures { Wrote O.Sink output.old output.new
+        (EndsVerdict O.Sink output.old output.new result verdict.now) }
 {
     match verdict {
         Verdict::Yes { cost, .. } => match put_numbered(output, b"yes ", *cost) {

@@ -1,14 +1,13 @@
 // What ends a run before its input is all read, and how that is told.
 ghost use Rattle.std.specs.Prelude.{◌≡◌, ◌++◌, [], decimal};
 ghost use Rattle.hex.specs.Hex.{encode_lower};
-ghost use Rattle.hose_io.specs.Frame.{Stays};
 ghost use Rattle.hose_io.specs.steps.Gather.{IsAdded};
 ghost use Rattle.hose_io.specs.steps.Writing.{IsPut};
 ghost use Rattle.hose_proto.specs.ReplyText.{line_of};
 ghost use Rattle.hose_offline.specs.declared.fault.Fault.TheVariants.{Memory, Read, Write};
-ghost use Rattle.hose_offline.specs.Ending.{IsLastLine, status_of_done};
 ghost use Rattle.hose_offline.specs.Fault.{done_of_talk, status_of, last_line, of_store, refusal_words};
 ghost use Rattle.hose_offline.specs.steps.Fault.{of_certificate, of_json, of_proof, of_shipping, of_topology};
+ghost use Rattle.hose_offline.specs.steps.LastLine.{EndsDone};
 
 use crate::notation::Refusal;
 use hose_cert::{CertFault, ProveFault};
@@ -282,9 +281,7 @@ fn add_digest<O: Sink>(gather: &mut Gather, output: &mut O, digest: &[u8; 32])
 
 /// The status of what was done, after its last line, if it has one.
 pub fn end<O: Sink>(done: Result<(), Fault>, output: &mut O) -> u8
-    ensures status { result ≡ status_of_done done }
-    ensures last_line { IsLastLine O.Sink output.old output.new done }
-    ensures output { Stays (O.frame output.old) (O.frame output.new) }
+    ensures { EndsDone O.Sink output.old output.new done result }
 {
     match done {
         Ok(()) => 0,

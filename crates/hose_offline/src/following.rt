@@ -1,14 +1,9 @@
 // Following: packets of an input, answered by the book of a journal.
-ghost use Rattle.std.specs.Prelude.{◌≡◌, ◌≢◌, List, None};
-ghost use Rattle.hose_graph.specs.Network.{Network};
-ghost use Rattle.hose_law.specs.History.{IsSoundAt};
-ghost use Rattle.hose_store.specs.steps.Store.{KeptStore};
-ghost use Rattle.hose_follow.specs.Packet.{Packet};
+ghost use Rattle.std.specs.Prelude.{◌≡◌, ◌≢◌, None};
 ghost use Rattle.hose_offline.specs.Auditing.{priced_names};
 ghost use Rattle.hose_offline.specs.FollowOutcome.{FollowOutcome};
-ghost use Rattle.hose_offline.specs.Following.{IsBrought, following_done};
+ghost use Rattle.hose_offline.specs.Following.{following_done};
 ghost use Rattle.hose_offline.specs.steps.Following.{FollowsJournal};
-ghost use Rattle.hose_offline.specs.steps.Journal.{IsJustOpened};
 ghost use Rattle.hose_offline.specs.Parts.{tellings};
 ghost use Rattle.hose_offline.specs.steps.Parts.{KeepsAll, held};
 
@@ -16,7 +11,7 @@ use crate::auditing::{Names, read_topology};
 use crate::fault::{Fault, end};
 use crate::journal::{close_journal, first_fault, open_journal};
 use crate::outside::Outside;
-use hose_disk::{Cabinet, Disk};
+use hose_disk::Cabinet;
 use hose_follow::{FollowEnd, Sound};
 use hose_graph::Topology;
 use hose_io::{Sink, Source};
@@ -66,20 +61,11 @@ fn follow_journal<I: Source, O: Sink, C: Cabinet>(
     ensures keeps { KeepsAll (tellings I.Source O.Sink C.Cabinet C.Disk.Disk)
         outside.old outside.new }
 {
-    // What is told of entries of packets comes from the law.
-    law_brought::<C::Disk>();
     let mut store = open_journal::<C, Sound>(alloc, name, topology, outside.cabinet)?;
     let ended = hose_follow::follow(alloc, outside.input, outside.output, &mut store);
     let closed = close_journal(store, outside.cabinet);
     first_fault(done_of_end(ended), closed.0)
 }
-
-// A store that was just opened for sound entries is so for entries that packets bring.
-fn law_brought<D: Disk>()
-    ensures { (packets : List Packet) → (old : D) → (network : Network) → (store : KeptStore D) →
-        IsJustOpened D.Disk IsSoundAt old network store →
-        IsJustOpened D.Disk (IsBrought packets) old network store }
-{}
 
 // What ended following, as a fault of the program.
 fn done_of_end(ended: FollowEnd) -> Result<(), Fault>

@@ -1,12 +1,12 @@
 // A generated network and its script, answered in memory and summed up.
 ghost use Rattle.std.specs.Prelude.{◌≡◌, ◌≢◌, ◌↔◌, ◌+◌, ◌<◌, ◌^◌, ℕ, [], IfErr, IfOk, IsTrue, OnOk};
 ghost use Rattle.std.specs.List.{All};
-ghost use Rattle.hose_io.specs.Frame.{Stays};
 ghost use Rattle.hose_graph.specs.steps.Naming.{AsksOf};
 ghost use Rattle.hose_law.specs.Quotes.{nothing_held};
 ghost use Rattle.hose_law.specs.Script.{IsForMemory};
 ghost use Rattle.hose_law.specs.Script.ReadLine.{Asks};
 ghost use Rattle.hose_core.specs.steps.Stepping.{FitsHistory};
+ghost use Rattle.hose_offline.specs.steps.Ending.{Wrote};
 ghost use Rattle.hose_offline.specs.GenOutcome.{GenOutcome};
 ghost use Rattle.hose_offline.specs.steps.GenOutcome.{GenLeaves};
 ghost use Rattle.hose_offline.specs.steps.Generating.{AreSizes, HaveBeenAnswered, IsTallyOf};
@@ -57,8 +57,8 @@ pub fn run_generated<I: Source, O: Sink, C: Cabinet>(
 // What that comes to, before its last line.
 fn sum_up<O: Sink>(alloc: Global, sizes: Sizes, output: &mut O) -> Result<(), Fault>
     requires { AreSizes sizes.nodes sizes.links sizes.hoses }
-    ensures leaves { GenLeaves sizes O.Sink output.old output.new result }
-    ensures output { Stays (O.frame output.old) (O.frame output.new) }
+    ensures { Wrote O.Sink output.old output.new
+        (GenLeaves sizes O.Sink output.old output.new result) }
 {
     let made = generate(alloc, sizes.seed, sizes.nodes, sizes.links, sizes.hoses)?;
     // That this is a network is told by the call that counts its nodes.

@@ -1,8 +1,6 @@
 // The journal of a name in a cabinet: how its store is opened and closed.
-ghost use Rattle.std.specs.Prelude.{◌≡◌, IfErr, IfOk, IsSome, Err, None, OnErr, OnOk, Some};
-ghost use Rattle.hose_io.specs.Frame.{Stays};
-ghost use Rattle.hose_disk.specs.Cabinet.{object_of};
-ghost use Rattle.hose_offline.specs.steps.Journal.{ClosesJournal, IsJustOpened, OpensJournal};
+ghost use Rattle.std.specs.Prelude.{◌≡◌, IfErr, IfOk, IsSome, Err, None};
+ghost use Rattle.hose_offline.specs.steps.Journal.{ClosesJournal, IsJustOpened, IsOpenCall, OpensJournal};
 ghost use Rattle.hose_offline.specs.ServingOnDisk.{IsNotServed, first_of};
 ghost use Rattle.hose_offline.specs.steps.ServingOnDisk.{IsNotOpened};
 
@@ -11,7 +9,7 @@ use hose_book::Book;
 use hose_disk::{Cabinet, Disk};
 use hose_graph::Topology;
 use hose_io::Failed;
-use hose_store::{Premises, Store, law_one_meaning};
+use hose_store::{Premises, Store};
 use std::alloc::Global;
 
 /// Takes the disk of a name out of the cabinet and opens the store on it; where none is opened, the
@@ -27,10 +25,7 @@ pub fn open_journal<C: Cabinet, P: Premises>(
         cabinet.old cabinet.new topology) }
     ensures refused { IfErr result (λ why. IsNotServed C.Cabinet C.Disk.Disk name.now
         cabinet.old cabinet.new topology (Err why)) }
-    ensures out { OnOk result ((C.frame cabinet.new).out ≡ Some name.now) }
-    ensures back { OnErr result ((C.frame cabinet.new).out ≡ None) }
-    ensures absent { (C.frame cabinet.new).absent ≡ (C.frame cabinet.old).absent }
-    ensures cabinet { Stays (object_of (C.frame cabinet.old)) (object_of (C.frame cabinet.new)) }
+    ensures call { IsOpenCall name.now (C.frame cabinet.old) (C.frame cabinet.new) result }
 {
     let Ok(disk) = cabinet.disk(name) else {
         return Err(Fault::Cabinet);
@@ -53,9 +48,6 @@ pub fn close_journal<C: Cabinet>(
     requires { IsSome (C.frame cabinet.old).out }
     ensures closes { ClosesJournal C.Cabinet C.Disk.Disk cabinet.old cabinet.new store result.0 }
     ensures book { result.1 ≡ store.ledger }
-    ensures back { (C.frame cabinet.new).out ≡ None }
-    ensures absent { (C.frame cabinet.new).absent ≡ (C.frame cabinet.old).absent }
-    ensures cabinet { Stays (object_of (C.frame cabinet.old)) (object_of (C.frame cabinet.new)) }
 {
     let (closing, disk, book) = store.close();
     cabinet.back(disk);
@@ -74,8 +66,6 @@ pub fn open_store<D: Disk, P: Premises>(
     ensures refused { IfErr result (λ refused.
         IsNotOpened D.Disk disk refused.1 topology (Err refused.0)) }
 {
-    // What is known of each image of the disk comes from the law.
-    law_one_meaning(&topology);
     match Store::open(alloc, disk, topology) {
         Ok(store) => Ok(store),
         Err(refused) => Err((Fault::from(refused.0), refused.1)),

@@ -1,8 +1,8 @@
 // How a move ends: why it ended early, or what it brought, and how both are told.
 ghost use Rattle.std.specs.Prelude.{◌≡◌, ◌++◌, ◌<◌, Ok, codes, length};
-ghost use Rattle.hose_io.specs.Frame.{Stays};
 ghost use Rattle.hose_io.specs.steps.Gather.{IsAdded};
 ghost use Rattle.hose_io.specs.steps.Writing.{IsPut};
+ghost use Rattle.hose_offline.specs.steps.Ending.{Wrote};
 ghost use Rattle.hose_offline.specs.Fault.{last_line};
 ghost use Rattle.hose_offline.specs.MoveEnd.{EndsMoved, change_line, moved_done, moved_line, number_line, number_lines, stop_line, stop_status};
 ghost use Rattle.hose_offline.specs.declared.fault.Fault.TheVariants.{Write};
@@ -138,8 +138,8 @@ fn add_number_line<O: Sink>(gather: &mut Gather, output: &mut O, numbers: &[u64]
 
 /// The status of a move, after its last line.
 pub fn end_move<O: Sink>(moved: Result<Moved, MoveStop>, output: &mut O) -> u8
-    ensures ends { EndsMoved O.Sink output.old output.new result moved }
-    ensures output { Stays (O.frame output.old) (O.frame output.new) }
+    ensures { Wrote O.Sink output.old output.new
+        (EndsMoved O.Sink output.old output.new result moved) }
 {
     match moved {
         Ok(moved) => end_whole(moved, output),
@@ -153,8 +153,8 @@ pub fn end_move<O: Sink>(moved: Result<Moved, MoveStop>, output: &mut O) -> u8
 
 // The status of a move that came to its end, after its last line.
 fn end_whole<O: Sink>(moved: Moved, output: &mut O) -> u8
-    ensures ends { EndsMoved O.Sink output.old output.new result (Ok moved) }
-    ensures output { Stays (O.frame output.old) (O.frame output.new) }
+    ensures { Wrote O.Sink output.old output.new
+        (EndsMoved O.Sink output.old output.new result (Ok moved)) }
 {
     match put_moved(output, moved) {
         Ok(()) => 0,

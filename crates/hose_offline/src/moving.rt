@@ -1,11 +1,10 @@
 // Moving: what a journal of one network holds, written into a journal of another one.
 ghost use Rattle.std.specs.Prelude.{◌≡◌, ◌≢◌, All, IfOk, None};
 ghost use Rattle.hose_graph.specs.steps.Ranges.{IsInRanges};
-ghost use Rattle.hose_io.specs.Frame.{Stays};
-ghost use Rattle.hose_disk.specs.Cabinet.{object_of};
+ghost use Rattle.hose_offline.specs.steps.Journal.{IsBack};
 ghost use Rattle.hose_offline.specs.MoveOutcome.{MoveOutcome};
-ghost use Rattle.hose_offline.specs.Moving.{Enters, MovesFrom, MovesNew, MovesOn, MovesStated, ReadsOld, ReadsThere, read_done, scope_of};
-ghost use Rattle.hose_offline.specs.steps.Moving.{names_of};
+ghost use Rattle.hose_offline.specs.Moving.{Enters, LendsDisk, LendsOld, MovesFrom, MovesOn, MovesStated, read_done, scope_of, to_move, to_read};
+ghost use Rattle.hose_offline.specs.steps.Moving.{journals_of, names_of};
 ghost use Rattle.hose_offline.specs.Parts.{tellings};
 ghost use Rattle.hose_offline.specs.steps.Parts.{KeepsAll, held};
 
@@ -16,8 +15,8 @@ use crate::outside::Outside;
 use hose_disk::Cabinet;
 use hose_graph::{Entry, Topology};
 use hose_io::{Sink, Source};
-use hose_move::{Scope, Stated, first_change, law_complete, move_into, read_journal};
-use hose_store::{StoreFault, law_one_meaning};
+use hose_move::{Scope, Stated, first_change, move_into, read_journal};
+use hose_store::StoreFault;
 use hose_tariff::Prices;
 use std::alloc::Global;
 
@@ -49,8 +48,6 @@ pub fn move_journal<P: Prices, I: Source, O: Sink, C: Cabinet>(
 {
     match read_topology(alloc, costs, of.from.topology, outside.cabinet) {
         Ok(old) => {
-            // That the journal stands for one history comes from the law.
-            law_one_meaning(&old);
             let moved = move_from(alloc, costs, of, &old, outside);
             end_move(moved, outside.output)
         }
@@ -91,8 +88,7 @@ fn move_on<I: Source, O: Sink, C: Cabinet>(
 ) -> Result<Moved, MoveStop>
     requires { (C.frame (held outside.old).cabinet).out ≡ None }
     ensures moves { MovesOn (tellings I.Source O.Sink C.Cabinet C.Disk.Disk)
-        of.entry.from.journal.now of.entry.to.journal.now (scope_of of.entry.live)
-        (held outside.old) (held outside.new) old.now new.now result }
+        (journals_of of.entry) (held outside.old) (held outside.new) old.now new.now result }
     ensures input { (held outside.new).input ≡ (held outside.old).input }
     ensures back { (C.frame (held outside.new).cabinet).out ≡ None }
     ensures keeps { KeepsAll (tellings I.Source O.Sink C.Cabinet C.Disk.Disk)
@@ -114,8 +110,7 @@ fn move_stated<I: Source, O: Sink, C: Cabinet>(
 ) -> Result<Moved, MoveStop>
     requires { (C.frame (held outside.old).cabinet).out ≡ None }
     ensures moves { MovesStated (tellings I.Source O.Sink C.Cabinet C.Disk.Disk)
-        of.entry.from.journal.now of.entry.to.journal.now (scope_of of.entry.live)
-        (held outside.old) (held outside.new) old.now new.now result }
+        (journals_of of.entry) (held outside.old) (held outside.new) old.now new.now result }
     ensures input { (held outside.new).input ≡ (held outside.old).input }
     ensures back { (C.frame (held outside.new).cabinet).out ≡ None }
     ensures keeps { KeepsAll (tellings I.Source O.Sink C.Cabinet C.Disk.Disk)
@@ -161,11 +156,10 @@ fn read_old<C: Cabinet>(
     cabinet: &mut C,
 ) -> Result<Stated, Fault>
     requires { (C.frame cabinet.old).out ≡ None }
-    ensures reads { ReadsOld C.Cabinet C.Disk.Disk name.now (scope_of live)
-        cabinet.old cabinet.new old.now result }
+    ensures reads { LendsOld C.Cabinet C.Disk.Disk name.now cabinet.old cabinet.new
+        (to_read C.Disk.Disk old.now (scope_of live)) result }
     ensures ranges { IfOk result (λ stated. All IsInRanges stated.entries.items) }
-    ensures back { (C.frame cabinet.new).out ≡ None }
-    ensures cabinet { Stays (object_of (C.frame cabinet.old)) (object_of (C.frame cabinet.new)) }
+    ensures back { IsBack (C.frame cabinet.old) (C.frame cabinet.new) }
 {
     // To take out the disk of a name that is not there would make one.
     let Ok(_) = cabinet.text(name, 0, &mut [0]) else {
@@ -183,11 +177,10 @@ fn read_there<C: Cabinet>(
     cabinet: &mut C,
 ) -> Result<Stated, Fault>
     requires { (C.frame cabinet.old).out ≡ None }
-    ensures reads { ReadsThere C.Cabinet C.Disk.Disk name.now (scope_of live)
-        cabinet.old cabinet.new old.now result }
+    ensures reads { LendsDisk C.Cabinet C.Disk.Disk name.now cabinet.old cabinet.new
+        (to_read C.Disk.Disk old.now (scope_of live)) result }
     ensures ranges { IfOk result (λ stated. All IsInRanges stated.entries.items) }
-    ensures back { (C.frame cabinet.new).out ≡ None }
-    ensures cabinet { Stays (object_of (C.frame cabinet.old)) (object_of (C.frame cabinet.new)) }
+    ensures back { IsBack (C.frame cabinet.old) (C.frame cabinet.new) }
 {
     let Ok(disk) = cabinet.disk(name) else {
         return Err(Fault::Cabinet);
@@ -224,13 +217,10 @@ fn move_new<C: Cabinet>(
 ) -> Result<Moved, MoveStop>
     requires none_out { (C.frame cabinet.old).out ≡ None }
     requires ranges { All IsInRanges entries.now }
-    ensures moves { MovesNew C.Cabinet C.Disk.Disk name.now
-        cabinet.old cabinet.new new.now entries.now result }
-    ensures back { (C.frame cabinet.new).out ≡ None }
-    ensures cabinet { Stays (object_of (C.frame cabinet.old)) (object_of (C.frame cabinet.new)) }
+    ensures moves { LendsDisk C.Cabinet C.Disk.Disk name.now cabinet.old cabinet.new
+        (to_move C.Disk.Disk new.now entries.now) result }
+    ensures back { IsBack (C.frame cabinet.old) (C.frame cabinet.new) }
 {
-    // That nothing else ends a move comes from the law.
-    law_complete::<C::Disk>(new);
     let Ok(disk) = cabinet.disk(name) else {
         return Err(MoveStop::New(Fault::Cabinet));
     };

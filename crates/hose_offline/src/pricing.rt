@@ -1,18 +1,13 @@
 // Prices: the lines of a sheet of hoses, each priced under every tariff.
-ghost use Rattle.std.specs.Prelude.{◌≡◌, ◌≢◌, ◌↔◌, ◌+◌, ◌<◌, ◌≤◌, ℕ, List, Result, Err, length, map};
-ghost use Rattle.hose_io.specs.Frame.{Stays};
-ghost use Rattle.hose_io.specs.Stream.{Gives};
+ghost use Rattle.std.specs.Prelude.{◌≡◌, ◌≢◌, ◌≤◌, ℕ, List, length};
 ghost use Rattle.hose_words.specs.steps.Lines.{Shows};
 ghost use Rattle.hose_law.specs.steps.Plan.{AreNodes};
 ghost use Rattle.hose_offline.specs.Parts.{tellings};
 ghost use Rattle.hose_offline.specs.steps.Parts.{KeepsAll, held};
-ghost use Rattle.hose_offline.specs.PriceOutcome.{AnswersInput, IsSheetBy, PriceOutcome};
+ghost use Rattle.hose_offline.specs.PriceOutcome.{PriceOutcome, pricing_of};
 ghost use Rattle.hose_offline.specs.steps.PriceOutcome.{PricesInput};
 ghost use Rattle.hose_offline.specs.SheetLine.{AnswersSheet};
 ghost use Rattle.hose_offline.specs.steps.SheetLine.{PricesHose};
-ghost use Rattle.hose_offline.specs.Fault.{done_of_talk};
-ghost use Rattle.hose_talk.specs.declared.talking.TalkEnd.{TalkEnd};
-ghost use Rattle.hose_talk.specs.declared.talking.TalkFault.{TalkFault};
 
 use crate::auditing::read_topology;
 use crate::fault::{Fault, done_of_talk, end};
@@ -27,7 +22,7 @@ use hose_price::{MOST_TARIFFS, PriceSheet, TablesRows};
 use hose_proto::ReadFault;
 use hose_talk::{Answers, hold_talk};
 use hose_tariff::{OwnCosts, Prices, Tariff};
-use hose_words::{INPUT_LIMIT, Line};
+use hose_words::Line;
 use std::alloc::Global;
 
 /// Reads the topology of a text, answers each line of the input with the prices of its hose under
@@ -41,9 +36,8 @@ pub fn price<I: Source, O: Sink, C: Cabinet>(
     requires some { 1 ≤ length tariffs.now }
     requires few { length tariffs.now ≤ MOST_TARIFFS }
     ensures outcome { PriceOutcome (tellings I.Source O.Sink C.Cabinet C.Disk.Disk)
-        (IsSheetBy ⟦<Tariff as Prices>⟧.prices (λ tariff. tariff.base) (λ tariff. tariff.per)
-        tariffs.now)
-        (map (λ tariff. tariff.name) tariffs.now) topology.now
+        (pricing_of ⟦<Tariff as Prices>⟧.prices (λ tariff. tariff.name) (λ tariff. tariff.base)
+        (λ tariff. tariff.per) tariffs.now) topology.now
         (held outside.old) (held outside.new) result }
     ensures not_words { result ≢ 1 }
     ensures out { (C.frame outside.new.cabinet.now).out ≡ (C.frame outside.old.cabinet.now).out }
@@ -70,9 +64,8 @@ fn price_input<I: Source, O: Sink, C: Cabinet>(
     requires some { 1 ≤ length tariffs.now }
     requires few { length tariffs.now ≤ MOST_TARIFFS }
     ensures prices { PricesInput (tellings I.Source O.Sink C.Cabinet C.Disk.Disk)
-        (IsSheetBy ⟦<Tariff as Prices>⟧.prices (λ tariff. tariff.base) (λ tariff. tariff.per)
-        tariffs.now)
-        (map (λ tariff. tariff.name) tariffs.now) (held outside.old) (held outside.new)
+        (pricing_of ⟦<Tariff as Prices>⟧.prices (λ tariff. tariff.name) (λ tariff. tariff.base)
+        (λ tariff. tariff.per) tariffs.now) (held outside.old) (held outside.new)
         top.now result }
     ensures cabinet { outside.new.cabinet ≡ outside.old.cabinet }
     ensures keeps { KeepsAll (tellings I.Source O.Sink C.Cabinet C.Disk.Disk)
@@ -86,7 +79,7 @@ fn price_input<I: Source, O: Sink, C: Cabinet>(
         sheet: &sheet,
         rows: TablesRows::new(&tables),
     };
-    price_by_sheet(&mut pricer, outside.input, outside.output)
+    done_of_talk(hold_talk(&mut pricer, outside.input, outside.output))
 }
 
 // Who prices the lines of a sheet: where it takes memory, the tariffs, the network by each of them,
@@ -139,24 +132,6 @@ impl<'a, R: RowMaker> Answers for Pricer<'a, R> {
     fn is_over(&self) -> bool {
         false
     }
-}
-
-// Answers the lines of the input by a sheet.
-fn price_by_sheet<I: Source, O: Sink, R: RowMaker>(
-    pricer: &mut Pricer<'_, R>,
-    input: &mut I,
-    output: &mut O,
-) -> Result<(), Fault>
-    ensures answers { (ended : Result TalkEnd TalkFault) × (result ≡ done_of_talk ended)
-        × AnswersInput I.Source O.Sink (map (λ tariff. tariff.name) pricer.old.tariffs.now)
-        pricer.old.sheet.now input.old input.new output.old output.new ended }
-    ensures takes { (bytes : List ℕ) × Gives (I.content input.old) (I.content input.new) bytes
-        × (length bytes ≤ INPUT_LIMIT + 1)
-        × ((result ≡ Err Fault.TooLong) ↔ (INPUT_LIMIT < length bytes)) }
-    ensures input { Stays (I.frame input.old) (I.frame input.new) }
-    ensures output { Stays (O.frame output.old) (O.frame output.new) }
-{
-    done_of_talk(hold_talk(pricer, input, output))
 }
 
 // The answer to a line.

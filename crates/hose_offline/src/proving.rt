@@ -1,11 +1,11 @@
 // A proof: the certificate of a hose's plan over all links of the topology of a text.
 ghost use Rattle.std.specs.Prelude.{◌≡◌, ◌≤◌, ◌^◌, IfErr, IfOk, map};
 ghost use Rattle.std.specs.String.{string_bytes};
-ghost use Rattle.hose_io.specs.Frame.{Stays};
 ghost use Rattle.hose_graph.specs.Network.{IsNetwork};
 ghost use Rattle.hose_law.specs.steps.Plan.{AreNodes};
 ghost use Rattle.hose_proto.specs.Command.{AreEndsOf};
 ghost use Rattle.hose_proto.specs.EndWords.{AreEndWords};
+ghost use Rattle.hose_offline.specs.steps.Ending.{Wrote};
 ghost use Rattle.hose_offline.specs.Parts.{tellings};
 ghost use Rattle.hose_offline.specs.steps.Parts.{KeepsAll, held};
 ghost use Rattle.hose_offline.specs.ProveOutcome.{IsNoHose, ProveOutcome, ProvesWords, PutsProof, ends_from};
@@ -68,10 +68,9 @@ fn prove_words<O: Sink>(
 ) -> Result<(), Fault>
     requires ends { AreEndWords (map string_bytes ends.words.now) }
     requires first { ends.first ≤ 2 ^ 63 }
-    ensures proves { ProvesWords O.Sink
+    ensures { Wrote O.Sink output.old output.new (ProvesWords O.Sink
         (ends_from (map string_bytes ends.entry.words.now) ends.entry.first) top.now
-        output.old output.new result }
-    ensures output { Stays (O.frame output.old) (O.frame output.new) }
+        output.old output.new result) }
 {
     let hose = hose_of(alloc, top, ends)?;
     put_proof(alloc, top, &hose, output)
@@ -85,8 +84,8 @@ fn put_proof<O: Sink>(
     output: &mut O,
 ) -> Result<(), Fault>
     requires { AreNodes top.now hose.now }
-    ensures proves { PutsProof O.Sink output.old output.new top.now hose.now result }
-    ensures output { Stays (O.frame output.old) (O.frame output.new) }
+    ensures { Wrote O.Sink output.old output.new
+        (PutsProof O.Sink output.old output.new top.now hose.now result) }
 {
     if !put_certificate(alloc, output, top, hose, &mut HeapRows::new())? {
         write_all(output, b"none\n")?;

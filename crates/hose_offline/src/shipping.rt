@@ -14,7 +14,6 @@ use hose_disk::Cabinet;
 use hose_follow::ShipFault;
 use hose_graph::Topology;
 use hose_io::{Sink, Source};
-use hose_store::law_one_meaning;
 use hose_tariff::Prices;
 use std::alloc::Global;
 
@@ -66,8 +65,6 @@ fn ship_journal<I: Source, O: Sink, C: Cabinet>(
     ensures keeps { KeepsAll (tellings I.Source O.Sink C.Cabinet C.Disk.Disk)
         outside.old outside.new }
 {
-    // What is known of each image of the disk comes from the law.
-    law_one_meaning(top);
     let Ok(disk) = outside.cabinet.disk(name) else {
         return Err(Fault::Cabinet);
     };

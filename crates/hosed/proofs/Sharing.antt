@@ -8,12 +8,10 @@ use Rattle.hose_graph.specs.Network.{Network}
 use Rattle.hose_graph.specs.declared.entry.Entry.{Entry}
 use Rattle.hose_law.specs.History.{IsDecidedAt, IsSound}
 use Rattle.hose_book.specs.Ledger.{IsLedgerOf, Ledger}
-use Rattle.hose_disk.specs.steps.Disk.{IsCalled}
 use Rattle.hose_disk.specs.declared.disk.Disk.{Ghosts as DiskGhosts}
 use Rattle.hose_shared.specs.steps.Closing.{HasShared}
-use Rattle.hose_store.specs.Beginning.{Beginning, HasLeft}
+use Rattle.hose_store.specs.Beginning.{Beginning}
 use Rattle.hose_store.specs.steps.Beginning.{StandsFor}
-use Rattle.hose_store.specs.steps.Commit.{Closes}
 use Rattle.hose_store.specs.steps.Store.{KeptStore}
 use Rattle.hose_turn.specs.Faults.{end_of_count}
 use Rattle.hose_turn.specs.Known.{Known}
@@ -23,7 +21,7 @@ use Rattle.hose_offline.specs.steps.Journal.{IsJustOpened}
 use Rattle.hose_offline.specs.declared.fault.Fault.{Fault}
 use Rattle.hose_offline.specs.declared.fault.Fault.TheVariants.{Memory}
 use Rattle.hosed.specs.ServerDoor.{IsAnnounced, OutputDoor, ServerProgress, ServesBook, Speaks, StaysAsRead, from_to}
-use Rattle.hosed.specs.steps.ServerDoor.{IsKeptOn, IsOpening, OpensAt}
+use Rattle.hosed.specs.steps.ServerDoor.{IsClosedOn, IsKeptOn, IsOpening, OpensAt}
 use Rattle.hosed.specs.declared.server.ServerEnd.{ServerEnd}
 
 -- a history without a place after its beginning is that beginning
@@ -93,34 +91,32 @@ module _ {E : Type 0} (disk : DiskGhosts E) (was : E) (Had : List ℕ → Type 0
         (stands_had disk Had (disk.may_leave was) beginning since store (λ image one. (had image).0 one) opens.stands);
   }
 
-module _ {E : Type 0} (disk : DiskGhosts E) (was left : E) (network : Network) (closing : Result ⊤ Failed)
-    (law : (since history : List Entry) (store : KeptStore E) → StandsFor disk IsDecidedAt (disk.may_leave was) (opening_of disk network since was) history store → Closes disk store left closing
-    → HasLeft disk IsDecidedAt (disk.may_leave was) (opening_of disk network since was) history left closing) where
-  kept_from : (since history : List Entry) (first store : KeptStore E) → IsOpening disk was network since first → StandsFor disk IsDecidedAt (disk.may_leave was) (opening_of disk network since was) history store → Closes disk store left closing
-      → IsCalled (disk.frame store.journal.disk) (disk.frame left) closing → IsKeptOn disk was left (from_to network since history) closing
-  kept_from since history first store opening stands closes call = record {
+module _ {E : Type 0} (disk : DiskGhosts E) (was left : E) (network : Network) (closing : Result ⊤ Failed) where
+  kept_from : (since history : List Entry) (first store : KeptStore E) → IsOpening disk was network since first → StandsFor disk IsDecidedAt (disk.may_leave was) (opening_of disk network since was) history store → IsClosedOn disk store left closing
+      → IsKeptOn disk was left (from_to network since history) closing
+  kept_from since history first store opening stands closed = record {
     read = opening.read;
     begins = stands.since;
     decided = record { sound = subst (λ (n : Network). IsSound n 0 history) stands.network stands.has.sound; decided = stands.added };
-    told = call.told;
-    leaves = law since history store stands closes;
+    told = closed.call.told;
+    leaves = closed.leaves was (opening_of disk network since was) history stands;
   }
 
   -- a store that was opened and closed
-  pub closed_at_once : (since : List Entry) (store : KeptStore E) → IsOpening disk was network since store → Closes disk store left closing → IsCalled (disk.frame store.journal.disk) (disk.frame left) closing → StaysAsRead network (IsKeptOn disk was left)
-  closed_at_once since store opening closes call = record { since = since; closing = closing; kept = kept_from since since store store opening opening.stands closes call }
+  pub closed_at_once : (since : List Entry) (store : KeptStore E) → IsOpening disk was network since store → IsClosedOn disk store left closing → StaysAsRead network (IsKeptOn disk was left)
+  closed_at_once since store opening closed = record { since = since; closing = closing; kept = kept_from since since store store opening opening.stands closed }
 
   -- a store that was shared between
   module _ (Begins : List Entry → KeptStore E → Type 0) (named : (since : List Entry) (store : KeptStore E) → Begins since store → IsOpening disk was network since store) (pass : Known) (first store : KeptStore E)
       (of : pass.origin.network ≡ network) (began : Begins pass.origin.since first) (shared : HasShared disk Begins pass store)
       (met : (pass.faults ≤ (disk.frame store.journal.disk).faults) ⊎ (end_of_count ≤ (disk.frame store.journal.disk).faults))
-      (closes : Closes disk store left closing) (call : IsCalled (disk.frame store.journal.disk) (disk.frame left) closing) where
+      (closed : IsClosedOn disk store left closing) where
     abbrev since : List Entry
     since = pass.origin.since
 
     kept : IsKeptOn disk was left (from_to network since shared.history) closing
     kept = kept_from since shared.history first store (named since first began)
-        (shared.stands (opening_of disk network since was) was refl (sym of) (λ one begins. (named since one begins).stands)) closes call
+        (shared.stands (opening_of disk network since was) was refl (sym of) (λ one begins. (named since one begins).stands)) closed
 
     -- nothing was made along the pass
     pub stays_shared : pass.own ≡ [] → StaysAsRead network (IsKeptOn disk was left)
@@ -144,7 +140,7 @@ module _ {E : Type 0} (disk : DiskGhosts E) (was left : E) (network : Network) (
         began = refl;
         seen = shared.whole.seen;
         own = shared.whole.own;
-        met = ⊎_elim (λ few. inl (omega (arith, few, call.met.stays.never_falls))) (λ most. inr (omega (arith, most, call.met.stays.never_falls))) met;
+        met = ⊎_elim (λ few. inl (omega (arith, few, closed.call.met.stays.never_falls))) (λ most. inr (omega (arith, most, closed.call.met.stays.never_falls))) met;
       };
       served = served;
       is = subst (IsLedgerOf network 0 shared.history) is

@@ -20,12 +20,12 @@ pub record HosedOutcome {I O C E : Type 0} (tells : Tellings I O C E) (offer : O
   pub offline : ¬ AsksToServe words
       → OfflineOutcome tells offer before.others after.others status words
       × (after.door ≡ before.door)
-  pub words_at_1 : AsksToServe words → (status ≡ 1) ↔ AreWrongWords offer.names words
+  pub words_at_1 : AsksToServe words → (status ≡ 1) ↔ AreWrongWords offer.pricing.names words
   pub wrong_words : AsksToServe words → status ≡ 1
       → (after.others.input ≡ before.others.input)
       × (after.others.cabinet ≡ before.others.cabinet) × (after.door ≡ before.door)
-      × ((word : ℕ) × IsFirstWrong offer.names words word
+      × ((word : ℕ) × IsFirstWrong offer.pricing.names words word
       × IsOut tells.sink before.others.output after.others.output (last_line (Words word)))
-  pub serves : (task : Task serve) → AreWords offer.names words serve task
+  pub serves : (task : Task serve) → AreWords offer.pricing.names words serve task
       → ServeOutcome tells (priced_names (offer.prices task.tariff) task.topology task.journal)
       (record { port = task.port; connections = task.connections }) before after status

@@ -1,7 +1,6 @@
 -- What the program's words come to, for every command that waits for nobody.
-use Rattle.std.specs.Prelude.{◌≡◌, ◌↔◌, ℕ, List, Option, map, ⊤}
+use Rattle.std.specs.Prelude.{◌≡◌, ◌↔◌, ℕ, List, Option, ⊤}
 use Rattle.hose_graph.specs.Network.{Network}
-use Rattle.hose_price.specs.Sheet.{Sheet}
 use Rattle.hose_offline.specs.AuditOutcome.{AuditOutcome}
 use Rattle.hose_offline.specs.Auditing.{priced_names}
 use Rattle.hose_offline.specs.CheckOutcome.{CheckOutcome}
@@ -12,7 +11,7 @@ use Rattle.hose_offline.specs.GenOutcome.{GenOutcome}
 use Rattle.hose_offline.specs.MoveOutcome.{MoveOutcome}
 use Rattle.hose_offline.specs.Moving.{MoveNames, scope_of}
 use Rattle.hose_offline.specs.Parts.{Parts, Tellings}
-use Rattle.hose_offline.specs.PriceOutcome.{IsSheetBy, PriceOutcome}
+use Rattle.hose_offline.specs.PriceOutcome.{PriceOutcome, Pricing, pricing_of}
 use Rattle.hose_offline.specs.ProveOutcome.{ProveOutcome, ends_from}
 use Rattle.hose_offline.specs.RunOutcome.{RunOutcome}
 use Rattle.hose_offline.specs.ShipOutcome.{ShipOutcome}
@@ -22,31 +21,31 @@ use Rattle.hosed.specs.ProgramWords.Verb.{audit, check, follow, generate, move, 
 
 -- ---- the program's tariffs
 
--- the names of the tariffs, what one that is chosen, or none, makes of a network, and the sheets
--- that are made of a network under all of them
+-- what a tariff that is chosen, or none, makes of a network, and how hoses are priced under all of
+-- them
 pub record Offer : Type 1 where
-  pub names : List (List ℕ)
   pub prices : Option ℕ → Network → Network → Type 0
-  pub makes : Network → Sheet → Type 0
+  pub pricing : Pricing
 
 -- that of tariffs with such prices, names and bounds
 abbrev pub offer_of : {T : Type 0} → (T → Network → Network → Type 0) → (T → List ℕ) → (T → ℕ)
     → (T → ℕ) → List T → Offer
 offer_of prices name base per tariffs = record {
-  names = map name tariffs;
   prices = costs_at prices tariffs;
-  makes = IsSheetBy prices base per tariffs;
+  pricing = pricing_of prices name base per tariffs;
 }
 
 -- what a move names, at such prices
 abbrev pub moved_by : (Network → Network → Type 0) → MoveTask → MoveNames
 moved_by prices task = record {
   prices = prices;
-  scope = scope_of task.live;
+  journals = record {
+    scope = scope_of task.live;
+    old = task.journal;
+    new = task.new_journal;
+  };
   topology = task.topology;
-  journal = task.journal;
   new_topology = task.new_topology;
-  new_journal = task.new_journal;
 }
 
 -- ---- what comes of a command
@@ -64,7 +63,7 @@ module _ {I O C E : Type 0} (tells : Tellings I O C E) (offer : Offer)
   Does prove task = ProveOutcome tells (offer.prices task.tariff) task.topology
       (ends_from task.ends (first_end task.tariff)) before after status
   Does check task = CheckOutcome tells (offer.prices task.tariff) task.topology before after status
-  Does price task = PriceOutcome tells offer.makes offer.names task.topology before after status
+  Does price task = PriceOutcome tells offer.pricing task.topology before after status
   Does ship task = ShipOutcome tells (priced_names (offer.prices task.tariff) task.topology
       task.journal) task.from before after status
   Does follow task = FollowOutcome tells (priced_names (offer.prices task.tariff) task.topology
@@ -77,10 +76,11 @@ module _ {I O C E : Type 0} (tells : Tellings I O C E) (offer : Offer)
   -- the last line tells the first of them that is not allowed. Other words do what their command
   -- says. Of the other commands `prove` alone can end with the status 1, and says itself where.
   pub record OfflineOutcome (words : List (List ℕ)) : Type 0 where
-    pub words_at_1 : ((task : Task prove) → ¬ AreWords offer.names words prove task)
-        → (status ≡ 1) ↔ AreWrongWords offer.names words
-    pub wrong_words : AreWrongWords offer.names words → (after.input ≡ before.input)
-        × (after.cabinet ≡ before.cabinet) × ((word : ℕ) × IsFirstWrong offer.names words word
+    pub words_at_1 : ((task : Task prove) → ¬ AreWords offer.pricing.names words prove task)
+        → (status ≡ 1) ↔ AreWrongWords offer.pricing.names words
+    pub wrong_words : AreWrongWords offer.pricing.names words → (after.input ≡ before.input)
+        × (after.cabinet ≡ before.cabinet)
+        × ((word : ℕ) × IsFirstWrong offer.pricing.names words word
         × IsOut tells.sink before.output after.output (last_line (Words word)))
-    pub does : (verb : Verb) (task : Task verb) → AreWords offer.names words verb task
+    pub does : (verb : Verb) (task : Task verb) → AreWords offer.pricing.names words verb task
         → Does verb task

@@ -1,16 +1,18 @@
 // Connections that are served: a door, a crew, and the book of a journal that they share.
-ghost use Rattle.std.specs.Prelude.{◌≡◌, ◌≢◌, ◌↔◌, ◌≤◌, ℕ, Err, IfOk, List, [], None, Option, Some};
+ghost use Rattle.std.specs.Prelude.{◌≡◌, ◌≢◌, ◌↔◌, ◌≤◌, ℕ, Err, IfOk, List, [], None, Option, Result, Some, ⊤};
+ghost use Rattle.hose_io.specs.declared.Failed.{Failed};
 ghost use Rattle.hose_io.specs.steps.Connections.{AreAccounted};
 ghost use Rattle.hose_io.specs.Frame.{Stays};
 ghost use Rattle.hose_graph.specs.Network.{Network};
 ghost use Rattle.hose_law.specs.History.{IsDecidedAt};
 ghost use Rattle.hose_offline.specs.Auditing.{priced_names};
+ghost use Rattle.hose_offline.specs.steps.Ending.{Wrote};
 ghost use Rattle.hose_offline.specs.steps.Journal.{IsJustOpened};
 ghost use Rattle.hose_offline.specs.Parts.{tellings};
 ghost use Rattle.hose_offline.specs.steps.Parts.{KeepsAll};
 ghost use Rattle.hosed.specs.ServeOutcome.{EndsServed, ServeOutcome, first_failed};
 ghost use Rattle.hosed.specs.ServerDoor.{IsAnnounced, IsServedAlong, Speaks, output_door, seen_of};
-ghost use Rattle.hosed.specs.steps.ServerDoor.{IsClosedOn, ServesByStore, ServesConnections, door_beside, door_task};
+ghost use Rattle.hosed.specs.steps.ServerDoor.{BothStay, IsClosedOn, ServesByStore, ServesConnections, door_beside, door_task};
 
 use crate::words::ServeRequest;
 use hose_book::{Book, Books};
@@ -22,7 +24,7 @@ use hose_offline::{Fault, Outside, end, open_store, read_topology, tell};
 use hose_paths::RowTable;
 use hose_pool::{Gate, MOST_WORKERS, table_of_all};
 use hose_shared::{Begun, Shared};
-use hose_store::{Decided, Store, law_closed};
+use hose_store::{Decided, Store};
 use hose_tariff::Prices;
 use std::alloc::{AllocError, Global};
 use std::marker::{Brand, PhantomData};
@@ -112,8 +114,8 @@ fn announce<O: Sink, L: Door>(door: &mut L, port: u16, output: &mut O) -> Result
     ensures frame { IfOk result (λ _. L.frame door.new ≡ L.frame door.old) }
     ensures port { IfOk result (λ _. L.opened_at door.new ≡ Some port) }
     ensures accounted { AreAccounted (L.told door.new) }
-    ensures output { Stays (O.frame output.old) (O.frame output.new) }
-    ensures door { Stays (L.frame door.old) (L.frame door.new) }
+    ensures stay { BothStay (O.frame output.old) (O.frame output.new)
+        (L.frame door.old) (L.frame door.new) }
 {
     let Ok(()) = door.open(port) else {
         return Err(Fault::Door);
@@ -124,13 +126,21 @@ fn announce<O: Sink, L: Door>(door: &mut L, port: u16, output: &mut O) -> Result
     Ok(())
 }
 
+// Closes a store, and hands back its disk and its book.
+fn close_store<D: Disk>(store: Store<D>) -> (Result<(), Failed>, D, Book)
+    ensures closed { IsClosedOn D.Disk store result.1 result.0 }
+    ensures book { result.2 ≡ store.ledger }
+{
+    store.close()
+}
+
 // Closes a store by which no connection was served, and says why none was.
 fn give_up<D: Disk, L>(store: Store<D>, why: Fault, door: L) -> ServedDoor<D, L>
     ensures came { result.came ≡ Err why }
     ensures door { result.door ≡ door }
-    ensures closes { IsClosedOn D.Disk store result.disk }
+    ensures closed { (closing : Result ⊤ Failed) × IsClosedOn D.Disk store result.disk closing }
 {
-    let (_, disk, _) = store.close();
+    let (_, disk, _) = close_store(store);
     ServedDoor {
         came: Err(why),
         disk,
@@ -179,10 +189,9 @@ fn serve_store<
         (output_door output.new
         (seen_of (L.frame result.door) (L.told result.door) (L.opened_at result.door)))
         result.came }
-    ensures output { Stays (O.frame output.old) (O.frame output.new) }
-    ensures door { Stays (L.frame door) (L.frame result.door) }
+    ensures stay { BothStay (O.frame output.old) (O.frame output.new)
+        (L.frame door) (L.frame result.door) }
 {
-    law_closed::<D, Decided>();
     // What the disk was is there for the clauses alone.
     let OpenedStore {
         store,
@@ -211,7 +220,7 @@ fn serve_store<
         pass,
         door,
     } = crew.serve(work, pass, door, blank);
-    let (closing, disk, book) = shared.close(pass).close();
+    let (closing, disk, book) = close_store(shared.close(pass));
     let came = Ok(ServerEnd {
         book,
         accepting,
@@ -340,8 +349,8 @@ pub fn serve<
 
 // Writes what is left to write once connections were served, or not, and gives the exit status.
 fn tell_served<O: Sink>(came: Result<ServerEnd, Fault>, output: &mut O) -> u8
-    ensures ends { EndsServed O.Sink output.old output.new result came }
-    ensures output { Stays (O.frame output.old) (O.frame output.new) }
+    ensures { Wrote O.Sink output.old output.new
+        (EndsServed O.Sink output.old output.new result came) }
 {
     match came {
         Ok(

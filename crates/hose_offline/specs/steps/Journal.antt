@@ -1,11 +1,13 @@
 -- A journal's disk, which is taken out of a cabinet and put back, and the store on it between:
 -- steps of proofs.
-use Rattle.std.specs.Prelude.{ℕ, List, Result, ⊤}
+use Rattle.std.specs.Prelude.{◌≡◌, ℕ, ◌≤◌, List, None, Some, OnErr, OnOk, Result, ⊤}
+use Rattle.hose_io.specs.Frame.{Stays}
 use Rattle.hose_io.specs.declared.Failed.{Failed}
 use Rattle.hose_graph.specs.Network.{Network}
 use Rattle.hose_graph.specs.declared.entry.Entry.{Entry}
 use Rattle.hose_law.specs.History.{EntryKind}
 use Rattle.hose_book.specs.steps.GoingOn.{GoesOn}
+use Rattle.hose_disk.specs.Cabinet.{CabinetFrame, object_of}
 use Rattle.hose_disk.specs.steps.Disk.{IsCalled}
 use Rattle.hose_disk.specs.declared.cabinet.Cabinet.{Ghosts as CabinetGhosts}
 use Rattle.hose_disk.specs.declared.disk.Disk.{Ghosts as DiskGhosts}
@@ -17,9 +19,20 @@ use Rattle.hose_store.specs.Opening.{IsAtOpening}
 use Rattle.hose_store.specs.steps.Opening.{IsOpenedOn}
 use Rattle.hose_store.specs.steps.Store.{KeptStore}
 use Rattle.hose_offline.specs.OnDisk.{opening_of}
+use Rattle.hose_offline.specs.declared.fault.Fault.{Fault}
 use Rattle.hose_offline.specs.Journal.{IsLeftWith, IsPutIn, IsTakenOut}
 
 -- ---- the store on a disk
+
+-- What holds of a disk at each moment: what a stop may leave now is what a stop since now may
+-- leave, and a disk that does not tell leaves nothing.
+pub record IsLawful {E : Type 0} (disk : DiskGhosts E) : Type 0 where
+  pub counts_now : (at : E) (t : ℕ) (image : List ℕ) → t ≤ disk.moment at
+      → disk.may_leave at image → disk.left_since at t image
+  pub only_now : (at : E) (image : List ℕ) → disk.left_since at (disk.moment at) image
+      → disk.may_leave at image
+  pub untold : (at : E) (t : ℕ) (image : List ℕ) → disk.content at ≡ None
+      → disk.left_since at t image → ⊥
 
 -- A store was just opened on the disk, of which no call failed, and stands for the history for
 -- which the disk stood as it was read. However it is closed, the disk is left with that history
@@ -27,6 +40,7 @@ use Rattle.hose_offline.specs.Journal.{IsLeftWith, IsPutIn, IsTakenOut}
 -- says.
 pub record IsJustOpened {E : Type 0} (disk : DiskGhosts E) (Kind : EntryKind) (old : E)
     (network : Network) (store : KeptStore E) : Type 0 where
+  pub lawful : IsLawful disk
   pub opened : IsOpenedOn disk old network store
   pub images : LeavesOnly disk old store.journal.disk (IsAtOpening disk old network)
   pub count : KeepsCount disk old store.journal.disk
@@ -41,6 +55,20 @@ pub record IsJustOpened {E : Type 0} (disk : DiskGhosts E) (Kind : EntryKind) (o
       left closing
 
 -- ---- the disk in a cabinet
+
+-- No disk is out of the cabinet, and it is the cabinet that it was.
+pub record IsBack (before after : CabinetFrame) : Type 0 where
+  pub none_out : after.out ≡ None
+  pub stays : Stays (object_of before) (object_of after)
+
+-- What opening a journal leaves of the cabinet: its disk is out, or where none was opened no disk
+-- is. No text was asked for, and it is the cabinet that it was.
+pub record IsOpenCall {T : Type 0} (name : List ℕ) (before after : CabinetFrame)
+    (result : Result T Fault) : Type 0 where
+  pub out : OnOk result (after.out ≡ Some name)
+  pub back : OnErr result (after.out ≡ None)
+  pub absent : after.absent ≡ before.absent
+  pub stays : Stays (object_of before) (object_of after)
 
 module _ {C E : Type 0} (cabinet : CabinetGhosts C E) (disk : DiskGhosts E) where
   -- The disk of a name was taken out, and the store was opened on it.
@@ -57,3 +85,5 @@ module _ {C E : Type 0} (cabinet : CabinetGhosts C E) (disk : DiskGhosts E) wher
     pub closes : Closes disk store left closing
     pub call : IsCalled (disk.frame store.journal.disk) (disk.frame left) closing
     pub back : IsPutIn cabinet disk old new left
+    pub keeps : IsBack (cabinet.frame old) (cabinet.frame new)
+    pub absent : (cabinet.frame new).absent ≡ (cabinet.frame old).absent

@@ -1,19 +1,13 @@
 -- What the lines after a topology say, and what is answered to them: steps of proofs.
-use Rattle.std.specs.Prelude.{◌≡◌, ◌≢◌, ◌⊎◌, ℕ, IsFalse, List, [], ◌++◌, length, None, Some, Result, Ok, Err, ⊤}
-use Rattle.std.specs.List.{before_first, after_first}
+use Rattle.std.specs.Prelude.{◌≡◌, ◌⊎◌, ℕ, false, List, [], length, Result, Err, ⊤}
 use mathlib.Core.List.{IsPrefix}
-use Rattle.hose_io.specs.Frame.{Rose, Stays}
-use Rattle.hose_io.specs.Stream.{Grows}
+use Rattle.hose_io.specs.Frame.{Stays}
 use Rattle.hose_io.specs.declared.sink.Sink.{Ghosts as SinkGhosts}
 use Rattle.hose_io.specs.declared.source.Source.{Ghosts}
 use Rattle.hose_words.specs.Grammar.{IsFirstNotAllowed}
 use Rattle.hose_words.specs.Words.{words_of}
-use Rattle.hose_words.specs.Lines.{StopsAfterLines, is_line_feed}
 use Rattle.hose_words.specs.steps.Lines.{Reader}
-use Rattle.hose_words.specs.Saying.{IsAllTaken, IsLeftOver}
 use Rattle.hose_words.specs.steps.Saying.{SaysUpTo}
-use Rattle.hose_words.specs.declared.lines.LineFault.{LineFault}
-use Rattle.hose_words.specs.declared.lines.LineFault.TheVariants as line_fault
 use Rattle.hose_words.specs.declared.lines.Line.{Line}
 use Rattle.hose_words.specs.declared.lines.Line.TheVariants as line
 use Rattle.hose_graph.specs.declared.entry.Entry.{Entry}
@@ -21,22 +15,25 @@ use Rattle.hose_graph.specs.declared.command.Reply.{Reply}
 use Rattle.hose_graph.specs.Network.{Network}
 use Rattle.hose_law.specs.History.{IsDecided}
 use Rattle.hose_law.specs.Quotes.{Holdings, nothing_held}
-use Rattle.hose_law.specs.Script.{ReadLine, IsFixedReply, IsScript}
+use Rattle.hose_law.specs.Script.{ReadLine, IsFixedReply, IsScript, script_state}
 use Rattle.hose_law.specs.Script.ReadLine.{Asks, IsBad, IsLong, Unread}
-use Rattle.hose_offline.specs.Ending.{OutputWorked}
+use Rattle.hose_offline.specs.Fault.{done_of_talk}
 use Rattle.hose_offline.specs.ScriptLine.{IsAsking, WantsMemory, script_grammar}
-use Rattle.hose_proto.specs.Replies.{CutsLast, texts_of}
+use Rattle.hose_proto.specs.ReplyText.{line_of, reply_text}
+use Rattle.hose_talk.specs.Talk.{TalksTo, Terms}
+use Rattle.hose_talk.specs.steps.Talk.{KeepsFault}
+use Rattle.hose_talk.specs.declared.talking.TalkEnd.{TalkEnd}
+use Rattle.hose_talk.specs.declared.talking.TalkFault.{TalkFault}
 use Rattle.hose_book.specs.steps.Commit.{Commits, IsMet, unfailing}
 use Rattle.hose_book.specs.steps.GoingOn.{GoesOn}
 use Rattle.hose_book.specs.declared.books.Books.{Ghosts as BooksGhosts}
 use Rattle.hose_book.specs.declared.books.Plain.{Plain}
 use Rattle.hose_core.specs.steps.Holding.{State}
 use Rattle.hose_core.specs.steps.Stepping.{FitsHistory, Steps, committed_of}
-use Rattle.hose_words.specs.Reading.{WhereTold}
-use Rattle.hose_offline.specs.steps.Talk.{Talk, talk}
+use Rattle.hose_talk.specs.Talk.{Talk, talk}
 use Rattle.hose_offline.specs.declared.fault.Fault.{Fault}
 use Rattle.hose_offline.specs.declared.fault.Fault.TheVariants as fault
-use Rattle.hose_offline.specs.Talking.{IsAskedBy, Says, SaysNext, TellsDisks}
+use Rattle.hose_offline.specs.Talking.{IsAskedBy, Says, TellsDisks}
 
 -- what a line says, as a reader of lines gives it
 abbrev pub SaysRead : Network → Line → ReadLine → Type 0
@@ -62,13 +59,6 @@ SaysOneThing network bytes = (one other : ReadLine) → Says network bytes one
 abbrev pub SaysAlone : Network → List ℕ → ReadLine → Type 0
 SaysAlone network bytes said = Says network bytes said × SaysOneThing network bytes
 
--- each line between the start of a text and this rest of it says one thing
-pub data SayOneThingEach (network : Network) : List ℕ → List ℕ → Type 0 where
-  none_said : {text : List ℕ} → SayOneThingEach network text text
-  line_more : {text rest : List ℕ} → SayOneThingEach network text rest → rest ≢ []
-      → SaysOneThing network (before_first is_line_feed rest)
-      → SayOneThingEach network text (after_first is_line_feed rest)
-
 -- A core answered a line: a command by a step at each history that the core fits, and any other
 -- line with the reply that stands for it, which changes nothing. A failure of a disk raised the
 -- count of the books.
@@ -89,7 +79,8 @@ pub record AreAnswered {K R : Type 0} (books : BooksGhosts K R) (network : Netwo
     Type 0 where
   pub history : List Entry
   pub left : Holdings
-  pub script : IsScript network 0 since nothing_held lines replies history left
+  pub script : IsScript network 0 lines replies (script_state since nothing_held)
+      (script_state history left)
   pub decided : IsDecided network 0 (length since) history
   pub begins : IsPrefix since history
   pub goes_on : GoesOn books (IsAskedBy lines replies) network since first history last
@@ -116,48 +107,28 @@ abbrev pub talk_tellings : {S O K R : Type 0} → Ghosts S → SinkGhosts O → 
     → TalkTellings S O K R
 talk_tellings source sink books = record { source = source; sink = sink; books = books }
 
--- Lines of a talk by books, on a network and from a history on.
-module _ {S O K R : Type 0} (tells : TalkTellings S O K R) (network : Network) (since : List Entry)
-    (before after : Talk (Reader S) O K) where
-  -- Lines that were to come were answered. `stops` says how the text that was to come stands to
-  -- what comes after them and to what the source has left, and `puts` how much is out of the
-  -- replies.
-  pub record AnswersUpTo (stops : List ℕ → List ℕ → List ℕ → Type 0) (puts : List Reply → Type 0) :
-      Type 0 where
-    pub lines : List ReadLine
-    pub replies : List Reply
-    pub said : SaysUpTo tells.source before.lines after.lines (SaysNext network) lines stops
-    pub answered : AreAnswered tells.books network since before.by after.by lines replies
-    pub out : puts replies
+-- the terms of a talk whose replies are those of books, on a network and from a history on: each
+-- line says one thing at most, but for being left unread
+abbrev pub book_terms : {S O K R : Type 0} → TalkTellings S O K R → Network → List Entry
+    → Talk (Reader S) O K → Talk (Reader S) O K → Terms ReadLine ⊤ Reply
+book_terms tells network since before after = record {
+  tells = λ stops lines.
+      SaysUpTo tells.source before.lines after.lines (λ _. SaysAlone network) lines stops;
+  comes = λ lines replies _.
+      AreAnswered tells.books network since before.by after.by lines replies;
+  over = λ _. false;
+  text = λ reply. line_of (reply_text network reply);
+}
 
-  -- the replies are out
-  abbrev pub RepliesOut : List Reply → Type 0
-  RepliesOut replies = Grows (tells.sink.content before.output) (tells.sink.content after.output)
-      (texts_of network replies)
-
-  -- Lines that were to come were answered, until reading met a fault.
-  pub record TalksUntil (fault : LineFault) : Type 0 where
-    pub talks : AnswersUpTo (StopsAfterLines fault) RepliesOut
-    pub before_end : IsFalse before.lines.ended
-    pub kept : after.lines.fault ≡ Some fault
-    pub held : OutputWorked tells.sink before.output after.output
-
-  -- What answering all lines comes to: each has its reply and says one thing, and no more is to
-  -- come; or reading met a fault, or the output failed in a reply.
-  abbrev pub Talks : {T : Type 0} → Result T Fault → Type 0
-  Talks (Ok _) = AnswersUpTo IsAllTaken RepliesOut
-      × (after.lines.fault ≡ None) × OutputWorked tells.sink before.output after.output
-      × WhereTold (tells.source.content before.lines.source)
-      (tells.source.content after.lines.source)
-      (λ was _. SayOneThingEach network (before.lines.pending ++ was) [])
-  Talks (Err fault.Read) = TalksUntil line_fault.Read
-      × Rose (tells.source.frame before.lines.source) (tells.source.frame after.lines.source)
-  Talks (Err fault.TooLong) = TalksUntil line_fault.TooLong
-  Talks (Err fault.Write) = AnswersUpTo IsLeftOver
-      (CutsLast network (tells.sink.content before.output) (tells.sink.content after.output))
-      × (after.lines.fault ≡ None)
-      × Rose (tells.sink.frame before.output) (tells.sink.frame after.output)
-  Talks (Err _) = ⊥
+-- What answering all lines comes to, as a talk on these terms. The reader keeps a fault of reading
+-- that ended it.
+abbrev pub Talks : {S O K R : Type 0} → TalkTellings S O K R → Network → List Entry
+    → Talk (Reader S) O K → Talk (Reader S) O K → Result ⊤ Fault → Type 0
+Talks tells network since before after result = (ended : Result TalkEnd TalkFault)
+    × (result ≡ done_of_talk ended) × KeepsFault before.lines after.lines ended
+    × TalksTo tells.source tells.sink (book_terms tells network since before after)
+    (talk before.lines.source before.output (tt {0}))
+    (talk after.lines.source after.output (tt {0})) ended
 
 -- a book in memory as books
 abbrev pub plain_books : BooksGhosts Plain ⊤
@@ -170,8 +141,8 @@ plain_books = record {
 
 -- There was no memory for a book or for rows, and nothing was done; or lines were answered from an
 -- empty book on, by this book and then that.
-abbrev pub TalksInMemory : {S O T : Type 0} → TalkTellings S O Plain ⊤ → Network
-    → Talk (Reader S) O ⊤ → Talk (Reader S) O ⊤ → Result T Fault → Type 0
+abbrev pub TalksInMemory : {S O : Type 0} → TalkTellings S O Plain ⊤ → Network
+    → Talk (Reader S) O ⊤ → Talk (Reader S) O ⊤ → Result ⊤ Fault → Type 0
 TalksInMemory tells network before after result =
     ((result ≡ Err fault.Memory) × (after.lines ≡ before.lines) × (after.output ≡ before.output))
     ⊎ ((first : Plain) × (last : Plain) × Talks tells network []

@@ -4,55 +4,54 @@ use Rattle.hosed.specs.ProgramWords.{AreWords, Task, Verb}
 use Rattle.hosed.specs.ProgramWords.Verb.{run, audit, generate, prove, check, price, ship, follow, move, serve}
 use Rattle.hosed.specs.declared.naming.Named.{Named}
 
--- the topology that a task names, if it names one
-abbrev pub topology_of : (verb : Verb) → Task verb → Option (List ℕ)
-topology_of run task = None
-topology_of audit task = Some task.topology
-topology_of generate task = None
-topology_of prove task = Some task.topology
-topology_of check task = Some task.topology
-topology_of price task = Some task.topology
-topology_of ship task = Some task.topology
-topology_of follow task = Some task.topology
-topology_of move task = Some task.topology
-topology_of serve task = Some task.topology
+-- the files and the port that a task names, each where it names one
+pub record TaskNames : Type 0 where
+  pub topology : Option (List ℕ)
+  pub journal : Option (List ℕ)
+  pub new_topology : Option (List ℕ)
+  pub new_journal : Option (List ℕ)
+  pub port : Option ℕ
 
--- the journal that a task names, if it names one
-abbrev pub journal_of : (verb : Verb) → Task verb → Option (List ℕ)
-journal_of run task = task.journal
-journal_of audit task = Some task.journal
-journal_of generate task = None
-journal_of prove task = None
-journal_of check task = None
-journal_of price task = None
-journal_of ship task = Some task.journal
-journal_of follow task = Some task.journal
-journal_of move task = Some task.journal
-journal_of serve task = Some task.journal
+-- a topology and a journal, each if it is named, and nothing else
+abbrev pub files_named : Option (List ℕ) → Option (List ℕ) → TaskNames
+files_named topology journal = record {
+  topology = topology;
+  journal = journal;
+  new_topology = None;
+  new_journal = None;
+  port = None;
+}
 
--- the new topology that a task names, if it is a move
-abbrev pub new_topology_of : (verb : Verb) → Task verb → Option (List ℕ)
-new_topology_of move task = Some task.new_topology
-new_topology_of _ task = None
+-- what a task names
+abbrev pub task_names : (verb : Verb) → Task verb → TaskNames
+task_names run task = files_named None task.journal
+task_names audit task = files_named (Some task.topology) (Some task.journal)
+task_names generate task = files_named None None
+task_names prove task = files_named (Some task.topology) None
+task_names check task = files_named (Some task.topology) None
+task_names price task = files_named (Some task.topology) None
+task_names ship task = files_named (Some task.topology) (Some task.journal)
+task_names follow task = files_named (Some task.topology) (Some task.journal)
+task_names move task = record (files_named (Some task.topology) (Some task.journal)) {
+  new_topology = Some task.new_topology;
+  new_journal = Some task.new_journal;
+}
+task_names serve task =
+    record (files_named (Some task.topology) (Some task.journal)) { port = Some task.port }
 
--- the new journal that a task names, if it is a move
-abbrev pub new_journal_of : (verb : Verb) → Task verb → Option (List ℕ)
-new_journal_of move task = Some task.new_journal
-new_journal_of _ task = None
-
--- the port that a task names, if it names one
-abbrev pub port_of : (verb : Verb) → Task verb → Option ℕ
-port_of serve task = Some task.port
-port_of _ task = None
+-- what is named, by the bytes of each name
+abbrev pub named_bytes : Named → TaskNames
+named_bytes named = record {
+  topology = option_map (λ name. name.now) named.topology;
+  journal = option_map (λ name. name.now) named.journal;
+  new_topology = option_map (λ name. name.now) named.new_topology;
+  new_journal = option_map (λ name. name.now) named.new_journal;
+  port = named.port;
+}
 
 -- The words are those of a command and a task, which names these files and this port.
 pub record AreNamed (names words : List (List ℕ)) (named : Named) : Type 0 where
   pub verb : Verb
   pub task : Task verb
   pub are : AreWords names words verb task
-  pub topology : option_map (λ name. name.now) named.topology ≡ topology_of verb task
-  pub journal : option_map (λ name. name.now) named.journal ≡ journal_of verb task
-  pub new_topology :
-      option_map (λ name. name.now) named.new_topology ≡ new_topology_of verb task
-  pub new_journal : option_map (λ name. name.now) named.new_journal ≡ new_journal_of verb task
-  pub port : named.port ≡ port_of verb task
+  pub same : named_bytes named ≡ task_names verb task

@@ -2,15 +2,15 @@
 -- proofs.
 use Rattle.std.specs.Prelude.{◌≡◌, ◌⊎◌, ℕ, List, length, Option, IfSome, Result, Err, is_err, is_some, ⊤}
 use mathlib.Core.List.{IsPrefix}
+use Rattle.hose_io.specs.Frame.{Frame, Stays}
 use Rattle.hose_io.specs.declared.Failed.{Failed}
 use Rattle.hose_graph.specs.Network.{Network}
 use Rattle.hose_graph.specs.declared.entry.Entry.{Entry}
 use Rattle.hose_law.specs.History.{IsDecided, IsDecidedAt}
 use Rattle.hose_disk.specs.steps.Disk.{IsCalled}
 use Rattle.hose_disk.specs.declared.disk.Disk.{Ghosts as DiskGhosts}
-use Rattle.hose_store.specs.Beginning.{HasLeft}
+use Rattle.hose_store.specs.Beginning.{Beginning, HasLeft}
 use Rattle.hose_store.specs.steps.Beginning.{StandsFor}
-use Rattle.hose_store.specs.steps.Commit.{Closes}
 use Rattle.hose_store.specs.Recovery.{IsHistoryOf}
 use Rattle.hose_store.specs.steps.Store.{KeptStore}
 use Rattle.hose_turn.specs.Known.{Known}
@@ -29,6 +29,12 @@ use Rattle.hosed.specs.ServerDoor.{DoorSeen, DoorTask, IsServedAlong, OutsideDoo
 -- what the request says of the door
 abbrev pub door_task : ServeRequest → DoorTask
 door_task request = record { port = request.port; connections = request.connections }
+
+-- the output of a server is the one that it was, and so is its door, by what their frames were and
+-- are
+pub record BothStay (before after was now : Frame) : Type 0 where
+  pub output : Stays before after
+  pub door : Stays was now
 
 -- what is lent to a server
 abbrev pub door_beside : {I O C E : Type 0} → Outside I O C E → DoorSeen → OutsideDoor I O C
@@ -56,12 +62,14 @@ pub record OpensAt {E : Type 0} (disk : DiskGhosts E) (Had : List ℕ → Type 0
     tells = is_some content;
   }) since store
 
--- The store was closed, which left the disk so.
-pub record IsClosedOn {E : Type 0} (disk : DiskGhosts E) (store : KeptStore E) (left : E) :
-    Type 0 where
-  pub closing : Result ⊤ Failed
-  pub closes : Closes disk store left closing
+-- A store was closed, which left the disk so and came to this. Where the store stood for a history,
+-- the disk is left with it.
+pub record IsClosedOn {E : Type 0} (disk : DiskGhosts E) (store : KeptStore E) (left : E)
+    (closing : Result ⊤ Failed) : Type 0 where
   pub call : IsCalled (disk.frame store.journal.disk) (disk.frame left) closing
+  pub leaves : (was : E) (beginning : Beginning) (history : List Entry)
+      → StandsFor disk IsDecidedAt (disk.may_leave was) beginning history store
+      → HasLeft disk IsDecidedAt (disk.may_leave was) beginning history left closing
 
 -- ---- on a disk
 

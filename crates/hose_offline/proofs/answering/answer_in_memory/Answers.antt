@@ -3,7 +3,7 @@ use Rattle.hose_words.proofs.OnReading.{ReadsOn-start}
 use Rattle.hose_book.specs.Ledger.{Ledger}
 use Rattle.hose_book.specs.declared.books.Plain.{Plain}
 use Rattle.hose_graph.specs.Network.{Network}
-use Rattle.hose_offline.specs.steps.Talk.{talk}
+use Rattle.hose_talk.specs.Talk.{talk}
 use Rattle.hose_offline.specs.steps.Talking.{Talks, plain_books, talk_tellings}
 use Rattle.hose_offline.proofs.answering.answer_in_memory.Goals as goal
 

@@ -1,7 +1,7 @@
 use Rattle.std.specs.Prelude.{⊤}
-use Rattle.std.proofs.Common.{◌≡◌, ◌∙◌, ℕ, List, Option, Err, sym, ap, subst}
+use Rattle.std.proofs.Common.{◌≡◌, ◌∙◌, ℕ, List, Option, Err, inl, refl, sym, ap, subst}
 use Rattle.std.proofs.lemmas.Result.{err_from_is_err_and}
-use Rattle.hose_words.proofs.OnReading.{ReadsOn-then}
+use Rattle.hose_words.proofs.OnReading.{ReadsOn-start, ReadsOn-then}
 use Rattle.hose_offline.specs.steps.Fault.{of_topology}
 use Rattle.hose_offline.specs.declared.fault.Fault.TheVariants.{Read}
 use Rattle.std.specs.Prelude.{option_map}
@@ -42,14 +42,24 @@ returns-in-None-clause-leaves g c =
 pub returns-in-None-clause-reads_on : goal.returns-in-None-clause-reads_on
 returns-in-None-clause-reads_on g c = ReadsOn-then g.S.Source c.args.lines.now c.read.new.lines c.answer_in_memory.new.lines c.read.ensures.reads_on c.answer_in_memory.ensures.reads_on
 
-pub returns-in-Some-clause-leaves : goal.returns-in-Some-clause-leaves
-returns-in-Some-clause-leaves g c =
+pub returns-in_err-store-in-Some-clause-leaves : goal.returns-in_err-store-in-Some-clause-leaves
+returns-in_err-store-in-Some-clause-leaves g c =
     let read = c.in_ok-told.ensures in
-    let served = c.answer_in_cabinet in
+    let told = err_from_is_err_and c.from_residual-in_err-store-in-Some.result c.from_residual-in_err-store-in-Some.ensures.1 in
+    let is : c.from_residual-in_err-store-in-Some.result ≡ Err c.in_err-store-in-Some.field-0.0 = told.1 ∙ ap Err told.2 in
+    rw is (subst (λ (journal : Option (List ℕ)). RunLeaves (tellings g.S.Source g.O.Sink g.C.Cabinet g.C.Disk.Disk) (g.P.Prices.prices c.args.costs.now) journal (parts c.args.lines.now.source c.args.output.now c.args.cabinet.now) (parts c.read.new.lines.source c.args.output.now c.open_journal.new.cabinet) {T = ⊤} (Err c.in_err-store-in-Some.field-0.0))
+    (sym (ap (option_map (λ name. name.now)) c.in-Some.is))
+    (leaves_in_cabinet (g.P.Prices.prices c.args.costs.now) g.S.Source g.O.Sink g.C.Cabinet g.C.Disk.Disk c.args.lines.now c.read.new.lines c.read.new.lines c.in_ok-told.told c.in_ok-topology.topology c.in_ok-topology.ensures.priced c.args.output.now c.args.output.now c.args.cabinet.now c.open_journal.new.cabinet
+    c.in_ok-topology.ensures.network c.requires.pending read.topology read.alone c.read.ensures.reads_on read.fault.1 c.in-Some.name.now (Err c.in_err-store-in-Some.field-0.0) (ReadsOn-start g.S.Source c.read.new.lines) (inl (c.in_err-store-in-Some.ensures.refused, refl, refl))))
+
+pub returns-in_ok-store-in-Some-clause-leaves : goal.returns-in_ok-store-in-Some-clause-leaves
+returns-in_ok-store-in-Some-clause-leaves g c =
+    let read = c.in_ok-told.ensures in
+    let served = c.answer_by_journal in
     subst (λ (journal : Option (List ℕ)). RunLeaves (tellings g.S.Source g.O.Sink g.C.Cabinet g.C.Disk.Disk) (g.P.Prices.prices c.args.costs.now) journal (parts c.args.lines.now.source c.args.output.now c.args.cabinet.now) (parts served.new.lines.source served.new.output served.new.cabinet) served.result)
     (sym (ap (option_map (λ name. name.now)) c.in-Some.is))
     (leaves_in_cabinet (g.P.Prices.prices c.args.costs.now) g.S.Source g.O.Sink g.C.Cabinet g.C.Disk.Disk c.args.lines.now c.read.new.lines served.new.lines c.in_ok-told.told c.in_ok-topology.topology c.in_ok-topology.ensures.priced c.args.output.now served.new.output c.args.cabinet.now served.new.cabinet
-    c.in_ok-topology.ensures.network c.requires.pending read.topology read.alone c.read.ensures.reads_on read.fault.1 c.in-Some.name.now served.result served.ensures.reads_on served.ensures.talks)
+    c.in_ok-topology.ensures.network c.requires.pending read.topology read.alone c.read.ensures.reads_on read.fault.1 c.in-Some.name.now served.result served.ensures.reads_on (served.ensures.talks c.in-Some.name.now c.args.cabinet.now c.in_ok-topology.topology c.in_ok-store-in-Some.ensures.opens))
 
-pub returns-in-Some-clause-reads_on : goal.returns-in-Some-clause-reads_on
-returns-in-Some-clause-reads_on g c = ReadsOn-then g.S.Source c.args.lines.now c.read.new.lines c.answer_in_cabinet.new.lines c.read.ensures.reads_on c.answer_in_cabinet.ensures.reads_on
+pub returns-in_ok-store-in-Some-clause-reads_on : goal.returns-in_ok-store-in-Some-clause-reads_on
+returns-in_ok-store-in-Some-clause-reads_on g c = ReadsOn-then g.S.Source c.args.lines.now c.read.new.lines c.answer_by_journal.new.lines c.read.ensures.reads_on c.answer_by_journal.ensures.reads_on

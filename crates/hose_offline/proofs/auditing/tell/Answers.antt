@@ -1,18 +1,25 @@
 use Rattle.std.proofs.Common.{inr, refl, true}
 use Rattle.hose_audit.specs.Audit.{audit_text}
+use Rattle.hose_io.proofs.Frames.{Stays-next}
 use Rattle.hose_io.proofs.Streams.{GrowsInPart-append}
 use Rattle.hose_offline.specs.Fault.{last_line}
 use Rattle.hose_offline.proofs.Audited.{out_after}
 use Rattle.hose_offline.proofs.auditing.tell.Goals as goal
 
-pub returns-in-Ok-told-2-clause-ends : goal.returns-in-Ok-told-2-clause-ends
-returns-in-Ok-told-2-clause-ends g c =
+pub returns-in-Ok-told-2 : goal.returns-in-Ok-told-2
+returns-in-Ok-told-2 g c =
     let put = c.in-Ok-told-2.ensures in
     let text = audit_text c.args.book.now.network c.args.book.now.book in
-    rw c.in-Err.is (c.end.ensures.status, out_after g.O.Sink c.args.output.now c.audit-told.new.sink c.end.new.output text (last_line c.in-Err.why) put.ok put.met.ok c.end.ensures.last_line)
+    record {
+      came = rw c.in-Err.is (c.end.ensures.status, out_after g.O.Sink c.args.output.now c.audit-told.new.sink c.end.new.output text (last_line c.in-Err.why) put.ok put.met.ok c.end.ensures.last_line);
+      stays = Stays-next put.met.stays c.end.ensures.output;
+    }
 
-pub returns-in-Err-told-2-clause-ends : goal.returns-in-Err-told-2-clause-ends
-returns-in-Err-told-2-clause-ends g c =
+pub returns-in-Err-told-2 : goal.returns-in-Err-told-2
+returns-in-Err-told-2 g c =
     let put = c.in-Err-told-2.ensures in
     let text = audit_text c.args.book.now.network c.args.book.now.book in
-    rw c.in-Err.is (c.status-in-Err-told-2.ensures, inr (put.met.failed (refl {a = true}), GrowsInPart-append _ _ text (last_line c.in-Err.why) put.err))
+    record {
+      came = rw c.in-Err.is (c.status-in-Err-told-2.ensures, inr (put.met.failed (refl {a = true}), GrowsInPart-append _ _ text (last_line c.in-Err.why) put.err));
+      stays = put.met.stays;
+    }

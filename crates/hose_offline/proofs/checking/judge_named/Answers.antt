@@ -17,4 +17,4 @@ returns-in_err-top-clause-judges g c =
 pub returns-clause-judges : goal.returns-clause-judges
 returns-clause-judges g c =
     judged_then (tellings g.I.Source g.O.Sink g.C.Cabinet g.C.Disk.Disk) (g.P.Prices.prices c.args.costs.now) c.args.topology.now (held c.args.outside.now) _ c.in_ok-top.top c.judge.result
-    (subst (ReadsTopology g.C.Cabinet c.args.outside.now.cabinet.now c.read_topology.new.cabinet (g.P.Prices.prices c.args.costs.now) c.args.topology.now) c.in_ok-top.was c.read_topology.ensures.reads) c.judge.ensures.judges
+    (subst (ReadsTopology g.C.Cabinet c.args.outside.now.cabinet.now c.read_topology.new.cabinet (g.P.Prices.prices c.args.costs.now) c.args.topology.now) c.in_ok-top.was c.read_topology.ensures.reads) c.judge.ensures

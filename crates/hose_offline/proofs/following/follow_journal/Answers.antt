@@ -1,8 +1,12 @@
-use Rattle.std.proofs.Common.{◌≡◌, ◌∙◌, inl, inr, Err, refl, ap}
+use Rattle.std.proofs.Common.{◌≡◌, ◌∙◌, inl, inr, Err, refl, ap, rules}
 use Rattle.std.proofs.lemmas.Result.{err_from_is_err_and}
 use Rattle.hose_offline.specs.Parts.{parts, tellings}
 use Rattle.hose_offline.specs.steps.Parts.{held}
+use Rattle.hose_law.specs.History.{IsSoundAt}
+use Rattle.hose_offline.specs.Following.{IsBrought}
 use Rattle.hose_offline.proofs.Followed.{followed_in}
+use Rattle.hose_offline.proofs.Journals.{opened_for}
+use Rattle.hose_offline.proofs.StreamsStay.{input_stays, output_stays}
 use Rattle.hose_offline.proofs.following.follow_journal.Goals as goal
 
 pub returns-in_err-store-clause-follows : goal.returns-in_err-store-clause-follows
@@ -19,6 +23,13 @@ returns-clause-follows g c =
     let after = parts followed.new.source followed.new.sink closed.new.cabinet in
     let opens = c.in_ok-store.ensures.opens in
     let has = followed_in (tellings g.I.Source g.O.Sink g.C.Cabinet g.C.Disk.Disk) c.args.name.now before after c.open_journal.new.cabinet c.args.topology c.in_ok-store.store followed.new.store followed.result closed.result.0
-    followed.ensures.follows
-    (record { was = opens.was; taken = opens.taken; opens = c.law_brought.ensures followed.ensures.follows.packets opens.was c.args.topology c.in_ok-store.store opens.opens }) closed.ensures.closes in
+    followed.ensures
+    (record { was = opens.was; taken = opens.taken; opens = opened_for g.C.Disk.Disk IsSoundAt (IsBrought followed.ensures.packets) c.args.topology opens.was c.in_ok-store.store opens.opens }) closed.ensures.closes in
     inr (followed.result, closed.result.0, has, rw c.done_of_end.ensures at c.first_fault.ensures)
+
+pub returns-clause-keeps : goal.returns-clause-keeps
+returns-clause-keeps g c =
+    let followed = c.follow-ended in
+    let input = input_stays g.I.Source _ _ _ _ followed.result followed.ensures.input in
+    let output = output_stays g.O.Sink _ _ _ followed.result followed.ensures.output in
+    search rules

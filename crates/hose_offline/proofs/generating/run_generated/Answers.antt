@@ -4,7 +4,7 @@ use Rattle.hose_offline.proofs.generating.run_generated.Goals as goal
 
 pub returns-clause-outcome : goal.returns-clause-outcome
 returns-clause-outcome g c = record {
-  ends = rw c.end.ensures.status (ends_summary c.args.sizes g.O.Sink _ _ _ c.sum_up-done.result c.sum_up-done.ensures.leaves c.end.ensures.last_line);
+  ends = rw c.end.ensures.status (ends_summary c.args.sizes g.O.Sink _ _ _ c.sum_up-done.result c.sum_up-done.ensures.came c.end.ensures.last_line);
   input = refl;
   cabinet = refl;
 }

@@ -1,4 +1,5 @@
 use Rattle.std.proofs.Common.{◌∙◌, inl, inr, refl, subst}
+use Rattle.hose_store.proofs.OneMeaning.{recovered_once}
 use Rattle.hose_offline.specs.Auditing.{ReadsTopology}
 use Rattle.hose_offline.specs.steps.Moving.{names_of}
 use Rattle.hose_offline.specs.Parts.{parts, tellings}
@@ -20,10 +21,10 @@ returns-in-Ok-clause-outcome g c =
       left = c.move_from-moved.new.outside.output.now;
       done = c.move_from-moved.result;
       moves = inr (c.in-Ok.old, c.read_topology.new.cabinet, reads, c.move_from-moved.ensures.moves);
-      ends = c.end_move.ensures.ends;
-      whole = whole_of tells names before (held c.move_from-moved.new.outside) _ _ _ _ (inr (c.in-Ok.old, c.read_topology.new.cabinet, reads, c.move_from-moved.ensures.moves)) c.end_move.ensures.ends;
+      ends = c.end_move.ensures.came;
+      whole = whole_of tells names before (held c.move_from-moved.new.outside) _ _ _ _ (inr (c.in-Ok.old, c.read_topology.new.cabinet, reads, c.move_from-moved.ensures.moves)) c.end_move.ensures.came;
       old_kept = λ apart. kept_named tells names before (held c.move_from-moved.new.outside) apart _ (inr (c.in-Ok.old, c.read_topology.new.cabinet, reads, c.move_from-moved.ensures.moves));
-      complete = λ movable none. completes tells names before (held c.move_from-moved.new.outside) _ c.in-Ok.old c.read_topology.new.cabinet _ _ c.law_one_meaning.ensures reads c.move_from-moved.ensures.moves c.end_move.ensures.ends movable none.writing none.keeping_it;
+      complete = λ movable none. completes tells names before (held c.move_from-moved.new.outside) _ c.in-Ok.old c.read_topology.new.cabinet _ _ (recovered_once c.in-Ok.old) reads c.move_from-moved.ensures.moves c.end_move.ensures.came movable none.writing none.keeping_it;
       input = c.move_from-moved.ensures.input;
     }
 
@@ -37,10 +38,10 @@ returns-in-Err-clause-outcome g c =
       left = before.output;
       done = Err (Old c.in-Err.why);
       moves = inl (c.in-Err.why, refl, reads, refl);
-      ends = c.end_move-in-Err.ensures.ends;
-      whole = whole_of tells names before (parts before.input before.output c.read_topology.new.cabinet) (Err (Old c.in-Err.why)) _ _ _ (inl (c.in-Err.why, refl, reads, refl)) c.end_move-in-Err.ensures.ends;
+      ends = c.end_move-in-Err.ensures.came;
+      whole = whole_of tells names before (parts before.input before.output c.read_topology.new.cabinet) (Err (Old c.in-Err.why)) _ _ _ (inl (c.in-Err.why, refl, reads, refl)) c.end_move-in-Err.ensures.came;
       old_kept = λ apart. kept_named tells names before (parts before.input before.output c.read_topology.new.cabinet) apart (Err (Old c.in-Err.why)) (inl (c.in-Err.why, refl, reads, refl));
-      complete = λ movable none. inr (c.end_move-in-Err.ensures.ends.0 ∙ old_refused tells.cabinet before.cabinet c.read_topology.new.cabinet names.prices names.topology c.in-Err.why reads movable.servable none.keeping_it);
+      complete = λ movable none. inr (c.end_move-in-Err.ensures.came.0 ∙ old_refused tells.cabinet before.cabinet c.read_topology.new.cabinet names.prices names.topology c.in-Err.why reads movable.servable none.keeping_it);
       input = refl;
     }
 

@@ -1,4 +1,5 @@
 use Rattle.std.proofs.Common.{inl, inr, refl}
+use Rattle.hose_move.proofs.Complete.{complete}
 use Rattle.hose_offline.proofs.Lending.{is_lent, is_not_lent}
 use Rattle.hose_offline.proofs.moving.move_new.Goals as goal
 
@@ -18,6 +19,6 @@ returns-clause-moves g c =
           c.disk.ensures.others c.disk.ensures.texts (record { held = back.held; never_falls = back.never_falls; call = back.call }) back.others back.texts (
             moved.ensures.moves,
             moved.ensures.only,
-            λ bytes read part sound enough. c.law_complete.ensures c.in-Ok.disk moved.result.1 c.args.entries.now bytes moved.result.0 moved.ensures.moves read part sound enough,
+            λ bytes read part sound enough. complete g.C.Disk.Disk c.args.new.now c.in-Ok.disk moved.result.1 c.args.entries.now bytes read part sound moved.result.0 moved.ensures.moves enough,
           ),
     )

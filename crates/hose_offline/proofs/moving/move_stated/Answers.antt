@@ -1,14 +1,14 @@
 use Rattle.std.proofs.Common.{inl, inr, refl, subst}
-use Rattle.hose_offline.specs.Moving.{ReadsOld, scope_of}
+use Rattle.hose_offline.specs.Moving.{LendsOld, scope_of, to_read}
 use Rattle.hose_offline.specs.steps.Parts.{held}
 use Rattle.hose_offline.proofs.moving.move_stated.Goals as goal
 
 pub returns-in-Ok-clause-moves : goal.returns-in-Ok-clause-moves
 returns-in-Ok-clause-moves g c =
-    let reads = subst (ReadsOld g.C.Cabinet g.C.Disk.Disk c.args.of.from.journal.now (scope_of c.args.of.live) (held c.args.outside.now).cabinet c.read_old.new.cabinet c.args.old.now) c.in-Ok.is c.read_old.ensures.reads in
+    let reads = subst (LendsOld g.C.Cabinet g.C.Disk.Disk c.args.of.from.journal.now (held c.args.outside.now).cabinet c.read_old.new.cabinet (to_read g.C.Disk.Disk c.args.old.now (scope_of c.args.of.live))) c.in-Ok.is c.read_old.ensures.reads in
     inr (c.in-Ok.stated, c.read_old.new.cabinet, reads, c.enter.ensures.enters)
 
 pub returns-in-Err-clause-moves : goal.returns-in-Err-clause-moves
 returns-in-Err-clause-moves g c =
-    let reads = subst (ReadsOld g.C.Cabinet g.C.Disk.Disk c.args.of.from.journal.now (scope_of c.args.of.live) (held c.args.outside.now).cabinet c.read_old.new.cabinet c.args.old.now) c.in-Err.is c.read_old.ensures.reads in
+    let reads = subst (LendsOld g.C.Cabinet g.C.Disk.Disk c.args.of.from.journal.now (held c.args.outside.now).cabinet c.read_old.new.cabinet (to_read g.C.Disk.Disk c.args.old.now (scope_of c.args.of.live))) c.in-Err.is c.read_old.ensures.reads in
     inl (c.in-Err.why, refl, reads, refl)

@@ -10,16 +10,16 @@ pub returns-in-Ok-clause-outcome : goal.returns-in-Ok-clause-outcome
 returns-in-Ok-clause-outcome g c =
     let done = c.price_input-done in
     let reads = subst (ReadsTopology g.C.Cabinet c.args.outside.now.cabinet.now c.read_topology.new.cabinet own_costs c.args.topology.now) c.in-Ok.is c.read_topology.ensures.reads in
-    priced_then (tellings g.I.Source g.O.Sink g.C.Cabinet g.C.Disk.Disk) _ _ c.args.topology.now (held c.args.outside.now) c.read_topology.new.cabinet (held done.new.outside) c.end.new.output c.in-Ok.top done.result c.end.result
+    priced_then (tellings g.I.Source g.O.Sink g.C.Cabinet g.C.Disk.Disk) _ c.args.topology.now (held c.args.outside.now) c.read_topology.new.cabinet (held done.new.outside) c.end.new.output c.in-Ok.top done.result c.end.result
     (ap (λ b. b.now) done.ensures.cabinet) reads done.ensures.prices c.end.ensures.last_line c.end.ensures.status
 
 pub returns-in-Err-clause-outcome : goal.returns-in-Err-clause-outcome
 returns-in-Err-clause-outcome g c =
     let reads = subst (ReadsTopology g.C.Cabinet c.args.outside.now.cabinet.now c.read_topology.new.cabinet own_costs c.args.topology.now) c.in-Err.is c.read_topology.ensures.reads in
-    priced_none (tellings g.I.Source g.O.Sink g.C.Cabinet g.C.Disk.Disk) _ _ c.args.topology.now (held c.args.outside.now) c.read_topology.new.cabinet c.end-in-Err.new.output c.in-Err.why c.end-in-Err.result reads c.end-in-Err.ensures.last_line c.end-in-Err.ensures.status
+    priced_none (tellings g.I.Source g.O.Sink g.C.Cabinet g.C.Disk.Disk) _ c.args.topology.now (held c.args.outside.now) c.read_topology.new.cabinet c.end-in-Err.new.output c.in-Err.why c.end-in-Err.result reads c.end-in-Err.ensures.last_line c.end-in-Err.ensures.status
 
 pub returns-in-Ok-clause-not_words : goal.returns-in-Ok-clause-not_words
-returns-in-Ok-clause-not_words g c = price_not_1 _ _ _ _ _ _ c.end.result (returns-in-Ok-clause-outcome g c)
+returns-in-Ok-clause-not_words g c = price_not_1 _ _ _ _ _ c.end.result (returns-in-Ok-clause-outcome g c)
 
 pub returns-in-Err-clause-not_words : goal.returns-in-Err-clause-not_words
-returns-in-Err-clause-not_words g c = price_not_1 _ _ _ _ _ _ c.end-in-Err.result (returns-in-Err-clause-outcome g c)
+returns-in-Err-clause-not_words g c = price_not_1 _ _ _ _ _ c.end-in-Err.result (returns-in-Err-clause-outcome g c)

@@ -13,7 +13,7 @@ returns-in-Ok-clause-outcome g c =
     let prices = g.P.Prices.prices c.args.costs.now in
     let reads = subst (ReadsTopology g.C.Cabinet c.args.outside.now.cabinet.now c.read_topology.new.cabinet prices c.args.topology.now) c.in-Ok.is c.read_topology.ensures.reads in
     proved_then (tellings g.I.Source g.O.Sink g.C.Cabinet g.C.Disk.Disk) prices c.args.topology.now (ends_from (map string_bytes c.args.ends.words.now) c.args.ends.first) (held c.args.outside.now) c.read_topology.new.cabinet done.new.output c.end.new.output c.in-Ok.top done.result c.end.result
-    reads done.ensures.proves c.end.ensures.last_line c.end.ensures.status
+    reads done.ensures.came c.end.ensures.last_line c.end.ensures.status
 
 pub returns-in-Err-clause-outcome : goal.returns-in-Err-clause-outcome
 returns-in-Err-clause-outcome g c =

@@ -5,4 +5,4 @@ use Rattle.hosed.proofs.Names.{are_named}
 use Rattle.hosed.proofs.naming.named_by.Goals as goal
 
 pub returns-in-Ok-serve_of : goal.returns-in-Ok-serve_of
-returns-in-Ok-serve_of g c = are_named _ _ serve (task_of c.in-Ok-serve_of.request) _ c.in-Ok-serve_of.ensures.ok refl refl refl refl refl
+returns-in-Ok-serve_of g c = are_named _ _ serve (task_of c.in-Ok-serve_of.request) _ c.in-Ok-serve_of.ensures.ok refl

@@ -1,4 +1,4 @@
 use Rattle.hosed.proofs.server.give_up.Goals as goal
 
-pub returns-clause-closes : goal.returns-clause-closes
-returns-clause-closes g c = record { closing = c.close-disk.result.0; closes = c.close-disk.ensures.closes; call = c.close-disk.ensures.call }
+pub returns-clause-closed : goal.returns-clause-closed
+returns-clause-closed g c = (c.close_store-disk.result.0, c.close_store-disk.ensures.closed)

@@ -15,7 +15,7 @@ pub returns-clause-outcome : goal.returns-clause-outcome
 returns-clause-outcome g c =
     let reads = subst (ReadsTopology g.C.Cabinet c.args.outside.now.cabinet.now c.read_topology.new.cabinet (g.P.Prices.prices c.args.costs.now) c.args.request.topology.now) c.in-Ok.is c.read_topology.ensures.reads in
     let served = c.serve_in_cabinet-came in
-    is_served _ _ _ _ _ c.read_topology.new.cabinet served.new.outside.output.now c.in-Ok.topology c.tell_served.result reads served.ensures.absent served.ensures.input served.result served.ensures.serves c.tell_served.ensures.ends
+    is_served _ _ _ _ _ c.read_topology.new.cabinet served.new.outside.output.now c.in-Ok.topology c.tell_served.result reads served.ensures.absent served.ensures.input served.result served.ensures.serves c.tell_served.ensures.came
 
 pub returns-clause-not_words : goal.returns-clause-not_words
 returns-clause-not_words g c = serve_not_1 _ _ _ _ _ c.tell_served.result (returns-clause-outcome g c)

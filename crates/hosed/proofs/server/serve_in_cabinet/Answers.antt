@@ -22,7 +22,7 @@ returns-clause-serves g c =
     let taken = c.in-Ok.ensures in
     let back = c.back-2.ensures in
     let served = c.serve_store-came in
-    let borrow = same_first _ _ _ _ served.ensures.door.loan in
+    let borrow = same_first _ _ _ _ served.ensures.stay.door.loan in
     let given : served.result.door.now ≡ c.door-1.given.0 = search rules in
     let kept = served_in (tellings g.I.Source g.O.Sink g.C.Cabinet g.C.Disk.Disk) c.args.request.journal.now c.args.outside.now.cabinet.now c.disk.new.self c.back-2.new.self c.args.topology c.in-Ok.disk served.result.disk
     (record { out = record { content = taken.content; images = taken.images; moment = taken.moment; fresh = taken.opened; call = taken.call }; in_place = record { held = back.held; never_falls = back.never_falls; call = back.call } })

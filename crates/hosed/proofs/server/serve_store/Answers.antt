@@ -2,7 +2,6 @@ use Rattle.std.proofs.Common.{ap, refl, subst, sym, rules}
 use Rattle.hose_turn.specs.declared.view.Origin.{Origin}
 use Rattle.hosed.specs.ServerDoor.{IsServedAlong, output_door, seen_of}
 use Rattle.hosed.specs.steps.ServerDoor.{OpensAt}
-use Rattle.hose_offline.specs.OnDisk.{opening_of}
 use Rattle.hosed.proofs.Sharing.{closed_at_once, gave_up, given_up, is_opening, just_opened, opens_at, serves_shared, stays_shared}
 use Rattle.hosed.proofs.server.serve_store.Goals as goal
 
@@ -12,11 +11,8 @@ returns-in_default-clause-serves g c =
     let network = c.args.opening.store.ledger.network in
     let was = c.args.opening.was.value in
     let up = c.give_up.ensures in
-    let closed = up.closes in
-    let left = c.give_up.result.disk in
-    given_up network _ _ _ c.give_up.result.came _ up.came (closed_at_once g.D.Disk was left network closed.closing
-    (λ since history store stands closes. c.law_closed.ensures (opening_of g.D.Disk network since was) was left history store closed.closing stands closes)
-    asked.opened.history c.args.opening.store (just_opened g.D.Disk was network c.args.opening.store asked) closed.closes closed.call)
+    given_up network _ _ _ c.give_up.result.came _ up.came
+    (closed_at_once g.D.Disk was c.give_up.result.disk network up.closed.0 asked.opened.history c.args.opening.store (just_opened g.D.Disk was network c.args.opening.store asked) up.closed.1)
 
 pub returns-in_default-clause-speaks : goal.returns-in_default-clause-speaks
 returns-in_default-clause-speaks g c = rw (c.give_up.ensures.came, c.give_up.ensures.door) refl
@@ -27,11 +23,8 @@ returns-in-Err-clause-serves g c =
     let network = c.args.opening.store.ledger.network in
     let was = c.args.opening.was.value in
     let up = c.give_up-in-Err.ensures in
-    let closed = up.closes in
-    let left = c.give_up-in-Err.result.disk in
-    given_up network _ _ _ c.give_up-in-Err.result.came _ up.came (closed_at_once g.D.Disk was left network closed.closing
-    (λ since history store stands closes. c.law_closed.ensures (opening_of g.D.Disk network since was) was left history store closed.closing stands closes)
-    asked.opened.history c.in-Err.store (rw c.in-Err.ensures.back (just_opened g.D.Disk was network c.args.opening.store asked)) closed.closes closed.call)
+    given_up network _ _ _ c.give_up-in-Err.result.came _ up.came
+    (closed_at_once g.D.Disk was c.give_up-in-Err.result.disk network up.closed.0 asked.opened.history c.in-Err.store (rw c.in-Err.ensures.back (just_opened g.D.Disk was network c.args.opening.store asked)) up.closed.1)
 
 pub returns-in-Err-clause-speaks : goal.returns-in-Err-clause-speaks
 returns-in-Err-clause-speaks g c = rw (c.give_up-in-Err.ensures.came, c.give_up-in-Err.ensures.door) refl
@@ -41,13 +34,10 @@ returns-in-Err-announce-clause-serves g c =
     let network = c.args.opening.store.ledger.network in
     let was = c.args.opening.was.value in
     let up = c.give_up-in-Err-announce.ensures in
-    let closed = up.closes in
-    let left = c.give_up-in-Err-announce.result.disk in
     let made = c.in-Ok-share.ensures in
-    given_up network _ _ _ c.give_up-in-Err-announce.result.came _ up.came (stays_shared g.D.Disk was left network closed.closing
-    (λ since history store stands closes. c.law_closed.ensures (opening_of g.D.Disk network since was) was left history store closed.closing stands closes)
+    given_up network _ _ _ c.give_up-in-Err-announce.result.came _ up.came (stays_shared g.D.Disk was c.give_up-in-Err-announce.result.disk network up.closed.0
     _ (λ since store opens. is_opening g.D.Disk was _ _ _ _ network c.requires.had c.requires.content c.requires.moment c.requires.network since store opens) c.in-Ok-share.made.1 made.stands.first c.close.result (search rules)
-    made.stands.begins c.close.ensures.history c.close.ensures.faults closed.closes closed.call (search rules))
+    made.stands.begins c.close.ensures.history c.close.ensures.faults up.closed.1 (search rules))
 
 pub returns-in-Err-announce-clause-speaks : goal.returns-in-Err-announce-clause-speaks
 returns-in-Err-announce-clause-speaks g c =
@@ -60,15 +50,13 @@ pub returns-clause-serves : goal.returns-clause-serves
 returns-clause-serves g c =
     let network = c.args.opening.store.ledger.network in
     let was = c.args.opening.was.value in
-    let left = c.close-closing.result.1 in
-    let closing = c.close-closing.result.0 in
+    let closed = c.close_store-closing in
     let made = c.in-Ok-share.ensures in
     let served = c.serve-accepting in
-    serves_shared g.D.Disk was left network closing
-    (λ since history store stands closes. c.law_closed.ensures (opening_of g.D.Disk network since was) was left history store closing stands closes)
+    serves_shared g.D.Disk was closed.result.1 network closed.result.0
     _ (λ since store opens. is_opening g.D.Disk was _ _ _ _ network c.requires.had c.requires.content c.requires.moment c.requires.network since store opens) served.result.pass made.stands.first c.close-2.result (search rules)
-    (subst (λ (origin : Origin). OpensAt g.D.Disk g.N.AtOpening.had g.N.AtOpening.content g.N.AtOpening.moment g.N.AtOpening.network origin.since made.stands.first) (sym served.ensures.same.origin) made.stands.begins) c.close-2.ensures.history c.close-2.ensures.faults c.close-closing.ensures.closes c.close-closing.ensures.call
-    (IsServedAlong c.args.request.connections (seen_of (g.L.Door.frame c.args.door) (g.L.Door.told c.args.door) (g.L.Door.opened_at c.args.door)) (seen_of (g.L.Door.frame served.result.door) (g.L.Door.told served.result.door) (g.L.Door.opened_at served.result.door))) c.close-closing.result.2 served.result.accepting (search rules)
+    (subst (λ (origin : Origin). OpensAt g.D.Disk g.N.AtOpening.had g.N.AtOpening.content g.N.AtOpening.moment g.N.AtOpening.network origin.since made.stands.first) (sym served.ensures.same.origin) made.stands.begins) c.close-2.ensures.history c.close-2.ensures.faults closed.ensures.closed
+    (IsServedAlong c.args.request.connections (seen_of (g.L.Door.frame c.args.door) (g.L.Door.told c.args.door) (g.L.Door.opened_at c.args.door)) (seen_of (g.L.Door.frame served.result.door) (g.L.Door.told served.result.door) (g.L.Door.opened_at served.result.door))) closed.result.2 served.result.accepting (search rules)
     (rw c.in-Ok.ensures at (rw c.announce.ensures.told at served.ensures.served))
 
 pub share-requires : goal.share-requires
