@@ -5,18 +5,15 @@
 ghost use Rattle.std.specs.Prelude.{◌≡◌, None, IfOk};
 ghost use Rattle.hose_disk.specs.steps.CabinetState.{cabinet_frame};
 
-use crate::trouble::Trouble;
-use crate::words::{from_hex, number};
+use cases_common::{Told, Trouble, from_hex, number};
 use hose_disk::{Cabinet, Disk, DiskCall, Failed, MemCabinet, MemDisk};
 use std::alloc::Global;
 
 /// What comes of the calls of these words on a cabinet with the text `t` of 5, 6 and 7 and the disk
 /// `j`, whose second write fails.
-pub fn outcome(alloc: Global, words: &str) -> Result<String, Trouble> {
+pub fn tell_outcome(alloc: Global, words: &str, told: &mut Told) -> Result<(), Trouble> {
     let mut cabinet = filled(alloc)?;
-    let mut told = String::new(alloc);
-    tell_words(alloc, &mut cabinet, words, &mut told)?;
-    Ok(told)
+    tell_words(alloc, &mut cabinet, words, told)
 }
 
 fn filled(alloc: Global) -> Result<MemCabinet, Trouble>
@@ -33,7 +30,7 @@ fn tell_words(
     alloc: Global,
     cabinet: &mut MemCabinet,
     words: &str,
-    told: &mut String,
+    told: &mut Told,
 ) -> Result<(), Trouble>
     requires { (cabinet_frame cabinet.old).out ≡ None }
 {
@@ -47,7 +44,7 @@ fn tell_word(
     alloc: Global,
     cabinet: &mut MemCabinet,
     word: &str,
-    told: &mut String,
+    told: &mut Told,
 ) -> Result<(), Trouble>
     requires { (cabinet_frame cabinet.old).out ≡ None }
     ensures { (cabinet_frame cabinet.new).out ≡ None }
@@ -57,7 +54,8 @@ fn tell_word(
         return Ok(cabinet.fail(number(rest)?)?);
     }
     let got = made(alloc, cabinet, call, rest)?;
-    tell(alloc, got, cabinet.faults().count, cabinet.absent(), told)
+    tell(alloc, got, cabinet.faults().count, cabinet.absent(), told);
+    Ok(())
 }
 
 // What a call gives: a text is read, or a disk is written at its end.
@@ -79,22 +77,14 @@ fn made(
 }
 
 // What a call gave, and how many calls have failed by then and how many texts were not there.
-fn tell(
-    alloc: Global,
-    got: Result<u64, Failed>,
-    faults: u64,
-    absent: u64,
-    told: &mut String,
-) -> Result<(), Trouble> {
-    let text = match got {
-        Ok(digits) => format!(in alloc; "{digits}")?,
-        Err(Failed) => format!(in alloc; "failed {faults} absent {absent}")?,
-    };
+fn tell(alloc: Global, got: Result<u64, Failed>, faults: u64, absent: u64, told: &mut Told) {
     if !told.is_empty() {
-        told.push_str(" ")?;
+        told.put(" ");
     }
-    told.push_str(text.as_str())?;
-    Ok(())
+    match got {
+        Ok(digits) => told.add(format!(in alloc; "{digits}")),
+        Err(Failed) => told.add(format!(in alloc; "failed {faults} absent {absent}")),
+    }
 }
 
 fn digits(bytes: &[u8]) -> u64 {

@@ -1,6 +1,5 @@
 // What is changed in the bytes of a case, once for each number of a range.
-use crate::trouble::Trouble;
-use crate::words::number;
+use cases_common::{Trouble, number};
 use std::alloc::{AllocError, Global};
 
 /// The numbers from one up to another, which is none of them.

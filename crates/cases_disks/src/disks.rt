@@ -1,8 +1,7 @@
 // Disks in memory: calls, some of which fail, and what a stop then leaves.
 use crate::change::Range;
-use crate::trouble::Trouble;
-use crate::words::{from_hex, number};
-use hose_disk::{Disk, DiskCall, Failed, MemDisk, Pick};
+use cases_common::{Told, Trouble, disk_call, from_hex, number};
+use hose_disk::{Disk, Failed, MemDisk, Pick};
 use std::alloc::Global;
 
 // How many bytes of a disk are read at most.
@@ -12,18 +11,16 @@ const PICKS: [Pick; 4] = [Pick::Kept, Pick::Lost, Pick::Fill(0), Pick::Fill(9)];
 
 /// What comes of the calls of these words on an empty disk: a point for each call that is done and
 /// an `x` for each that fails, and what the disk holds or what the words ask for.
-pub fn outcome(alloc: Global, words: &str) -> Result<String, Trouble> {
+pub fn tell_outcome(alloc: Global, words: &str, told: &mut Told) -> Result<(), Trouble> {
     let mut disk = MemDisk::new(alloc)?;
-    let mut told = String::new(alloc);
-    tell_words(alloc, &mut disk, words, &mut told)?;
-    Ok(told)
+    tell_words(alloc, &mut disk, words, told)
 }
 
 fn tell_words(
     alloc: Global,
     disk: &mut MemDisk,
     words: &str,
-    told: &mut String,
+    told: &mut Told,
 ) -> Result<(), Trouble> {
     for word in words.split_whitespace() {
         tell_word(alloc, disk, word, told)?;
@@ -35,44 +32,28 @@ fn tell_word(
     alloc: Global,
     disk: &mut MemDisk,
     word: &str,
-    told: &mut String,
+    told: &mut Told,
 ) -> Result<(), Trouble> {
     let (call, rest) = word.split_once(':').unwrap_or((word, ""));
     match call {
         "fail" => fail(disk, rest),
         "held" => tell_held(alloc, disk, told),
-        "count" => tell_counts(alloc, disk, told),
+        "count" => {
+            tell_counts(alloc, disk, told);
+            Ok(())
+        }
         "stops" => tell_stops(alloc, disk, Range::read(rest)?, told),
-        _ => tell_made(alloc, disk, call, rest, told),
+        _ => {
+            told.put(made(alloc, disk, call, rest)?);
+            Ok(())
+        }
     }
 }
 
 /// The calls of this kind and number are to fail.
 pub fn fail(disk: &mut MemDisk, rest: &str) -> Result<(), Trouble> {
     let (kind, nth) = rest.split_once(':').ok_or(Trouble::Word)?;
-    disk.fail(kind_of(kind)?, number(nth)?)?;
-    Ok(())
-}
-
-fn kind_of(word: &str) -> Result<DiskCall, Trouble> {
-    match word {
-        "len" => Ok(DiskCall::Len),
-        "read" => Ok(DiskCall::Read),
-        "write" => Ok(DiskCall::Write),
-        "cut" => Ok(DiskCall::Cut),
-        "sync" => Ok(DiskCall::Sync),
-        _ => Err(Trouble::Word),
-    }
-}
-
-fn tell_made(
-    alloc: Global,
-    disk: &mut MemDisk,
-    call: &str,
-    rest: &str,
-    told: &mut String,
-) -> Result<(), Trouble> {
-    told.push_str(made(alloc, disk, call, rest)?)?;
+    disk.fail(disk_call(kind).ok_or(Trouble::Word)?, number(nth)?)?;
     Ok(())
 }
 
@@ -129,35 +110,28 @@ fn cut(disk: &mut MemDisk, to: u64) -> Result<Result<(), Failed>, Failed> {
 }
 
 // What the disk holds, in digits.
-fn tell_held(alloc: Global, disk: &mut MemDisk, told: &mut String) -> Result<(), Trouble> {
+fn tell_held(alloc: Global, disk: &mut MemDisk, told: &mut Told) -> Result<(), Trouble> {
     let mut bytes = [0; HELD];
     let len = disk.read_at(0, &mut bytes)?;
-    told.push_str(" ")?;
+    told.put(" ");
     if len == 0 {
-        told.push_str("empty")?;
-        return Ok(());
+        told.put("empty");
+    } else {
+        told.add(hex::encode(alloc, &bytes[..len]));
     }
-    told.push_str(hex::encode(alloc, &bytes[..len])?.as_str())?;
     Ok(())
 }
 
-fn tell_counts(alloc: Global, disk: &MemDisk, told: &mut String) -> Result<(), Trouble> {
+fn tell_counts(alloc: Global, disk: &MemDisk, told: &mut Told) {
     let (calls, faults) = (disk.calls(), disk.faults());
     let (failed, starved) = (faults.count, faults.starved);
-    let counts = format!(in alloc; " {calls} calls {failed} faults {starved} starved")?;
-    told.push_str(counts.as_str())?;
-    Ok(())
+    told.add(format!(in alloc; " {calls} calls {failed} faults {starved} starved"));
 }
 
 // What a stop after each of these numbers of calls leaves by each pick.
-fn tell_stops(
-    alloc: Global,
-    disk: &MemDisk,
-    range: Range,
-    told: &mut String,
-) -> Result<(), Trouble> {
+fn tell_stops(alloc: Global, disk: &MemDisk, range: Range, told: &mut Told) -> Result<(), Trouble> {
     for calls in range.from..range.to {
-        told.push_str(" /")?;
+        told.put(" /");
         for pick in PICKS {
             tell_stop(alloc, disk, calls, pick, told)?;
         }
@@ -170,7 +144,7 @@ fn tell_stop(
     disk: &MemDisk,
     calls: u64,
     pick: Pick,
-    told: &mut String,
+    told: &mut Told,
 ) -> Result<(), Trouble> {
     let mut stopped = stopped(alloc, disk, calls, pick)?;
     tell_held(alloc, &mut stopped, told)

@@ -1,5 +1,5 @@
 // Bytes that are read as entries.
-use crate::trouble::Trouble;
+use cases_common::{Told, Trouble, debugged};
 use hose_codec::{CodecFault, decode, encode};
 use std::alloc::Global;
 
@@ -16,7 +16,8 @@ pub fn verdict(alloc: Global, bytes: &[u8]) -> Result<&'static str, Trouble> {
 }
 
 /// The entry of a spelling, as it is printed for those who look for faults.
-pub fn text(alloc: Global, bytes: &[u8]) -> Result<String, Trouble> {
+pub fn tell_text(alloc: Global, bytes: &[u8], told: &mut Told) -> Result<(), Trouble> {
     let entry = decode(alloc, bytes)?;
-    Ok(format!(in alloc; "{entry:?}")?)
+    told.add(debugged(alloc, &entry));
+    Ok(())
 }

@@ -11,17 +11,14 @@ mod change;
 mod disks;
 mod entries;
 mod names;
-mod networks;
 mod stores;
 mod subject;
-mod trouble;
-mod words;
 
+use cases_common::{Trouble, cases_of};
 use names::Names;
 use std::fs;
 use std::process::ExitCode;
 use std::rt::Files;
-use trouble::Trouble;
 
 // The files, in the order in which they are read: names that one gives, those after it may use.
 const FILES: [&str; 6] = [
@@ -67,10 +64,8 @@ fn run_lines<R: Print + AllocGlobal>(
     names: &mut Names,
 ) -> Result<Count, Trouble> {
     let mut count = Count::default();
-    for line in text.lines() {
-        if !line.is_empty() && !line.starts_with('#') {
-            run_line(rt, line, names, &mut count)?;
-        }
+    for line in &cases_of(rt.alloc(), text)? {
+        run_line(rt, line, names, &mut count)?;
     }
     Ok(count)
 }

@@ -1,7 +1,6 @@
 // Bytes that a file names, and words that stand for bytes.
 use crate::change::Range;
-use crate::trouble::Trouble;
-use crate::words::{first, from_hex, number};
+use cases_common::{Trouble, first, from_hex, number};
 use std::alloc::Global;
 
 #[derive(Drop)]

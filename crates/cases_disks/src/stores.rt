@@ -1,16 +1,14 @@
 // Stores on disks in memory, opened, with entries that are committed, closed and stopped.
 use crate::disks::{fail, stopped};
 use crate::names::Names;
-use crate::networks::named;
 use crate::subject::other;
-use crate::trouble::Trouble;
-use crate::words::{first, number};
+use cases_common::{Told, Trouble, first, named, number};
 use hose_book::{Book, Books, Committed};
 use hose_codec::decode;
 use hose_disk::{Disk, Failed, MemDisk, Pick};
 use hose_graph::Topology;
 use hose_store::{Store, StoreFault};
-use std::alloc::{AllocError, Global};
+use std::alloc::Global;
 
 // What a stop may leave of bytes that no sync made durable, by the words of `pick_of`.
 const PICKS: [&str; 5] = ["kept", "lost", "0", "1", "255"];
@@ -44,61 +42,63 @@ pub enum Asked {
 }
 
 /// What is told of a store that is opened on a disk of these bytes.
-pub fn found(alloc: Global, network: &str, bytes: &[u8], asked: Asked) -> Result<String, Trouble> {
+pub fn tell_found(
+    alloc: Global,
+    network: &str,
+    bytes: &[u8],
+    asked: Asked,
+    told: &mut Told,
+) -> Result<(), Trouble> {
     let top = named(alloc, network)?;
-    Ok(opened_on(alloc, disk_of(alloc, bytes)?, top, bytes, asked)?)
+    tell_opened(
+        &open(alloc, disk_of(alloc, bytes)?, top),
+        alloc,
+        bytes,
+        asked,
+        told,
+    );
+    Ok(())
 }
 
-fn opened_on(
-    alloc: Global,
-    disk: MemDisk,
-    top: Topology,
-    bytes: &[u8],
-    asked: Asked,
-) -> Result<String, AllocError> {
-    told(alloc, &open(alloc, disk, top), bytes, asked)
-}
-
-fn told<D: Disk>(
-    alloc: Global,
+fn tell_opened<D: Disk>(
     opened: &Result<Store<D>, (StoreFault, D)>,
+    alloc: Global,
     bytes: &[u8],
     asked: Asked,
-) -> Result<String, AllocError> {
+    told: &mut Told,
+) {
     match opened {
         Ok(store) => match asked {
-            Asked::Book => told_book(alloc, store.book()),
-            Asked::Chain => hex::encode(alloc, &store.chain()),
+            Asked::Book => tell_book(alloc, store.book(), told),
+            Asked::Chain => told.add(hex::encode(alloc, &store.chain())),
         },
-        Err(refused) => told_fault(alloc, &refused.0, bytes),
+        Err(refused) => tell_fault(alloc, &refused.0, bytes, told),
     }
 }
 
 // The epoch of a book, and what is reserved on its first three links.
-fn told_book(alloc: Global, book: &Book) -> Result<String, AllocError> {
+fn tell_book(alloc: Global, book: &Book, told: &mut Told) {
     let epoch = book.epoch();
-    let mut told = format!(in alloc; "book {epoch}")?;
+    told.add(format!(in alloc; "book {epoch}"));
     for load in book.loads().iter().take(3) {
-        told.push_str(format!(in alloc; " {load}")?.as_str())?;
+        told.add(format!(in alloc; " {load}"));
     }
-    Ok(told)
 }
 
 // Of the digest that a journal has it is told only where that is not the one of its bytes.
-fn told_fault(alloc: Global, fault: &StoreFault, bytes: &[u8]) -> Result<String, AllocError> {
+fn tell_fault(alloc: Global, fault: &StoreFault, bytes: &[u8], told: &mut Told) {
     match fault {
-        StoreFault::Damaged { at } => format!(in alloc; "damaged {at}"),
+        StoreFault::Damaged { at } => told.add(format!(in alloc; "damaged {at}")),
         StoreFault::Other { kept, given } => {
-            let told = if has_digest(bytes, kept) {
-                "other"
+            told.put(if has_digest(bytes, kept) {
+                "other than "
             } else {
-                "another digest"
-            };
-            let given = hex::encode(alloc, given)?;
-            format!(in alloc; "{told} than {given}")
+                "another digest than "
+            });
+            told.add(hex::encode(alloc, given));
         }
-        StoreFault::Disk => String::from_str(alloc, "disk"),
-        StoreFault::Memory => String::from_str(alloc, "memory"),
+        StoreFault::Disk => told.put("disk"),
+        StoreFault::Memory => told.put("memory"),
     }
 }
 
@@ -109,11 +109,19 @@ fn has_digest(bytes: &[u8], digest: &[u8]) -> bool {
 
 /// How long the disk is that comes back where a store of the first network is refused on a disk of
 /// these bytes, and what one of the second is opened as on it.
-pub fn again(alloc: Global, network: &str, second: &str, bytes: &[u8]) -> Result<String, Trouble> {
+pub fn tell_again(
+    alloc: Global,
+    network: &str,
+    second: &str,
+    bytes: &[u8],
+    told: &mut Told,
+) -> Result<(), Trouble> {
     let mut disk = refused(alloc, network, bytes)?;
     let len = disk.len()?;
-    let told = opened_on(alloc, disk, named(alloc, second)?, bytes, Asked::Book)?;
-    Ok(format!(in alloc; "{told} of {len} bytes")?)
+    let top = named(alloc, second)?;
+    tell_opened(&open(alloc, disk, top), alloc, bytes, Asked::Book, told);
+    told.add(format!(in alloc; " of {len} bytes"));
+    Ok(())
 }
 
 fn refused(alloc: Global, network: &str, bytes: &[u8]) -> Result<MemDisk, Trouble> {
@@ -127,43 +135,45 @@ fn given_back<D: Disk>(opened: Result<Store<D>, (StoreFault, D)>) -> Result<D, T
     Ok(refused.1)
 }
 
-/// What comes of entries that are committed to a store, which is then closed. For `commits` that is
-/// how each of them went, the book, how long the disk is and how many calls were made on it; for
-/// `left` what is opened after a stop, whose words `BEFORE:PICK` come first.
-pub fn committed(
+/// What comes of entries that are committed to a store, which is then closed: how each of them
+/// went, the book, how long the disk is and how many calls were made on it.
+pub fn tell_commits(
     alloc: Global,
     names: &Names,
-    word: &str,
     network: &str,
     words: &str,
-) -> Result<String, Trouble> {
-    let mut told = String::new(alloc);
-    match word {
-        "commits" => {
-            let mut disk = run(alloc, names, network, words, &mut told)?;
-            tell_length(alloc, &mut disk, &mut told)?;
-            Ok(told)
-        }
-        "left" => {
-            let (stop, words) = first(words);
-            let disk = run(alloc, names, network, words, &mut told)?;
-            told_stop(alloc, network, &disk, stop)
-        }
-        _ => Err(Trouble::Word),
-    }
+    told: &mut Told,
+) -> Result<(), Trouble> {
+    let mut disk = run(alloc, names, network, words, told)?;
+    tell_length(alloc, &mut disk, told)
 }
 
-fn tell_length(alloc: Global, disk: &mut MemDisk, told: &mut String) -> Result<(), Trouble> {
+fn tell_length(alloc: Global, disk: &mut MemDisk, told: &mut Told) -> Result<(), Trouble> {
     let (calls, len) = (disk.calls(), disk.len()?);
-    told.push_str(format!(in alloc; ", {len} bytes after {calls} calls")?.as_str())?;
+    told.add(format!(in alloc; ", {len} bytes after {calls} calls"));
     Ok(())
 }
 
-// What is opened after a stop so many calls before the last one, by a pick.
-fn told_stop(alloc: Global, network: &str, disk: &MemDisk, stop: &str) -> Result<String, Trouble> {
-    let (before, pick) = stop.split_once(':').ok_or(Trouble::Word)?;
-    let calls = disk.calls().saturating_sub(number(before)?);
-    opened_after(alloc, network, disk, calls, pick_of(pick)?)
+/// What is opened after a stop of such a store. The words `BEFORE:PICK` of the stop come first.
+pub fn tell_left(
+    alloc: Global,
+    names: &Names,
+    network: &str,
+    words: &str,
+    told: &mut Told,
+) -> Result<(), Trouble> {
+    let (stop, words) = first(words);
+    let disk = run(alloc, names, network, words, &mut Told::new(alloc))?;
+    tell_opened_after(alloc, network, &disk, stop_of(stop, disk.calls())?, told)
+}
+
+// A stop so many calls before the last of these, by a pick.
+fn stop_of(words: &str, calls: u64) -> Result<Stop, Trouble> {
+    let (before, pick) = words.split_once(':').ok_or(Trouble::Word)?;
+    Ok(Stop {
+        calls: calls.saturating_sub(number(before)?),
+        pick: pick_of(pick)?,
+    })
 }
 
 /// What is opened after a stop of such a store, by the first of its calls and of the picks by which
@@ -175,7 +185,7 @@ pub fn first_left(
     words: &str,
     wanted: &str,
 ) -> Result<Option<String>, Trouble> {
-    let disk = run(alloc, names, network, words, &mut String::new(alloc))?;
+    let disk = run(alloc, names, network, words, &mut Told::new(alloc))?;
     first_left_of(alloc, network, &disk, wanted)
 }
 
@@ -187,7 +197,8 @@ fn first_left_of(
 ) -> Result<Option<String>, Trouble> {
     for calls in 0..=disk.calls() {
         for pick in PICKS {
-            let got = opened_after(alloc, network, disk, calls, pick_of(pick)?)?;
+            let pick = pick_of(pick)?;
+            let got = opened_after(alloc, network, disk, Stop { calls, pick })?;
             if let Some(got) = other(got, wanted) {
                 return Ok(Some(got));
             }
@@ -204,23 +215,19 @@ fn run(
     names: &Names,
     network: &str,
     words: &str,
-    told: &mut String,
+    told: &mut Told,
 ) -> Result<MemDisk, Trouble> {
     let mut disk = first_disk(alloc, names, words)?;
     fail_all(&mut disk, words)?;
     match open(alloc, disk, named(alloc, network)?) {
         Ok(store) => went(alloc, names, store, words, told),
-        Err(refused) => returned(alloc, refused, told),
+        Err(refused) => Ok(returned(alloc, refused, told)),
     }
 }
 
-fn returned(
-    alloc: Global,
-    refused: (StoreFault, MemDisk),
-    told: &mut String,
-) -> Result<MemDisk, Trouble> {
-    told.push_str(told_fault(alloc, &refused.0, &[])?.as_str())?;
-    Ok(refused.1)
+fn returned(alloc: Global, refused: (StoreFault, MemDisk), told: &mut Told) -> MemDisk {
+    tell_fault(alloc, &refused.0, &[], told);
+    refused.1
 }
 
 fn went(
@@ -228,11 +235,11 @@ fn went(
     names: &Names,
     store: Store<MemDisk>,
     words: &str,
-    told: &mut String,
+    told: &mut Told,
 ) -> Result<MemDisk, Trouble> {
     let mut store = store;
     commit_all(alloc, names, &mut store, words, told)?;
-    closed(alloc, store, told)
+    Ok(closed(alloc, store, told))
 }
 
 // A disk on which no call was made yet.
@@ -269,12 +276,12 @@ fn commit_all(
     names: &Names,
     store: &mut Store<MemDisk>,
     words: &str,
-    told: &mut String,
+    told: &mut Told,
 ) -> Result<(), Trouble> {
     for word in words.split_whitespace() {
         if names_entry(word) {
             let spelling = names.get(word).ok_or(Trouble::Word)?;
-            told.push_str(commit(alloc, store, spelling)?)?;
+            told.put(commit(alloc, store, spelling)?);
         }
     }
     Ok(())
@@ -304,15 +311,15 @@ fn word_of(committed: Committed) -> &'static str {
 }
 
 // Tells whether closing succeeded, and the book then.
-fn closed(alloc: Global, store: Store<MemDisk>, told: &mut String) -> Result<MemDisk, Trouble> {
+fn closed(alloc: Global, store: Store<MemDisk>, told: &mut Told) -> MemDisk {
     let (closing, disk, book) = close(store);
-    told.push_str(if closing.is_ok() {
+    told.put(if closing.is_ok() {
         "closed "
     } else {
         "not closed "
-    })?;
-    told.push_str(told_book(alloc, &book)?.as_str())?;
-    Ok(disk)
+    });
+    tell_book(alloc, &book, told);
+    disk
 }
 
 // The one call that closes a store, whose contract is long.
@@ -328,14 +335,33 @@ fn pick_of(word: &str) -> Result<Pick, Trouble> {
     }
 }
 
+// A stop after so many calls of a disk, and what it leaves of bytes that no sync made durable.
+#[derive(Clone, Copy)]
+struct Stop {
+    calls: u64,
+    pick: Pick,
+}
+
 fn opened_after(
     alloc: Global,
     network: &str,
     disk: &MemDisk,
-    calls: u64,
-    pick: Pick,
+    stop: Stop,
 ) -> Result<String, Trouble> {
+    let mut told = Told::new(alloc);
+    tell_opened_after(alloc, network, disk, stop, &mut told)?;
+    Ok(told.finish()?)
+}
+
+fn tell_opened_after(
+    alloc: Global,
+    network: &str,
+    disk: &MemDisk,
+    stop: Stop,
+    told: &mut Told,
+) -> Result<(), Trouble> {
     let top = named(alloc, network)?;
-    let disk = stopped(alloc, disk, calls, pick)?;
-    Ok(opened_on(alloc, disk, top, &[], Asked::Book)?)
+    let disk = stopped(alloc, disk, stop.calls, stop.pick)?;
+    tell_opened(&open(alloc, disk, top), alloc, &[], Asked::Book, told);
+    Ok(())
 }

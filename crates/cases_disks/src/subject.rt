@@ -2,9 +2,8 @@
 use crate::change::{Change, Range};
 use crate::names::Names;
 use crate::stores::Asked;
-use crate::trouble::Trouble;
-use crate::words::first;
 use crate::{cabinets, disks, entries, stores};
+use cases_common::{Told, Trouble, first};
 use std::alloc::{AllocError, Global};
 
 /// What comes of a case where that is none of the outcomes that are wanted, which `|` parts.
@@ -38,23 +37,64 @@ pub fn other(got: String, wanted: &str) -> Option<String> {
 
 // What comes of a case.
 fn outcome(alloc: Global, names: &Names, word: &str, rest: &str) -> Result<String, Trouble> {
+    let mut told = Told::new(alloc);
+    tell_outcome(alloc, names, word, rest, &mut told)?;
+    Ok(told.finish()?)
+}
+
+fn tell_outcome(
+    alloc: Global,
+    names: &Names,
+    word: &str,
+    rest: &str,
+    told: &mut Told,
+) -> Result<(), Trouble> {
     match word {
-        "disk" => disks::outcome(alloc, rest),
-        "cabinet" => cabinets::outcome(alloc, rest),
-        "entry" | "text" | "store" | "chain" => {
-            let given = Given::read(alloc, names, word, rest)?;
-            outcome_of(alloc, &given, &given.bytes)
-        }
-        "again" => {
-            let (network, rest) = first(rest);
-            let (second, words) = first(rest);
-            stores::again(alloc, network, second, &names.bytes(alloc, words)?)
-        }
-        _ => {
-            let (network, words) = first(rest);
-            stores::committed(alloc, names, word, network, words)
-        }
+        "disk" => disks::tell_outcome(alloc, rest, told),
+        "cabinet" => cabinets::tell_outcome(alloc, rest, told),
+        "entry" | "text" | "store" | "chain" => tell_given(alloc, names, word, rest, told),
+        _ => tell_store(alloc, names, word, rest, told),
     }
+}
+
+fn tell_given(
+    alloc: Global,
+    names: &Names,
+    word: &str,
+    rest: &str,
+    told: &mut Told,
+) -> Result<(), Trouble> {
+    let given = Given::read(alloc, names, word, rest)?;
+    tell_outcome_of(alloc, &given, &given.bytes, told)
+}
+
+// What comes of a store on which entries are committed, or of one that was refused.
+fn tell_store(
+    alloc: Global,
+    names: &Names,
+    word: &str,
+    rest: &str,
+    told: &mut Told,
+) -> Result<(), Trouble> {
+    let (network, words) = first(rest);
+    match word {
+        "commits" => stores::tell_commits(alloc, names, network, words, told),
+        "left" => stores::tell_left(alloc, names, network, words, told),
+        "again" => tell_again(alloc, names, network, words, told),
+        _ => Err(Trouble::Word),
+    }
+}
+
+fn tell_again(
+    alloc: Global,
+    names: &Names,
+    network: &str,
+    words: &str,
+    told: &mut Told,
+) -> Result<(), Trouble> {
+    let (second, words) = first(words);
+    let bytes = names.bytes(alloc, words)?;
+    stores::tell_again(alloc, network, second, &bytes, told)
 }
 
 // Bytes, of which it is asked what comes of them.
@@ -130,11 +170,25 @@ fn changed(
 
 // What comes of these bytes in place of those that are given.
 fn outcome_of(alloc: Global, given: &Given<'_>, bytes: &[u8]) -> Result<String, Trouble> {
+    let mut told = Told::new(alloc);
+    tell_outcome_of(alloc, given, bytes, &mut told)?;
+    Ok(told.finish()?)
+}
+
+fn tell_outcome_of(
+    alloc: Global,
+    given: &Given<'_>,
+    bytes: &[u8],
+    told: &mut Told,
+) -> Result<(), Trouble> {
     match given.word {
-        "entry" => Ok(String::from_str(alloc, entries::verdict(alloc, bytes)?)?),
-        "text" => entries::text(alloc, bytes),
-        "store" => stores::found(alloc, given.network, bytes, Asked::Book),
-        "chain" => stores::found(alloc, given.network, bytes, Asked::Chain),
+        "entry" => {
+            told.put(entries::verdict(alloc, bytes)?);
+            Ok(())
+        }
+        "text" => entries::tell_text(alloc, bytes, told),
+        "store" => stores::tell_found(alloc, given.network, bytes, Asked::Book, told),
+        "chain" => stores::tell_found(alloc, given.network, bytes, Asked::Chain, told),
         _ => Err(Trouble::Word),
     }
 }

@@ -1,9 +1,9 @@
 // Doors in memory: connections that come from a list, and come back.
-ghost use Rattle.std.specs.Prelude.{◌≡◌, length};
+ghost use Rattle.std.specs.Prelude.{◌≡◌, length, IfOk};
 ghost use Rattle.hose_io.specs.Frame.{Stays};
 
-use crate::trouble::Trouble;
-use hose_io::{Door, Failed, MemDone, MemDoor, MemSource, Sink, Source};
+use cases_common::{Told, Trouble};
+use hose_io::{Door, Failed, MemDoor, MemSource, Sink, Source};
 use std::alloc::{AllocError, Global};
 
 // What is passed may go to another thread.
@@ -11,24 +11,35 @@ fn is_movable<D: Door + Send>(_door: &D) {}
 
 /// What became of the only connection of a door, of which two bytes are taken and to which three
 /// are put, and whether another one comes.
-pub fn only_one(alloc: Global) -> Result<String, Trouble> {
-    let mut inputs = Vec::new(alloc);
-    inputs.push(MemSource::new(alloc, b"abc", 4)?)?;
-    let mut door = MemDoor::new(alloc, inputs)?;
+pub fn tell_only_one(alloc: Global, told: &mut Told) -> Result<(), Trouble> {
+    let mut door = one_comes(alloc)?;
     is_movable(&door);
     door.open(1)?;
     serve_one(&mut door)?;
     let comes = comes(&mut door);
+    tell_ended(alloc, &door, told)?;
+    told.add(format!(in alloc; "\nanother one comes: {comes:?}"));
+    Ok(())
+}
+
+// A door to which one connection comes, with three bytes.
+fn one_comes(alloc: Global) -> Result<MemDoor, AllocError>
+    ensures { IfOk result (λ door. door.accepted ≡ length door.ended) }
+{
+    let mut inputs = Vec::new(alloc);
+    inputs.push(MemSource::new(alloc, b"abc", 4)?)?;
+    MemDoor::new(alloc, inputs)
+}
+
+// The number of the one connection that ended, what was taken of it, what is left, and what was
+// put.
+fn tell_ended(alloc: Global, door: &MemDoor, told: &mut Told) -> Result<(), Trouble> {
     let [done] = door.ended() else {
         return Err(Trouble::Word);
     };
-    Ok(format!(in alloc; "{}\nanother one comes: {comes:?}", done_told(alloc, done)?)?)
-}
-
-// The number of a connection, what was taken of it, what is left, and what was put.
-fn done_told(alloc: Global, done: &MemDone) -> Result<String, AllocError> {
     let (taken, left, put) = (done.input.taken(), done.input.left(), done.output.bytes());
-    format!(in alloc; "{} {taken:?} {left:?} {put:?}", done.number)
+    told.add(format!(in alloc; "{} {taken:?} {left:?} {put:?}", done.number));
+    Ok(())
 }
 
 // Uses the next connection, and ends it. Fails where none comes.
@@ -59,11 +70,12 @@ fn comes(door: &mut MemDoor) -> Result<bool, Failed> {
 
 /// What comes of opening a door and of accepting twice, of which the first and the third call fail,
 /// and how many calls failed then.
-pub fn failing(alloc: Global) -> Result<String, Trouble> {
+pub fn tell_failing(alloc: Global, told: &mut Told) -> Result<(), Trouble> {
     let mut door = MemDoor::new(alloc, Vec::new(alloc))?;
     door.fail(1)?;
     door.fail(3)?;
     let opened = door.open(1);
     let comes = [comes(&mut door), comes(&mut door)];
-    Ok(format!(in alloc; "{opened:?} {comes:?} {}", door.faults().count)?)
+    told.add(format!(in alloc; "{opened:?} {comes:?} {}", door.faults().count));
+    Ok(())
 }

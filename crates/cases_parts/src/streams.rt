@@ -1,34 +1,69 @@
 // Sources, sinks and lines: bytes in pieces, calls that fail, readers and writers of std.
-use crate::trouble::Trouble;
-use crate::words::debugged;
+ghost use Rattle.std.specs.Prelude.{◌<◌, length};
+
+use cases_common::{Told, Trouble, debugged, first, number};
 use hose_io::{Failed, Gather, MemSink, MemSource, Sink, Source, StdSink, StdSource, write_all};
 use hose_words::LineReader;
 use std::alloc::{AllocError, Global};
-use std::array;
 use std::io::{self, ErrorKind, Read, Write};
 
 /// What comes of four takes of four bytes from a source of `abc` in pieces of two, of which the
 /// last fails; and what was taken, how many calls failed and how many bytes are left then.
-pub fn source(alloc: Global) -> Result<String, AllocError> {
+pub fn tell_source(alloc: Global, told: &mut Told) -> Result<(), Trouble> {
     let mut source = MemSource::new(alloc, b"abc", 2)?;
     source.fail(4)?;
-    let taken: [_; 4] = array::from_fn(|_| source.take(&mut [0; 4]));
+    tell_takes(alloc, &mut source, 4, told)?;
     let (bytes, faults, left) = (source.taken(), source.faults().count, source.left().len());
-    format!(in alloc; "{taken:?} {bytes:?} {faults} {left}")
+    told.add(format!(in alloc; " {bytes:?} {faults} {left}"));
+    Ok(())
+}
+
+// What comes of so many takes of four bytes.
+fn tell_takes<S: Source>(
+    alloc: Global,
+    source: &mut S,
+    count: u32,
+    told: &mut Told,
+) -> Result<(), AllocError> {
+    let mut taken = Vec::new(alloc);
+    for _ in 0..count {
+        taken.push(source.take(&mut [0; 4]))?;
+    }
+    told.add(debugged(alloc, &taken));
+    Ok(())
 }
 
 /// What comes of three puts of two bytes at a sink of which the first call fails; and what it has,
 /// how many calls failed and how many found no memory then.
-pub fn sink(alloc: Global) -> Result<String, AllocError> {
+pub fn tell_sink(alloc: Global, told: &mut Told) -> Result<(), Trouble> {
     let mut sink = MemSink::new(alloc)?;
     sink.fail(1)?;
-    let put: [_; 3] = array::from_fn(|_| sink.put(b"ab"));
+    tell_puts(alloc, &mut sink, b"ab", 3, told)?;
     let (bytes, faults) = (sink.bytes(), sink.faults());
-    format!(in alloc; "{put:?} {bytes:?} {} {}", faults.count, faults.starved)
+    told.add(format!(in alloc; " {bytes:?} {} {}", faults.count, faults.starved));
+    Ok(())
+}
+
+// What comes of so many puts of the same bytes.
+fn tell_puts<O: Sink>(
+    alloc: Global,
+    sink: &mut O,
+    bytes: &[u8],
+    count: u32,
+    told: &mut Told,
+) -> Result<(), AllocError>
+    requires { 0 < length bytes.now }
+{
+    let mut put = Vec::new(alloc);
+    for _ in 0..count {
+        put.push(sink.put(bytes))?;
+    }
+    told.add(debugged(alloc, &put));
+    Ok(())
 }
 
 /// What comes of a text of 4,096 bytes and then a few where this call fails, and how much is out.
-pub fn gathered(alloc: Global, failing: u64) -> Result<String, AllocError> {
+pub fn tell_gathered(alloc: Global, failing: u64, told: &mut Told) -> Result<(), Trouble> {
     let mut sink = MemSink::new(alloc)?;
     sink.fail(failing)?;
     let mut text = Gather::new();
@@ -36,7 +71,8 @@ pub fn gathered(alloc: Global, failing: u64) -> Result<String, AllocError> {
     text.add(&mut sink, b"b");
     text.add_number(&mut sink, 10);
     let done = text.finish(&mut sink);
-    format!(in alloc; "{done:?} {}", sink.bytes().len())
+    told.add(format!(in alloc; "{done:?} {}", sink.bytes().len()));
+    Ok(())
 }
 
 // Gives and takes a byte in each of its calls. The second is interrupted, the fourth moves nothing,
@@ -76,55 +112,61 @@ impl Write for Trickle {
 
 /// What comes of six takes from a reader that is interrupted, ends and fails, of six puts to such a
 /// writer, and of three whole texts.
-pub fn trickled(alloc: Global) -> Result<String, AllocError> {
+pub fn tell_trickled(alloc: Global, told: &mut Told) -> Result<(), Trouble> {
     let mut source = StdSource::new(Trickle { calls: 0 });
-    let taken: [_; 6] = array::from_fn(|_| source.take(&mut [0; 3]));
+    tell_takes(alloc, &mut source, 6, told)?;
+    told.put("\n");
     let mut sink = StdSink::new(Trickle { calls: 0 });
-    let put: [_; 6] = array::from_fn(|_| sink.put(b"abc"));
+    tell_puts(alloc, &mut sink, b"abc", 6, told)?;
+    told.put("\n");
+    tell_whole(alloc, told);
+    Ok(())
+}
+
+fn tell_whole(alloc: Global, told: &mut Told) {
     let mut sink = StdSink::new(Trickle { calls: 0 });
-    let whole: [_; 3] = array::from_fn(|_| write_all(&mut sink, b"abc"));
-    format!(in alloc; "{taken:?}\n{put:?}\n{whole:?}")
+    let whole = [
+        write_all(&mut sink, b"abc"),
+        write_all(&mut sink, b"abc"),
+        write_all(&mut sink, b"abc"),
+    ];
+    told.add(debugged(alloc, &whole));
 }
 
 /// What two bytes are that pass through a reader and a writer of std.
-pub fn passed(alloc: Global) -> Result<String, Trouble> {
-    let mut bytes = Vec::new(alloc);
+pub fn tell_passed(alloc: Global, told: &mut Told) -> Result<(), Trouble> {
     let mut piece = [0; 3];
     let count = StdSource::new(b"ab".as_slice()).take(&mut piece)?;
+    let mut bytes = Vec::new(alloc);
     write_all(&mut StdSink::new(&mut bytes), &piece[..count])?;
-    Ok(debugged(alloc, &bytes)?)
+    told.add(debugged(alloc, &bytes));
+    Ok(())
 }
 
 /// The next four lines of a text, given in pieces, of which a call fails, and what is left of it
-/// then. The words are the size of a piece, the call, and the lines, between which a slash stands.
-pub fn lines(alloc: Global, piece: u64, failing: u64, text: &str) -> Result<String, Trouble> {
-    let bytes = parted(alloc, text)?;
-    let mut source = MemSource::new(alloc, &bytes, piece.max(1))?;
-    source.fail(failing)?;
-    let mut lines = LineReader::new(source);
-    let mut told = String::new(alloc);
-    for _ in 0..4 {
-        add_line(alloc, &mut lines, &mut told)?;
-    }
-    let left = debugged(alloc, &lines.into_source().left())?;
-    told.push_str(left.as_str())?;
-    Ok(told)
+/// then. The words are the call, and the lines, between which a slash stands.
+pub fn tell_lines(alloc: Global, piece: u64, words: &str, told: &mut Told) -> Result<(), Trouble> {
+    let (failing, text) = first(words);
+    let mut source = parted(alloc, piece, text)?;
+    source.fail(number(failing)?)?;
+    tell_all(alloc, LineReader::new(source), told);
+    Ok(())
 }
 
 // The lines of a text, between which a slash stands.
-fn parted(alloc: Global, text: &str) -> Result<Vec<u8>, AllocError> {
-    let mut bytes = Vec::new(alloc);
-    for byte in text.as_bytes() {
-        bytes.push(if *byte == b'/' { b'\n' } else { *byte })?;
+fn parted(alloc: Global, piece: u64, text: &str) -> Result<MemSource, AllocError> {
+    let mut bytes = Vec::from_slice(alloc, text.as_bytes())?;
+    for byte in &mut bytes {
+        if *byte == b'/' {
+            *byte = b'\n';
+        }
     }
-    Ok(bytes)
+    MemSource::new(alloc, &bytes, piece.max(1))
 }
 
-fn add_line(
-    alloc: Global,
-    lines: &mut LineReader<MemSource>,
-    told: &mut String,
-) -> Result<(), AllocError> {
-    let line = format!(in alloc; "{:?}\n", lines.next())?;
-    told.push_str(line.as_str())
+fn tell_all(alloc: Global, mut lines: LineReader<MemSource>, told: &mut Told) {
+    for _ in 0..4 {
+        told.add(format!(in alloc; "{:?}\n", lines.next()));
+    }
+    told.add(debugged(alloc, &lines.into_source().left()));
 }

@@ -1,7 +1,5 @@
 // Link sets, hoses, networks, names, and copies of values.
-use crate::plans::first_amounts;
-use crate::trouble::Trouble;
-use crate::words::{debugged, name};
+use cases_common::{Told, Trouble, debugged, name};
 use hose_graph::{Amounts, Endpoint, Entry, Hose, HoseFault, Link, NodeList, Topology};
 use hose_links::LinkSet;
 use std::alloc::{AllocError, Global};
@@ -16,7 +14,7 @@ fn of_three(links: &LinkSet) -> [bool; 3] {
 
 /// Three links at first, with one put, filled but for that, as copied then, and with one cleared;
 /// and whether the copy is the same before that and after it.
-pub fn links(alloc: Global) -> Result<String, AllocError> {
+pub fn tell_links(alloc: Global, told: &mut Told) -> Result<(), Trouble> {
     let mut links = LinkSet::new(alloc, 3)?;
     let at_first = of_three(&links);
     links.put(1);
@@ -28,20 +26,27 @@ pub fn links(alloc: Global) -> Result<String, AllocError> {
     links.clear(0);
     let is_same_then = links.same(&copy);
     let states = [at_first, one_put, filled, of_three(&copy), of_three(&links)];
-    format!(in alloc; "{states:?} {is_same} {is_same_then}")
+    told.add(format!(in alloc; "{states:?} {is_same} {is_same_then}"));
+    Ok(())
 }
 
 /// A hose of these endpoints, with its total, and its copy; or why it is refused.
-pub fn hose_of(alloc: Global, words: &str) -> Result<String, Trouble> {
+pub fn tell_hose(alloc: Global, words: &str, told: &mut Told) -> Result<(), Trouble> {
+    let ends = endpoints(alloc, words)?;
+    match Hose::build(alloc, &ends) {
+        Ok(hose) => told.add(with_copy(alloc, &hose)),
+        Err(HoseFault::Memory) => told.add(Err(AllocError)),
+        Err(fault) => told.add(debugged(alloc, &fault)),
+    }
+    Ok(())
+}
+
+fn endpoints(alloc: Global, words: &str) -> Result<Vec<Endpoint>, Trouble> {
     let mut ends = Vec::new(alloc);
     for word in words.split_whitespace() {
         ends.push(endpoint(word)?)?;
     }
-    match Hose::build(alloc, &ends) {
-        Ok(hose) => Ok(with_copy(alloc, &hose)?),
-        Err(HoseFault::Memory) => Err(Trouble::Memory(AllocError)),
-        Err(fault) => Ok(debugged(alloc, &fault)?),
-    }
+    Ok(ends)
 }
 
 fn endpoint(word: &str) -> Result<Endpoint, Trouble> {
@@ -60,12 +65,13 @@ fn with_copy(alloc: Global, hose: &Hose) -> Result<String, AllocError> {
 
 /// What comes of a node, of the same again, of a link from a node to itself, and of one of these
 /// without capacity, at an empty network.
-pub fn refusals(alloc: Global) -> Result<String, Trouble> {
-    let mut top = Topology::new(alloc)?;
+pub fn tell_refusals(alloc: Global, told: &mut Told) -> Result<(), Trouble> {
     let node = name("a")?;
+    let mut top = Topology::new(alloc)?;
     let added = [top.add_node(node), top.add_node(node)];
     let links = [top.add_link(loop_of(1)), top.add_link(loop_of(0))];
-    Ok(format!(in alloc; "{added:?} {links:?}")?)
+    told.add(format!(in alloc; "{added:?} {links:?}"));
+    Ok(())
 }
 
 fn loop_of(capacity: u64) -> Link {
@@ -79,36 +85,56 @@ fn loop_of(capacity: u64) -> Link {
 }
 
 /// Whether words are names, and whether these are the same.
-pub fn names(alloc: Global, words: &str) -> Result<String, AllocError> {
+pub fn tell_names(alloc: Global, words: &str, told: &mut Told) {
     let (one, other) = words.split_once(' ').unwrap_or((words, ""));
     let (one, other) = (name(one).ok(), name(other).ok());
     let is_same = one == other;
-    format!(in alloc; "{} {} {is_same}", one.is_some(), other.is_some())
+    told.add(format!(in alloc; "{} {} {is_same}", one.is_some(), other.is_some()));
 }
 
 /// Copies of amounts and of a list of nodes, and whether copies of an entry and of a network are
 /// printed alike.
-pub fn copies(alloc: Global, top: &Topology) -> Result<String, Trouble> {
-    let amounts = Amounts::build(alloc, &[(0, 3), (2, 5)])?.copy(alloc)?;
-    let nodes = NodeList::build(alloc, &[0, 2])?.copy(alloc)?;
+pub fn tell_copies(alloc: Global, top: &Topology, told: &mut Told) -> Result<(), Trouble> {
+    told.add(debugged(alloc, &copied_amounts(alloc)?));
+    told.put("\n");
+    told.add(debugged(alloc, &copied_nodes(alloc)?));
+    told.add(format!(in alloc; "\nthe entry {}", is_entry_alike(alloc)?));
+    told.add(format!(in alloc; ", the network {}", is_network_alike(alloc, top)?));
+    Ok(())
+}
+
+fn copied_amounts(alloc: Global) -> Result<Amounts, AllocError> {
+    let amounts = Amounts::build(alloc, &[(0, 3), (2, 5)])?;
+    amounts.copy(alloc)
+}
+
+fn copied_nodes(alloc: Global) -> Result<NodeList, AllocError> {
+    let nodes = NodeList::build(alloc, &[0, 2])?;
+    nodes.copy(alloc)
+}
+
+fn is_entry_alike(alloc: Global) -> Result<bool, Trouble> {
     let entry = admission(alloc)?;
-    let is_entry = are_alike(alloc, &entry, &entry.copy(alloc)?)?;
-    let is_network = are_alike(alloc, top, &top.copy(alloc)?)?;
-    Ok(format!(in alloc; "{amounts:?}\n{nodes:?}\nthe entry {is_entry}, the network {is_network}")?)
+    let copy = entry.copy(alloc)?;
+    Ok(are_alike(alloc, &entry, &copy)?)
+}
+
+fn is_network_alike(alloc: Global, top: &Topology) -> Result<bool, AllocError> {
+    let copy = top.copy(alloc)?;
+    are_alike(alloc, top, &copy)
 }
 
 fn are_alike<T: Debug>(alloc: Global, one: &T, other: &T) -> Result<bool, AllocError> {
-    Ok(debugged(alloc, one)? == debugged(alloc, other)?)
+    let one = debugged(alloc, one)?;
+    let other = debugged(alloc, other)?;
+    Ok(one == other)
 }
 
 // The admission of a hose of three endpoints.
 fn admission(alloc: Global) -> Result<Entry, Trouble> {
-    let customer = name("acme")?;
-    let hose = Hose::build(alloc, &[(0, 3), (1, 4), (2, 5)])?;
-    let amounts = first_amounts(alloc)?;
     Ok(Entry::Admit {
-        customer,
-        hose,
-        amounts,
+        customer: name("acme")?,
+        hose: Hose::build(alloc, &[(0, 3), (1, 4), (2, 5)])?,
+        amounts: Amounts::build(alloc, &[(0, 3), (1, 4), (2, 5)])?,
     })
 }

@@ -4,6 +4,7 @@ ghost use Rattle.std.specs.Prelude.{◌≡◌, ◌≤◌, ◌↔◌, IfOk, IsErr
 use crate::line::Line;
 use crate::pattern::{Pattern, number};
 use crate::trouble::Trouble;
+use cases_common::disk_call;
 use hose_disk::DiskCall;
 use std::alloc::{AllocError, Global};
 
@@ -493,20 +494,9 @@ fn add_disk_calls(
     rest: &str,
 ) -> Result<(), Trouble> {
     let (kind, numbers) = rest.split_once(' ').unwrap_or((rest, ""));
-    let kind = kind_of(kind)?;
+    let kind = disk_call(kind).ok_or(Trouble::Kind)?;
     for nth in &calls_of(alloc, numbers)? {
         failing.push((kind, *nth))?;
     }
     Ok(())
-}
-
-fn kind_of(word: &str) -> Result<DiskCall, Trouble> {
-    match word {
-        "len" => Ok(DiskCall::Len),
-        "read" => Ok(DiskCall::Read),
-        "write" => Ok(DiskCall::Write),
-        "cut" => Ok(DiskCall::Cut),
-        "sync" => Ok(DiskCall::Sync),
-        _ => Err(Trouble::Kind),
-    }
 }

@@ -10,7 +10,7 @@ use hose_graph::{Endpoint, Hose, Name, Reply, Row, Topology};
 use hose_io::MemSource;
 use hose_links::LinkSet;
 use hose_paths::{PlainRows, RowMaker};
-use hose_pool::PlainGate;
+use hose_pool::{Gate, PlainGate};
 use hose_shared::{AnyStore, Caller, Context, Shared};
 use hose_store::Store;
 use hose_topo::read;
@@ -91,46 +91,57 @@ pub fn hose(alloc: Global, top: &Topology, ends: &[Endpoint]) -> Result<Hose, Fa
     Ok(hose)
 }
 
-/// What an admission is answered.
-fn admit<W: Wait, R: RowMaker>(
-    rt: &W,
-    alloc: Global,
-    star: &Book,
+/// A customer at a book, with what its calls wait by and where they take memory.
+#[derive(Drop)]
+pub struct Scene<'a, W> {
+    pub rt: &'a W,
+    pub alloc: Global,
+    pub book: &'a Book,
+    pub customer: &'a Name,
+}
+
+/// What an admission is answered, and the pass.
+pub fn admit<W: Wait, G: Gate, R: RowMaker>(
+    scene: &Scene<'_, W>,
+    gate: &G,
     pass: Pass,
-    customer: &Name,
     hose: Hose,
     rows: &mut R,
-) -> Reply
-    requires of { IsPassOf star.now pass }
-    requires nodes { AreNodes star.now.network hose }
+) -> (Reply, Pass)
+    requires of { IsPassOf scene.now.book.now pass }
+    requires nodes { AreNodes scene.now.book.now.network hose }
+    ensures { IsPassOf scene.now.book.now result.1 }
 {
     let context = Context {
-        rt,
-        alloc,
+        rt: scene.rt,
+        alloc: scene.alloc,
+        gate,
+    };
+    let caller = Caller {
+        context: &context,
+        session: 1,
+        customer: scene.customer,
+    };
+    scene.book.admit(&caller, pass, hose, rows)
+}
+
+/// What a first quote is answered.
+fn quote<W: Wait, R: RowMaker>(scene: &Scene<'_, W>, pass: Pass, hose: Hose, rows: &mut R) -> Reply
+    requires of { IsPassOf scene.now.book.now pass }
+    requires nodes { AreNodes scene.now.book.now.network hose }
+{
+    let context = Context {
+        rt: scene.rt,
+        alloc: scene.alloc,
         gate: &PlainGate,
     };
     let caller = Caller {
         context: &context,
         session: 1,
-        customer,
+        customer: scene.customer,
     };
-    let (reply, _pass) = star.admit(&caller, pass, hose, rows);
-    reply
-}
-
-/// What a first quote is answered.
-fn quote<W: Wait, R: RowMaker>(
-    caller: &Caller<'_, W, PlainGate>,
-    star: &Book,
-    pass: Pass,
-    hose: Hose,
-    rows: &mut R,
-) -> Reply
-    requires of { IsPassOf star.now pass }
-    requires nodes { AreNodes star.now.network hose }
-{
     let mut quotes = Quotes::new();
-    let (reply, _pass) = star.quote(caller, pass, &mut quotes, hose, rows);
+    let (reply, _pass) = scene.book.quote(&caller, pass, &mut quotes, hose, rows);
     reply
 }
 
@@ -206,59 +217,53 @@ struct Answered {
     is_met: bool,
 }
 
+/// What is answered to a hose that is asked for.
+fn ask<W: Wait, R: RowMaker>(
+    scene: &Scene<'_, W>,
+    asked: Asked,
+    pass: Pass,
+    hose: Hose,
+    rows: &mut R,
+) -> Reply
+    requires of { IsPassOf scene.now.book.now pass }
+    requires nodes { AreNodes scene.now.book.now.network hose }
+{
+    match asked {
+        Asked::Admission => {
+            let (reply, _pass) = admit(scene, &PlainGate, pass, hose, rows);
+            reply
+        }
+        Asked::Quote => quote(scene, pass, hose, rows),
+    }
+}
+
 /// Asks for the large hose, and plans it once the other thread was answered.
 fn ask_slowly<W: Wait>(
-    rt: &W,
-    alloc: Global,
-    star: &Book,
-    pass: Pass,
+    scene: &Scene<'_, W>,
     asked: Asked,
-    customer: &Name,
+    pass: Pass,
     hose: Hose,
     flags: &Flags,
 ) -> Answered
-    requires of { IsPassOf star.now pass }
-    requires nodes { AreNodes star.now.network hose }
+    requires of { IsPassOf scene.now.book.now pass }
+    requires nodes { AreNodes scene.now.book.now.network hose }
 {
     let mut rows = WaitingRows {
         flags,
         was_answered: None,
     };
-    let reply = match asked {
-        Asked::Admission => admit(rt, alloc, star, pass, customer, hose, &mut rows),
-        Asked::Quote => {
-            let context = Context {
-                rt,
-                alloc,
-                gate: &PlainGate,
-            };
-            let caller = Caller {
-                context: &context,
-                session: 1,
-                customer,
-            };
-            quote(&caller, star, pass, hose, &mut rows)
-        }
-    };
+    let reply = ask(scene, asked, pass, hose, &mut rows);
     let is_met = rows.was_answered == Some(true);
     Answered { reply, is_met }
 }
 
 /// Admits a hose once the other thread plans.
-fn admit_meanwhile<W: Wait>(
-    rt: &W,
-    alloc: Global,
-    star: &Book,
-    pass: Pass,
-    customer: &Name,
-    hose: Hose,
-    flags: &Flags,
-) -> Answered
-    requires of { IsPassOf star.now pass }
-    requires nodes { AreNodes star.now.network hose }
+fn admit_meanwhile<W: Wait>(scene: &Scene<'_, W>, pass: Pass, hose: Hose, flags: &Flags) -> Answered
+    requires of { IsPassOf scene.now.book.now pass }
+    requires nodes { AreNodes scene.now.book.now.network hose }
 {
     let is_met = comes(&flags.is_planning);
-    let reply = admit(rt, alloc, star, pass, customer, hose, &mut PlainRows::new());
+    let (reply, _pass) = admit(scene, &PlainGate, pass, hose, &mut PlainRows::new());
     flags.is_answered.store(true, Ordering::SeqCst);
     Answered { reply, is_met }
 }
@@ -270,16 +275,38 @@ fn ask_beside<W: Wait + Threads + Sync>(
     alloc: Global,
     asked: Asked,
 ) -> Result<(Answered, Answered), Fail> {
-    let customer = acme()?;
+    let name = acme()?;
     let (star, mut pass) = shared(alloc, STAR)?;
     let large = hose(alloc, star.topology(), &LARGE)?;
     let small = hose(alloc, star.topology(), &SMALL)?;
     let other = star.split(&mut pass);
     let flags = Flags::new();
+    let (book, customer) = (&star, &name);
     Ok(thread::join(
         rt,
-        || ask_slowly(rt, alloc, &star, pass, asked, &customer, large, &flags),
-        || admit_meanwhile(rt, alloc, &star, other, &customer, small, &flags),
+        || ask_slowly(
+            &Scene {
+                rt,
+                alloc,
+                book,
+                customer,
+            },
+            asked,
+            pass,
+            large,
+            &flags,
+        ),
+        || admit_meanwhile(
+            &Scene {
+                rt,
+                alloc,
+                book,
+                customer,
+            },
+            other,
+            small,
+            &flags,
+        ),
     ))
 }
 

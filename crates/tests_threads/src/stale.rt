@@ -4,8 +4,8 @@ ghost use Rattle.hose_graph.specs.declared.limits.TheConstants.{MOST_EPOCH};
 ghost use Rattle.hose_law.specs.steps.Plan.{AreNodes};
 ghost use Rattle.hose_shared.specs.steps.Sharing.{IsPassOf};
 
-use crate::shared::{Book, acme, hose, shared, tells};
-use hose_graph::{Endpoint, Hose, Name, Reply};
+use crate::shared::{Scene, acme, admit, hose, shared, tells};
+use hose_graph::{Endpoint, Hose, Reply};
 use hose_paths::PlainRows;
 use hose_pool::{Gate, PlainGate, Point};
 use hose_shared::{Caller, Context};
@@ -67,82 +67,40 @@ impl Gate for Plans {
 }
 
 /// Admits the wide hose, and tells what is answered.
-fn admit_wide<W: Wait>(
-    rt: &W,
-    alloc: Global,
-    lanes: &Book,
-    pass: Pass,
-    customer: &Name,
-    wide: Hose,
-    plans: &Plans,
-) -> Reply
-    requires of { IsPassOf lanes.now pass }
-    requires nodes { AreNodes lanes.now.network wide }
+fn admit_wide<W: Wait>(scene: &Scene<'_, W>, pass: Pass, wide: Hose, plans: &Plans) -> Reply
+    requires of { IsPassOf scene.now.book.now pass }
+    requires nodes { AreNodes scene.now.book.now.network wide }
 {
-    let context = Context {
-        rt,
-        alloc,
-        gate: plans,
-    };
-    let caller = Caller {
-        context: &context,
-        session: 1,
-        customer,
-    };
-    let (reply, _pass) = lanes.admit(&caller, pass, wide, &mut PlainRows::new());
+    let (reply, _pass) = admit(scene, plans, pass, wide, &mut PlainRows::new());
     reply
 }
 
 /// Takes up a part of the cheap link.
-fn narrow_lane<W: Wait>(
-    rt: &W,
-    alloc: Global,
-    lanes: &Book,
-    pass: Pass,
-    customer: &Name,
-    narrow: Hose,
-) -> (Reply, Pass)
-    requires of { IsPassOf lanes.now pass }
-    requires nodes { AreNodes lanes.now.network narrow }
-    ensures { IsPassOf lanes.now result.1 }
+fn narrow_lane<W: Wait>(scene: &Scene<'_, W>, pass: Pass, narrow: Hose) -> (Reply, Pass)
+    requires of { IsPassOf scene.now.book.now pass }
+    requires nodes { AreNodes scene.now.book.now.network narrow }
+    ensures { IsPassOf scene.now.book.now result.1 }
 {
-    let context = Context {
-        rt,
-        alloc,
-        gate: &PlainGate,
-    };
-    let caller = Caller {
-        context: &context,
-        session: 2,
-        customer,
-    };
-    lanes.admit(&caller, pass, narrow, &mut PlainRows::new())
+    admit(scene, &PlainGate, pass, narrow, &mut PlainRows::new())
 }
 
 /// Gives it up again.
-fn widen_lane<W: Wait>(
-    rt: &W,
-    alloc: Global,
-    lanes: &Book,
-    pass: Pass,
-    customer: &Name,
-    id: u64,
-) -> (Reply, Pass)
-    requires of { IsPassOf lanes.now pass }
+fn widen_lane<W: Wait>(scene: &Scene<'_, W>, pass: Pass, id: u64) -> (Reply, Pass)
+    requires of { IsPassOf scene.now.book.now pass }
     requires id { id ≤ MOST_EPOCH }
-    ensures { IsPassOf lanes.now result.1 }
+    ensures { IsPassOf scene.now.book.now result.1 }
 {
     let context = Context {
-        rt,
-        alloc,
+        rt: scene.rt,
+        alloc: scene.alloc,
         gate: &PlainGate,
     };
     let caller = Caller {
         context: &context,
-        session: 2,
-        customer,
+        session: 1,
+        customer: scene.customer,
     };
-    lanes.release(&caller, pass, id)
+    scene.book.release(&caller, pass, id)
 }
 
 /// What the thread was answered that spoilt three plans.
@@ -156,27 +114,24 @@ struct Spoilt {
 /// Spoils three plans of the wide hose, each once it is made: the first and the third rest on a
 /// cheap link that is free, the second on one that is not.
 fn spoil<W: Wait>(
-    rt: &W,
-    alloc: Global,
-    lanes: &Book,
+    scene: &Scene<'_, W>,
     pass: Pass,
-    customer: &Name,
     narrow: Hose,
-    other: Hose,
+    again: Hose,
     plans: &Plans,
 ) -> Spoilt
-    requires of { IsPassOf lanes.now pass }
-    requires narrow { AreNodes lanes.now.network narrow }
-    requires other { AreNodes lanes.now.network other }
+    requires of { IsPassOf scene.now.book.now pass }
+    requires narrow { AreNodes scene.now.book.now.network narrow }
+    requires again { AreNodes scene.now.book.now.network again }
 {
     wait_for(&plans.made, 1);
-    let (first, pass) = narrow_lane(rt, alloc, lanes, pass, customer, narrow);
+    let (first, pass) = narrow_lane(scene, pass, narrow);
     plans.spoilt.store(1, Ordering::SeqCst);
     wait_for(&plans.made, 2);
-    let (second, pass) = widen_lane(rt, alloc, lanes, pass, customer, 1);
+    let (second, pass) = widen_lane(scene, pass, 1);
     plans.spoilt.store(2, Ordering::SeqCst);
     wait_for(&plans.made, 3);
-    let (third, _pass) = narrow_lane(rt, alloc, lanes, pass, customer, other);
+    let (third, _pass) = narrow_lane(scene, pass, again);
     plans.spoilt.store(3, Ordering::SeqCst);
     Spoilt {
         first,
@@ -190,17 +145,39 @@ fn admit_on_spoilt_plans<W: Wait + Threads + Sync>(
     rt: &W,
     alloc: Global,
 ) -> Result<(Reply, Spoilt, u64), Fail> {
-    let customer = acme()?;
+    let name = acme()?;
     let (lanes, mut pass) = shared(alloc, LANES)?;
     let wide = hose(alloc, lanes.topology(), &WIDE)?;
     let narrow = hose(alloc, lanes.topology(), &NARROW)?;
     let again = hose(alloc, lanes.topology(), &NARROW)?;
     let other = lanes.split(&mut pass);
     let plans = Plans::new();
+    let (book, customer) = (&lanes, &name);
     let (reply, spoilt) = thread::join(
         rt,
-        || admit_wide(rt, alloc, &lanes, pass, &customer, wide, &plans),
-        || spoil(rt, alloc, &lanes, other, &customer, narrow, again, &plans),
+        || admit_wide(
+            &Scene {
+                rt,
+                alloc,
+                book,
+                customer,
+            },
+            pass,
+            wide,
+            &plans,
+        ),
+        || spoil(
+            &Scene {
+                rt,
+                alloc,
+                book,
+                customer,
+            },
+            other,
+            narrow,
+            again,
+            &plans,
+        ),
     );
     Ok((reply, spoilt, plans.made.load(Ordering::SeqCst)))
 }

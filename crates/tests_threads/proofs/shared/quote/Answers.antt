@@ -12,4 +12,4 @@ held_by : (network : Network) (history : List Entry) (quotes : List (Option Quot
 held_by network history quotes first none = subst (AreHeld network 0 history none_held) (sym none) first
 
 pub quote-reply-requires-clause-quotes : goal.quote-reply-requires-clause-quotes
-quote-reply-requires-clause-quotes g c = (none_held, held_by c.args.star.now.network c.args.pass.seen c.new-quotes.result (none_are_held c.args.star.now.network 0 c.args.pass.seen) c.new-quotes.ensures)
+quote-reply-requires-clause-quotes g c = (none_held, held_by c.args.scene.now.book.now.network c.args.pass.seen c.new-quotes.result (none_are_held c.args.scene.now.book.now.network 0 c.args.pass.seen) c.new-quotes.ensures)

@@ -2,13 +2,14 @@
 ghost use Rattle.std.specs.Prelude.{IfOk};
 ghost use Rattle.hose_law.specs.steps.Plan.{AreNodes};
 
+use crate::told::Told;
 use crate::trouble::Trouble;
 use hose_graph::{Amounts, Command, Hose, Reply, Topology};
 use hose_io::MemSource;
 use hose_proto::{read_command, read_reply};
 use hose_topo::read;
 use hose_words::LineReader;
-use std::alloc::Global;
+use std::alloc::{AllocError, Global};
 
 // Three nodes around a fourth.
 const STAR: &str =
@@ -36,6 +37,9 @@ const LINE: &str = "node a\nnode b\nnode c\nnode d\nnode e\nlink a b 1000000000 
 
 /// The network with this name.
 pub fn named(alloc: Global, name: &str) -> Result<Topology, Trouble> {
+    if name == "broom" {
+        return network(alloc, broom(alloc)?.as_str());
+    }
     network(alloc, text_of(name)?)
 }
 
@@ -49,6 +53,23 @@ fn text_of(name: &str) -> Result<&'static str, Trouble> {
         "line" => Ok(LINE),
         _ => Err(Trouble::Word),
     }
+}
+
+// The text of 63 nodes around another one, from which a line of 447 links goes to a last node.
+fn broom(alloc: Global) -> Result<String, AllocError> {
+    let mut text = Told::new(alloc);
+    for node in 0..512 {
+        text.add(format!(in alloc; "node n{node}\n"));
+    }
+    for node in 0..63 {
+        text.add(format!(in alloc; "link n{node} n64 10 1\n"));
+    }
+    for node in 64u32..511 {
+        let next = node.saturating_add(1);
+        text.add(format!(in alloc; "link n{node} n{next} 10 1\n"));
+    }
+    text.put("link n511 n63 10 1\nend\n");
+    text.finish()
 }
 
 /// The network of a text.

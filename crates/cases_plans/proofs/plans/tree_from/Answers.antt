@@ -1,4 +1,4 @@
-use Rattle.cases_parts.proofs.plans.tree_from.Goals as goal
+use Rattle.cases_plans.proofs.plans.tree_from.Goals as goal
 
 pub returns : goal.returns
 returns c = (c.in_ok-tree.ensures c.in_ok-row.ensures.row.0 c.in_ok-row.ensures.row.1).joins

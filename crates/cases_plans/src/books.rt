@@ -1,53 +1,73 @@
 // Books: what they say of entries, in which order, what entries change, and how they are audited.
 ghost use Rattle.hose_graph.specs.declared.limits.TheConstants.{MOST_EPOCH};
 
-use crate::networks::shown;
-use crate::trouble::Trouble;
-use crate::words::{debugged, first, name, number};
+use cases_common::{Told, Trouble, debugged, first, name, named, number, shown};
 use hose_audit::audit;
 use hose_book::{Book, Books, Plain};
 use hose_graph::{Entry, MOST_EPOCH, MOST_LIVE, Topology};
 use hose_io::MemSink;
 use std::alloc::{AllocError, Global};
 
-/// What comes of steps at the book of a network, which begins at an epoch. They stand between
-/// semicolons.
-pub fn stepped(alloc: Global, top: Topology, line: &str) -> Result<String, Trouble> {
-    let (epoch, steps) = first(line);
+/// The book of a network, which begins at the epoch of a word.
+pub fn book_at(alloc: Global, network: &str, epoch: &str) -> Result<Book, Trouble> {
     let epoch = number(epoch)?.min(MOST_EPOCH);
-    let mut plain = Plain {
-        book: Book::at(alloc, top, epoch)?,
-    };
-    let mut text = String::new(alloc);
-    for step in steps.split(';') {
-        let told = step_told(alloc, &mut plain, step.trim())?;
-        text.push_str(told.as_str().trim_end())?;
-        text.push('\n')?;
-    }
-    Ok(text)
+    Ok(Book::at(alloc, named(alloc, network)?, epoch)?)
 }
 
-// What comes of a step: an entry that is judged, and entered where it is sound; one that is
-// committed then; the epoch, as how many VPNs are live, and the loads; the links in service; what
-// changed of late; the audit.
-fn step_told(alloc: Global, plain: &mut Plain, step: &str) -> Result<String, Trouble> {
+/// What comes of steps at the book of a network, which begins at an epoch. They stand between
+/// semicolons.
+pub fn tell_steps(
+    alloc: Global,
+    network: &str,
+    line: &str,
+    told: &mut Told,
+) -> Result<(), Trouble> {
+    let (epoch, steps) = first(line);
+    let mut plain = Plain {
+        book: book_at(alloc, network, epoch)?,
+    };
+    tell_all(alloc, &mut plain, steps, told)
+}
+
+fn tell_all(alloc: Global, plain: &mut Plain, steps: &str, told: &mut Told) -> Result<(), Trouble> {
+    for step in steps.split(';') {
+        tell_step(alloc, plain, step.trim(), told)?;
+        told.put("\n");
+    }
+    Ok(())
+}
+
+// What comes of a step: what a book says, or an entry that is judged, and entered where it is
+// sound; many of these; one that is committed then.
+fn tell_step(alloc: Global, plain: &mut Plain, step: &str, told: &mut Told) -> Result<(), Trouble> {
     let (word, rest) = first(step);
     match word {
-        "audit" => audited(alloc, &plain.book),
-        "fill" => fill(alloc, &mut plain.book, rest),
-        "turns" => turns(alloc, &mut plain.book, rest),
-        "recent" => Ok(recent(alloc, &plain.book, number(rest)?)?),
-        "stands" => Ok(standing(alloc, &plain.book)?),
-        "serves" => Ok(debugged(alloc, plain.book.service())?),
-        "commit" => {
-            let entry = entry_of(alloc, plain.book.topology(), rest)?;
-            Ok(committed(alloc, plain, entry)?)
+        "fill" => tell_filled(alloc, &mut plain.book, rest, told),
+        "turns" => tell_turns(alloc, &mut plain.book, rest, told),
+        "commit" => tell_committed(alloc, plain, rest, told),
+        "audit" | "recent" | "stands" | "serves" => {
+            tell_looked_at(alloc, &plain.book, word, rest, told)
         }
-        _ => {
-            let entry = entry_of(alloc, plain.book.topology(), step)?;
-            Ok(entered(alloc, &mut plain.book, entry)?)
-        }
+        _ => tell_entered(alloc, &mut plain.book, step, told),
     }
+}
+
+// What a book says: the audit; what changed of late; the epoch, how many VPNs are live, and the
+// loads; the links in service.
+fn tell_looked_at(
+    alloc: Global,
+    book: &Book,
+    word: &str,
+    rest: &str,
+    told: &mut Told,
+) -> Result<(), Trouble> {
+    match word {
+        "audit" => return tell_audit(alloc, book, told),
+        "recent" => told.add(recent(alloc, book, number(rest)?)),
+        "stands" => told.add(standing(alloc, book)),
+        _ => told.add(debugged(alloc, book.service())),
+    }
+    Ok(())
 }
 
 // The entry of some words: a release, a link that is taken out of service or put back, or an
@@ -84,19 +104,34 @@ fn admission(alloc: Global, top: &Topology, words: &str) -> Result<Entry, Troubl
     })
 }
 
-fn entered(alloc: Global, book: &mut Book, entry: Entry) -> Result<String, AllocError> {
+fn tell_entered(
+    alloc: Global,
+    book: &mut Book,
+    words: &str,
+    told: &mut Told,
+) -> Result<(), Trouble> {
+    let entry = entry_of(alloc, book.topology(), words)?;
     let judged = book.check(&entry);
+    told.add(debugged(alloc, &judged));
     if judged.is_ok() {
         book.apply(entry);
     }
-    debugged(alloc, &judged)
+    Ok(())
 }
 
-fn committed(alloc: Global, plain: &mut Plain, entry: Entry) -> Result<String, AllocError> {
+fn tell_committed(
+    alloc: Global,
+    plain: &mut Plain,
+    words: &str,
+    told: &mut Told,
+) -> Result<(), Trouble> {
+    let entry = entry_of(alloc, plain.book.topology(), words)?;
     if plain.book.check(&entry).is_err() {
-        return String::from_str(alloc, "no sound entry");
+        told.put("no sound entry");
+    } else {
+        told.add(debugged(alloc, &plain.commit(entry, ())));
     }
-    debugged(alloc, &plain.commit(entry, ()))
+    Ok(())
 }
 
 fn standing(alloc: Global, book: &Book) -> Result<String, AllocError> {
@@ -105,10 +140,16 @@ fn standing(alloc: Global, book: &Book) -> Result<String, AllocError> {
 }
 
 // Enters an admission as often as VPNs may be live, and tells how often it was sound.
-fn fill(alloc: Global, book: &mut Book, words: &str) -> Result<String, Trouble> {
+fn tell_filled(
+    alloc: Global,
+    book: &mut Book,
+    words: &str,
+    told: &mut Told,
+) -> Result<(), Trouble> {
     let entry = entry_of(alloc, book.topology(), words)?;
     let sound = fill_with(alloc, book, &entry)?;
-    Ok(debugged(alloc, &sound)?)
+    told.add(debugged(alloc, &sound));
+    Ok(())
 }
 
 fn fill_with(alloc: Global, book: &mut Book, entry: &Entry) -> Result<u64, AllocError> {
@@ -131,12 +172,13 @@ fn enter_copy(alloc: Global, book: &mut Book, entry: &Entry) -> Result<bool, All
 }
 
 // Enters an admission and its release, so often in turn, and tells how many entries were sound.
-fn turns(alloc: Global, book: &mut Book, words: &str) -> Result<String, Trouble> {
+fn tell_turns(alloc: Global, book: &mut Book, words: &str, told: &mut Told) -> Result<(), Trouble> {
     let (times, words) = first(words);
     let times = number(times)?;
     let entry = entry_of(alloc, book.topology(), words)?;
     let sound = turn_with(alloc, book, &entry, times)?;
-    Ok(debugged(alloc, &sound)?)
+    told.add(debugged(alloc, &sound));
+    Ok(())
 }
 
 fn turn_with(alloc: Global, book: &mut Book, entry: &Entry, times: u64) -> Result<u64, Trouble> {
@@ -174,12 +216,10 @@ fn recent(alloc: Global, book: &Book, seen: u64) -> Result<String, AllocError> {
     format!(in alloc; "floor {floor}, {count} changes {first:?} to {last:?}, {since} since {seen}")
 }
 
-fn audited(alloc: Global, book: &Book) -> Result<String, Trouble> {
+fn tell_audit(alloc: Global, book: &Book, told: &mut Told) -> Result<(), Trouble> {
     let mut sink = MemSink::new(alloc)?;
-    audit_into(alloc, book, &mut sink)
-}
-
-fn audit_into(alloc: Global, book: &Book, sink: &mut MemSink) -> Result<String, Trouble> {
-    audit(book, sink)?;
-    Ok(String::from_utf8_lossy(alloc, sink.bytes())?)
+    audit(book, &mut sink)?;
+    let text = String::from_utf8_lossy(alloc, sink.bytes())?;
+    told.put(text.as_str().trim_end());
+    Ok(())
 }

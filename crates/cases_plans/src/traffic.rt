@@ -2,28 +2,41 @@
 ghost use Rattle.std.specs.Prelude.{◌≡◌, ◌<◌, length};
 ghost use Rattle.hose_law.specs.Tree.{JoinsHose};
 
-use crate::trouble::Trouble;
-use hose_graph::Hose;
+use crate::plans::tree_from;
+use cases_common::{Told, Trouble};
+use hose_graph::{Hose, Topology};
 use hose_tree::{Matrix, Tree, heaviest, load};
 use std::alloc::{AllocError, Global};
 
-/// The heaviest matrix of each of so many links, if it is to be shown, what it puts there, and
-/// whether it has all within the rates: the sums of its rows and columns are.
-pub fn heaviest_of(
+/// The heaviest matrix of each link on the tree of a root, what it puts there, and whether it has
+/// all within the rates: the sums of its rows and columns are.
+pub fn tell_heaviest(
     alloc: Global,
-    tree: &Tree,
+    top: &Topology,
+    root: u32,
     hose: &Hose,
-    links: u32,
-    shows: bool,
-) -> Result<String, Trouble>
-    requires { JoinsHose tree.now hose.now }
-{
-    let mut text = String::new(alloc);
-    for link in 0..links {
-        let line = heaviest_at(alloc, tree, hose, link, shows)?;
-        text.push_str(line.as_str())?;
+    told: &mut Told,
+) -> Result<(), Trouble> {
+    let tree = tree_from(alloc, top, root, hose)?;
+    for link in 0..top.links() {
+        told.add(heaviest_at(alloc, &tree, hose, link, true));
     }
-    Ok(text)
+    Ok(())
+}
+
+/// The same, without the matrices.
+pub fn tell_attained(
+    alloc: Global,
+    top: &Topology,
+    root: u32,
+    hose: &Hose,
+    told: &mut Told,
+) -> Result<(), Trouble> {
+    let tree = tree_from(alloc, top, root, hose)?;
+    for link in 0..top.links() {
+        told.add(heaviest_at(alloc, &tree, hose, link, false));
+    }
+    Ok(())
 }
 
 fn heaviest_at(
@@ -38,10 +51,11 @@ fn heaviest_at(
     let matrix = heaviest(alloc, tree, hose, link)?;
     let is_within = is_within(&matrix, hose);
     let load = load(tree, hose, &matrix, link);
-    if !shows {
-        return format!(in alloc; "{link}: load {load}, within the rates {is_within}\n");
+    if shows {
+        format!(in alloc; "{link}: {matrix:?} load {load}, within the rates {is_within}\n")
+    } else {
+        format!(in alloc; "{link}: load {load}, within the rates {is_within}\n")
     }
-    format!(in alloc; "{link}: {matrix:?} load {load}, within the rates {is_within}\n")
 }
 
 fn is_within(matrix: &Matrix, hose: &Hose) -> bool

@@ -1,6 +1,6 @@
 -- A claim is on the entry of the quote that is taken, which was made before.
 use Rattle.hose_core.proofs.Earlier.{grounds_since}
-use Rattle.cases_parts.proofs.cores.take.Goals as goal
+use Rattle.cases_plans.proofs.cores.tell_taken.Goals as goal
 
 pub claim_take-requires : goal.claim_take-requires
 claim_take-requires c = c.requires.made.ranges

@@ -1,4 +1,5 @@
-// Why the program stops before all cases are done.
+// Why a program of cases stops before all cases are done.
+use hose_codec::CodecFault;
 use hose_graph::HoseFault;
 use hose_io::Failed;
 use hose_proto::ReadFault;
@@ -7,7 +8,7 @@ use std::alloc::AllocError;
 use std::io;
 use thiserror::Error;
 
-/// Why the program stops before all cases are done.
+/// Why a program of cases stops before all cases are done.
 #[derive(Debug, Drop, Error)]
 pub enum Trouble {
     #[error("a line has a word that data/README.md does not know, or names what is not there")]
@@ -18,6 +19,8 @@ pub enum Trouble {
     Line(#[from] ReadFault),
     #[error("endpoints make no hose: {0:?}")]
     Hose(#[from] HoseFault),
+    #[error("bytes are no entry: {0}")]
+    Entry(#[from] CodecFault),
     #[error("a call fails that no line has told to fail")]
     Failed(#[from] Failed),
     #[error("no memory")]
