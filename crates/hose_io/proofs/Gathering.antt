@@ -114,11 +114,6 @@ IsAdded-next {g0 = g0} {g1 = g1} p q = record {
 pub IsAdded-two : {S : Type 0} {sink : Ghosts S} {g0 g1 g2 : Gathered} {s0 s1 s2 : S} {first : List ℕ} (words number : List ℕ) → IsAdded sink g0 s0 g1 s1 first → IsAdded sink g1 s1 g2 s2 (words ++ number) → IsAdded sink g0 s0 g2 s2 (first ++ words ++ number)
 IsAdded-two {first = first} words number p q = rw (append_assoc first words number) (IsAdded-next p q)
 
--- four texts
-pub IsAdded-four : {S : Type 0} {sink : Ghosts S} {g0 g1 g2 : Gathered} {s0 s1 s2 : S} {first : List ℕ} (a b c d : List ℕ) → IsAdded sink g0 s0 g1 s1 first → IsAdded sink g1 s1 g2 s2 (a ++ b ++ c ++ d)
-    → IsAdded sink g0 s0 g2 s2 (first ++ a ++ b ++ c ++ d)
-IsAdded-four {first = first} a b c d p q = simp append_assoc (simp append_assoc at (IsAdded-next p q))
-
 -- the text of one item more
 pub flat_map-take : {X : Type 0} (f : X → List ℕ) (xs : List X) (i : ℕ) (d : X) → i < length xs → flat_map f (take (i + 1) xs) ≡ flat_map f (take i xs) ++ f (get_or xs i d)
 flat_map-take f xs i d lt =

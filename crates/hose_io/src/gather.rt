@@ -55,7 +55,13 @@ impl Gather {
         if self.broke {
             return;
         }
-        self.broke = self.try_add(sink, bytes).is_err();
+        if bytes.len() > GATHER_LIMIT - self.len {
+            self.broke = self.spill(sink, bytes).is_err();
+            return;
+        }
+        let end = self.len + bytes.len();
+        self.buffer[self.len..end].copy_from_slice(bytes);
+        self.len = end;
     }
 
     /// Adds a number in decimal.
@@ -71,7 +77,8 @@ impl Gather {
         ensures { IsAdded S.Sink self.old sink.old self.new sink.new (words.now ++ decimal number) }
     {
         self.add(sink, words);
-        self.add_number(sink, number);
+        let mut buffer = Buffer::new();
+        self.add(sink, buffer.format(number).as_bytes());
     }
 
     /// Gives all that it holds to the sink. Fails where the sink fails, now or before.
@@ -84,13 +91,8 @@ impl Gather {
         self.flush(sink)
     }
 
-    // Adds `bytes`, if the sink does not fail.
-    fn try_add<S: Sink>(&mut self, sink: &mut S, bytes: &[u8]) -> Result<(), Failed>
-        ensures held { length (self.old.held ++ bytes.now) ≤ GATHER_LIMIT →
-            self.new.held ≡ self.old.held ++ bytes.now }
-        ensures keeps { length (self.old.held ++ bytes.now) ≤ GATHER_LIMIT → IsOk result }
-        ensures calls_none { length (self.old.held ++ bytes.now) ≤ GATHER_LIMIT →
-            sink.new ≡ sink.old }
+    // Adds `bytes`, for which there is no room: what it holds goes out before them.
+    fn spill<S: Sink>(&mut self, sink: &mut S, bytes: &[u8]) -> Result<(), Failed>
         ensures ok { OnOk result (GoesOut (S.content sink.old) (S.content sink.new)
             (self.old.held ++ bytes.now) self.new.held) }
         ensures err { OnErr result
@@ -98,16 +100,13 @@ impl Gather {
         ensures broke { self.new.broke ≡ self.old.broke }
         ensures met { Met (S.frame sink.old) (S.frame sink.new) result }
     {
-        if bytes.len() <= GATHER_LIMIT - self.len {
-            self.keep(bytes);
-            return Ok(());
-        }
         self.flush(sink)?;
-        if bytes.len() <= GATHER_LIMIT {
-            self.keep(bytes);
-            return Ok(());
+        if bytes.len() > GATHER_LIMIT {
+            return write_all(sink, bytes);
         }
-        write_all(sink, bytes)
+        self.buffer[..bytes.len()].copy_from_slice(bytes);
+        self.len = bytes.len();
+        Ok(())
     }
 
     // Gives all that it holds to the sink. It then holds nothing, also where the sink failed.
@@ -120,15 +119,6 @@ impl Gather {
         let held = self.len;
         self.len = 0;
         write_all(sink, &self.buffer[..held])
-    }
-
-    fn keep(&mut self, bytes: &[u8])
-        requires { length (self.old.held ++ bytes.now) ≤ GATHER_LIMIT }
-        ensures { self.new ≡ record self.old { held = self.old.held ++ bytes.now } }
-    {
-        let end = self.len + bytes.len();
-        self.buffer[self.len..end].copy_from_slice(bytes);
-        self.len = end;
     }
 }
 
