@@ -185,10 +185,6 @@ Misses-stronger {strong} {weak} {old} {number} more misses = record {
 pub misses_word : {passes : List ℕ → Type 0} {old new : Position} {word : List ℕ} {number : ℕ} → Took old new word → (passes word → ⊥) → number ≡ old.read + 1 → Misses passes old number
 misses_word {passes} {old} {new} {word} {number} took never at = record { none = λ first. never (subst (IsFirst passes) took.cut first); at = at }
 
--- no word is there
-pub misses_end : {passes : List ℕ → Type 0} {old : Position} {number : ℕ} → old.left ≡ [] → number ≡ old.read + 1 → Misses passes old number
-misses_end {passes} {old} {number} none at = record { none = λ first. subst (IsFirst passes) none first; at = at }
-
 -- ---- a line from its start
 
 -- the word that is told of a line is the first that is not allowed

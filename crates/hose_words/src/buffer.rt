@@ -1,12 +1,12 @@
 // The bytes that were taken of a source and not yet given in a line.
 ghost use Rattle.std.specs.Prelude.{◌≡◌, ◌<◌, ◌≤◌, [], length};
 ghost use Rattle.std.specs.Bool.{MatchBool};
-ghost use Rattle.std.specs.List.{position, position_or_len};
+ghost use Rattle.std.specs.List.{position};
 ghost use Rattle.hose_io.specs.steps.Filling.{IsFilled};
-ghost use Rattle.hose_words.specs.Lines.{is_line_feed};
 ghost use Rattle.hose_words.specs.steps.Buffer.{CutsLine};
 
 use crate::lines::PENDING_LIMIT;
+use crate::words::len_before;
 use hose_io::{Failed, Source, take_after};
 use std::marker::Model;
 
@@ -75,7 +75,7 @@ impl PendingBytes {
         ensures { CutsLine result self.old.pending self.new.line self.new.pending }
     {
         let fresh = &self.bytes[self.start + self.searched..self.end];
-        let len = self.searched + before_line_feed(fresh);
+        let len = self.searched + len_before(fresh, LINE_FEED);
         if self.start + len == self.end {
             self.searched = len;
             return false;
@@ -126,13 +126,4 @@ impl PendingBytes {
         self.end += taken.unwrap_or(0);
         taken
     }
-}
-
-// How many bytes stand before the first line feed.
-#[tactic(auto, using(crate::proofs::WordLemmas::front_bound))]
-fn before_line_feed(bytes: &[u8]) -> usize
-    ensures place { result ≡ position_or_len is_line_feed bytes.now }
-    ensures bound { result ≤ length bytes.now }
-{
-    bytes.iter().take_while(|byte| **byte != LINE_FEED).count()
 }

@@ -5,7 +5,7 @@ ghost use Rattle.hose_words.specs.steps.Cursor.{Took, Misses, IsWrong};
 ghost use Rattle.hose_words.specs.Grammar.{IsFirst};
 ghost use Rattle.hose_words.specs.Form.{finish, IsChoice, Each, TellsNumber, Fits64, IsWithin};
 
-use crate::words::{Words, number, split};
+use crate::words::{first_word, number};
 use std::marker::Model;
 
 /// A word of a line that is missing or not allowed, by its number in the line, counted from 1.
@@ -40,20 +40,21 @@ pub trait Keyword: Copy {
 /// ```
 #[derive(Drop)]
 pub struct Cursor<'a> {
-    words: Words<'a>,
+    rest: &'a [u8],
     read: u64,
 }
 
 impl<'a> Model for Cursor<'a> {
     ghost use Rattle.std.specs.Prelude.{◌+◌, ◌^◌, ◌≤◌, length};
+    ghost use Rattle.hose_words.specs.Words.{words_of};
     ghost use Rattle.hose_words.specs.steps.Cursor.{Position};
 
     ghost Value = { Position };
 
-    ghost view = { λ cursor. record { left = cursor.words; read = cursor.read } };
+    ghost view = { λ cursor. record { left = words_of cursor.rest.now; read = cursor.read } };
 
     // So the number of each word that may come fits.
-    ghost invariant = { λ cursor. cursor.read + length cursor.words ≤ 2 ^ 63 };
+    ghost invariant = { λ cursor. cursor.read + length (words_of cursor.rest.now) ≤ 2 ^ 63 };
 }
 
 impl<'a> Cursor<'a> {
@@ -62,7 +63,7 @@ impl<'a> Cursor<'a> {
         ensures { result ≡ record { left = words_of line.now; read = 0 } }
     {
         Cursor {
-            words: split(line),
+            rest: line,
             read: 0,
         }
     }
@@ -73,9 +74,10 @@ impl<'a> Cursor<'a> {
         ensures none { IfNone result (self.old.left ≡ []) }
         ensures stays { IfNone result (self.new ≡ self.old) }
     {
-        let Some(word) = self.words.next() else {
+        let Some((word, rest)) = first_word(self.rest) else {
             return None;
         };
+        self.rest = rest;
         self.read += 1;
         Some(word)
     }
@@ -85,7 +87,10 @@ impl<'a> Cursor<'a> {
         ensures some { IfSome result (λ word. IsFirst (λ first. first ≡ word.now) self.now.left) }
         ensures none { IfNone result (self.now.left ≡ []) }
     {
-        self.words.peek()
+        let Some((word, _)) = first_word(self.rest) else {
+            return None;
+        };
+        Some(word)
     }
 
     /// Passes over words.

@@ -1,8 +1,7 @@
 // A line cut into words, and the numbers that words tell.
 ghost use Rattle.std.specs.Prelude.{◌≡◌, ◌==◌, ◌≤◌, ℕ, [], ◌∷◌, length, IfSome, IfNone};
 ghost use Rattle.std.specs.Iterator.{YieldsFirstRef, item_count};
-ghost use Rattle.std.specs.List.{prefix_len, position_or_len};
-ghost use Rattle.hose_words.specs.Grammar.{IsFirst};
+ghost use Rattle.std.specs.List.{position_or_len};
 ghost use Rattle.hose_words.specs.steps.Number.{IsNumber};
 ghost use Rattle.hose_words.specs.Words.{words_of};
 
@@ -33,19 +32,6 @@ pub fn split(line: &[u8]) -> Words<'_>
     Words { rest: line }
 }
 
-impl<'a> Words<'a> {
-    // The next word, which stays to come.
-    pub(crate) fn peek(&self) -> Option<&'a [u8]>
-        ensures some { IfSome result (λ word. IsFirst (λ first. first ≡ word.now) self.now) }
-        ensures none { IfNone result (self.now ≡ []) }
-    {
-        let Some((word, _)) = first_word(self.rest) else {
-            return None;
-        };
-        Some(word)
-    }
-}
-
 impl<'a> Iterator for Words<'a> {
     type Item = &'a [u8];
 
@@ -61,35 +47,35 @@ impl<'a> Iterator for Words<'a> {
 }
 
 // The first word and what follows it, where there is a word.
-fn first_word(bytes: &[u8]) -> Option<(&[u8], &[u8])>
+pub(crate) fn first_word(bytes: &[u8]) -> Option<(&[u8], &[u8])>
     ensures word { IfSome result
         (λ parts. words_of bytes.now ≡ parts.0.now ∷ words_of parts.1.now) }
     ensures none { IfNone result (words_of bytes.now ≡ []) }
 {
-    let from_word = &bytes[spaces_before(bytes)..];
-    let len = word_len(from_word);
-    if len == 0 {
-        return None;
+    let mut rest = bytes;
+    loop {
+        let len = len_before(rest, SPACE);
+        if len > 0 {
+            return Some(rest.split_at(len));
+        }
+        if rest.is_empty() {
+            return None;
+        }
+        rest = &rest[1..];
     }
-    Some(from_word.split_at(len))
 }
 
-// How many spaces stand at the front.
-#[tactic(auto, using(crate::proofs::WordLemmas::front_bound))]
-fn spaces_before(bytes: &[u8]) -> usize
-    ensures spaces { result ≡ prefix_len (λ byte. byte == 32) bytes.now }
+// How many bytes stand before the first that is this one.
+pub(crate) fn len_before(bytes: &[u8], byte: u8) -> usize
+    ensures place { result ≡ position_or_len (λ other. other == byte) bytes.now }
     ensures bound { result ≤ length bytes.now }
 {
-    bytes.iter().take_while(|byte| **byte == SPACE).count()
-}
-
-// How many bytes stand before the first space.
-#[tactic(auto, using(crate::proofs::WordLemmas::front_bound))]
-fn word_len(bytes: &[u8]) -> usize
-    ensures word { result ≡ position_or_len (λ byte. byte == 32) bytes.now }
-    ensures bound { result ≤ length bytes.now }
-{
-    bytes.iter().take_while(|byte| **byte != SPACE).count()
+    for len in 0..bytes.len() {
+        if bytes[len] == byte {
+            return len;
+        }
+    }
+    bytes.len()
 }
 
 /// The value of a decimal without a sign and without a zero in front, where it is at most `max`.

@@ -8,7 +8,7 @@ use Rattle.hose_words.proofs.buffer.PendingBytes.cut_line.Goals as goal
 pub invariant_of-self : goal.invariant_of-self
 invariant_of-self c =
     let b = c.self.inside in
-    let at = position_or_len-searched is_line_feed b.bytes b.start b.end b.searched c.before_line_feed.result c.self.invariant.searched c.before_line_feed.ensures.place in
+    let at = position_or_len-searched is_line_feed b.bytes b.start b.end b.searched c.len_before.result c.self.invariant.searched c.len_before.ensures.place in
     record {
       line = c.self.invariant.line;
       line_inside = c.self.invariant.line_inside;
@@ -21,15 +21,15 @@ invariant_of-self c =
 pub returns-then-self-len : goal.returns-then-self-len
 returns-then-self-len c =
     let b = c.self.inside in
-    let at = position_or_len-searched is_line_feed b.bytes b.start b.end b.searched c.before_line_feed.result c.self.invariant.searched c.before_line_feed.ensures.place in
+    let at = position_or_len-searched is_line_feed b.bytes b.start b.end b.searched c.len_before.result c.self.invariant.searched c.len_before.ensures.place in
     let whole = length-slice_range b.bytes b.start b.end (omega arith) in
     rw (← c.self.view_is) (omega (arith, at, whole), refl)
 
 pub returns : goal.returns
 returns c =
     let b = c.self.inside in
-    let n = b.searched + c.before_line_feed.result in
-    let at = position_or_len-searched is_line_feed b.bytes b.start b.end b.searched c.before_line_feed.result c.self.invariant.searched c.before_line_feed.ensures.place in
+    let n = b.searched + c.len_before.result in
+    let at = position_or_len-searched is_line_feed b.bytes b.start b.end b.searched c.len_before.result c.self.invariant.searched c.len_before.ensures.place in
     let whole = length-slice_range b.bytes b.start b.end (omega arith) in
     rw (← c.self.view_is, at) (
       omega (arith, whole),
