@@ -5,9 +5,9 @@ use Rattle.std.specs.Str.{bytes_eq}
 use Rattle.std.specs.Str.Parse.{digits_value}
 use Rattle.std.proofs.Math.ListN.{get_or-append}
 use Rattle.std.proofs.Math.Seq.{get_or-append_seam}
-use Rattle.std.proofs.lemmas.Bool.{ne_eqb}
+use Rattle.std.proofs.lemmas.Bool.{false_from_ne_true, ne_eqb}
 use Rattle.std.proofs.lemmas.Fmt.{decimal_is_IsNumeral}
-use Rattle.std.proofs.lemmas.List.{get_or_default}
+use Rattle.std.proofs.lemmas.List.{get_or_default, take_at}
 use Rattle.std.proofs.lemmas.List.Sums.{position_or_len_is}
 use Rattle.std.proofs.lemmas.Slice.Eq.{bytes_eq-Decides}
 use Rattle.hose_words.specs.Form.{Fits64}
@@ -19,23 +19,15 @@ use Rattle.hose_proto.proofs.Colons.{end_cut, no_colon, no_colon_decimal, pair_c
 
 -- ---- a list round its first element that passes
 
-not_true : (test : Bool) → (test ≡ true → ⊥) → test ≡ false
-not_true true none = absurd (none refl)
-not_true false none = refl
-
 -- unequal texts are told apart
 pub unequal : (one other : List ℕ) → one ≢ other → bytes_eq one other ≡ false
-unequal one other differ = not_true (bytes_eq one other) (λ same. differ ((bytes_eq-Decides one other).0 same))
+unequal one other differ = false_from_ne_true (bytes_eq one other) (λ same. differ ((bytes_eq-Decides one other).0 same))
 
 abbrev pub front_of : {X : Type 0} → (X → Bool) → List X → List X
 front_of passes xs = take (position_or_len passes xs) xs
 
 abbrev pub rest_of : {X : Type 0} → (X → Bool) → List X → List X
 rest_of passes xs = drop (suc (position_or_len passes xs)) xs
-
-take_front : {X : Type 0} (front more : List X) → take (length front) (front ++ more) ≡ front
-take_front [] more = refl
-take_front (x ∷ front) more = ap (λ xs. x ∷ xs) (take_front front more)
 
 drop_front : {X : Type 0} (front : List X) (x : X) (rest : List X) → drop (suc (length front)) (front ++ x ∷ rest) ≡ rest
 drop_front [] x rest = refl
@@ -49,7 +41,7 @@ module _ {X : Type 0} (passes : X → Bool) (front : List X) (x : X) (rest : Lis
       (λ _. ap passes (get_or-append_seam front x rest x) ∙ here)
 
   pub front_is : front_of passes (front ++ x ∷ rest) ≡ front
-  front_is = ap (λ i. take i (front ++ x ∷ rest)) first_place ∙ take_front front (x ∷ rest)
+  front_is = ap (λ i. take i (front ++ x ∷ rest)) first_place ∙ take_at front (x ∷ rest) (length front) refl
 
   pub rest_is : rest_of passes (front ++ x ∷ rest) ≡ rest
   rest_is = ap (λ i. drop (suc i) (front ++ x ∷ rest)) first_place ∙ drop_front front x rest

@@ -6,7 +6,7 @@ use Rattle.std.proofs.Math.ListN.{get_or-append}
 use Rattle.std.proofs.Math.Seq.{get_or-append_seam}
 use Rattle.std.proofs.lemmas.Fmt.{decimal_injective}
 use Rattle.std.proofs.lemmas.List.{get_or_default, map-append}
-use Rattle.std.proofs.lemmas.List.Elements.{All-append, All-cons, All-nil}
+use Rattle.std.proofs.lemmas.List.Elements.{All-nil, All-push}
 use Rattle.std.proofs.lemmas.List.Quantifiers.{all_pairs_push}
 use Rattle.std.proofs.lemmas.Option.{slice_get-get_or}
 use Rattle.hose_words.specs.Form.{Fits64}
@@ -24,10 +24,6 @@ use Rattle.hose_proto.specs.Places.{end_word}
 use Rattle.hose_proto.specs.steps.Reading.{AreSoFar, IsEndOf, IsNewEnd, IsNextEnd, IsNextNode, IsNextNumber, IsNextPair}
 use Rattle.hose_proto.proofs.Colons.{end_cut, no_colon, no_colon_decimal, pair_cut, same_parts}
 use Rattle.hose_proto.proofs.Rising.{All-last, firsts_front, rising_front}
-
--- one item more meets what all of them meet
-push : {X : Type 0} (P : X → Type 0) (xs : List X) (x : X) → All P xs → P x → All P (xs ++ x ∷ [])
-push P xs x all here = All-append P xs (x ∷ []) all (All-cons P x [] here (All-nil P))
 
 -- ---- amounts
 
@@ -62,8 +58,8 @@ pub amounts_more : (network : Network) (pairs : List (ℕ × ℕ)) (pair : ℕ �
 amounts_more network pairs pair are next = record {
   some = omega (arith, length-append pairs (pair ∷ []));
   ascending = subst IsStrictlyIncreasing (sym (map-append (λ (p : ℕ × ℕ). p.0) pairs (pair ∷ []))) next.ascending;
-  links = push (λ (p : ℕ × ℕ). IsLinkOf network p.0) pairs pair (λ k d below. (are.all k d below).link) next.link;
-  numbers = push (λ (p : ℕ × ℕ). Fits64 p.1) pairs pair (λ k d below. (are.all k d below).amount) next.amount;
+  links = All-push (λ (p : ℕ × ℕ). IsLinkOf network p.0) pairs pair (λ k d below. (are.all k d below).link) next.link;
+  numbers = All-push (λ (p : ℕ × ℕ). Fits64 p.1) pairs pair (λ k d below. (are.all k d below).amount) next.amount;
 }
 
 pair_may_come : (network : Network) (pairs : List (ℕ × ℕ)) (pair : ℕ × ℕ) → AreAmounts network (pairs ++ pair ∷ []) → IsNextPair network pairs pair
@@ -115,7 +111,7 @@ pub side_more : (network : Network) (nodes : List ℕ) (node : ℕ) → AreNodes
 side_more network nodes node are next = record {
   some = omega (arith, length-append nodes (node ∷ []));
   ascending = next.ascending;
-  nodes = push (IsNodeOf network) nodes node are.all next.is_node;
+  nodes = All-push (IsNodeOf network) nodes node are.all next.is_node;
 }
 
 pub makes_side : (network : Network) (nodes : List ℕ) → IsNetwork network → AreNodes network nodes → MakesList (IsNodeOf network) (name_of network) (IsSide network) nodes (IsNextNode network nodes)
@@ -144,7 +140,7 @@ numbers_so_far numbers (inr are) = are
 
 -- one number more
 pub numbers_more : (numbers : List ℕ) (number : ℕ) → AreNumbers numbers → IsNextNumber numbers number → AreNumbers (numbers ++ number ∷ [])
-numbers_more numbers number are next = record { ascending = next.ascending; fit = push Fits64 numbers number are.fit next.fits }
+numbers_more numbers number are next = record { ascending = next.ascending; fit = All-push Fits64 numbers number are.fit next.fits }
 
 pub makes_numbers : (numbers : List ℕ) → AreNumbers numbers → MakesList Fits64 decimal AreNumbers numbers (IsNextNumber numbers)
 makes_numbers numbers are = record {
@@ -186,9 +182,9 @@ ends_so_far network ends (inr are) = are
 pub ends_more : (network : Network) (ends : List (ℕ × ℕ)) (end : ℕ × ℕ) → AreEnds network ends → IsNextEnd network ends end → AreEnds network (ends ++ end ∷ [])
 ends_more network ends end are next = record {
   few = omega (arith, next.room, length-append ends (end ∷ []));
-  within = push IsEnd ends end are.within next.is_end.is_end;
+  within = All-push IsEnd ends end are.within next.is_end.is_end;
   ascending = subst IsStrictlyIncreasing (sym (map-append (λ (p : ℕ × ℕ). p.0) ends (end ∷ []))) next.ascending;
-  nodes = push (λ (e : ℕ × ℕ). IsNodeOf network e.0) ends end are.nodes next.is_end.is_node;
+  nodes = All-push (λ (e : ℕ × ℕ). IsNodeOf network e.0) ends end are.nodes next.is_end.is_node;
 }
 
 pub end_may_come : (network : Network) (ends : List (ℕ × ℕ)) (end : ℕ × ℕ) → AreEnds network (ends ++ end ∷ []) → IsNextEnd network ends end
@@ -234,10 +230,10 @@ new_ends_so_far network ends (inr are) = are
 pub new_ends_more : (network : Network) (ends : List (ℕ × ℕ)) (end : ℕ × ℕ) → AreNewEnds network ends → IsNewEnd network ends end → AreNewEnds network (ends ++ end ∷ [])
 new_ends_more network ends end are new = record {
   few = omega (arith, new.room, length-append ends (end ∷ []));
-  within = push IsEnd ends end are.within new.is_end.is_end;
+  within = All-push IsEnd ends end are.within new.is_end.is_end;
   distinct = all_pairs_push (λ (one other : ℕ × ℕ). one.0 ≢ other.0) ends end are.distinct
       (λ k d below same. new.is_new (k, get_or ends k d, below, get_or_default ends k (get_or ends k d) d below, same));
-  nodes = push (λ (e : ℕ × ℕ). IsNodeOf network e.0) ends end are.nodes new.is_end.is_node;
+  nodes = All-push (λ (e : ℕ × ℕ). IsNodeOf network e.0) ends end are.nodes new.is_end.is_node;
 }
 
 new_end_may_come : (network : Network) (ends : List (ℕ × ℕ)) (end : ℕ × ℕ) → AreNewEnds network (ends ++ end ∷ []) → IsNewEnd network ends end

@@ -4,7 +4,7 @@ use Rattle.std.specs.List.Sorted.{IsPermutation}
 use Rattle.std.proofs.lemmas.Fmt.{decimal_injective}
 use Rattle.std.proofs.lemmas.List.Sorted.{length_permutation}
 use Rattle.hose_words.specs.steps.Cursor.{Position, Took}
-use Rattle.hose_words.specs.Form.{finish, grammar_of}
+use Rattle.hose_words.specs.Form.{finish}
 use Rattle.hose_words.specs.Grammar.{IsFirstNotAllowed}
 use Rattle.hose_words.proofs.Passing.{Passes, pass_branch, pass_finish, pass_list, pass_place}
 use Rattle.hose_graph.specs.steps.Naming.{AsksOf}
@@ -72,15 +72,17 @@ module _ (network : Network) (is : IsNetwork network) where
       subst (λ verb. (others : AskedValues (verb_asked verb)) → Asks network (verb_asked verb) others words → command_told one values ≡ command_told verb others) same
       (λ others asks'. ap (command_told one) (asks_once (verb_asked one) words values others asks asks'))
 
-  one_command : (words : List (List ℕ)) (one other : Command) → IsCommand network words one → IsCommand network words other → one ≡ other
-  one_command [] one other asks asks' = absurd asks.first
-  one_command (word ∷ words) one other asks asks' =
+  -- words ask for one command at most
+  pub command_unique : (words : List (List ℕ)) (one other : Command) → IsCommand network words one → IsCommand network words other → one ≡ other
+  command_unique [] one other asks asks' = absurd asks.first
+  command_unique (word ∷ words) one other asks asks' =
       let same = verbs_apart.apart asks.verb asks'.verb tt tt (sym asks.first ∙ asks'.first) in
       asks.is ∙ same_command asks.verb asks'.verb words asks.values same asks.asks asks'.values asks'.asks ∙ sym asks'.is
 
   -- ---- a command is not wrong
 
-  pass_ends : (words : List (List ℕ)) (hose : List (ℕ × ℕ)) → AreEndsOf network words hose → Passes (ends_form network) words
+  -- where words spell a hose, none of them is wrong
+  pub pass_ends : (words : List (List ℕ)) (hose : List (ℕ × ℕ)) → AreEndsOf network words hose → Passes (ends_form network) words
   pass_ends words hose are =
       subst (Passes (ends_form network)) (sym are.spelled)
       (pass_list (new_ends_closed network) (omega (arith, are.is_hose.is_hose.counted.enough, length_permutation are.ends hose are.same_ends)) (ends_of_hose network are.ends hose are.same_ends are.is_hose))
@@ -94,7 +96,8 @@ module _ (network : Network) (is : IsNetwork network) where
       subst (λ w. Passes (asked_form network (one_link asked)) (w ∷ words)) (sym told) (pass_branch link there (links_apart network is) (pass_asked asked words values asks))
   pass_asked the_hose words hose are = pass_ends words hose are
 
-  pass_command : (words : List (List ℕ)) (command : Command) → IsCommand network words command → Passes (command_form network) words
+  -- where words ask for a command, none of them is wrong
+  pub pass_command : (words : List (List ℕ)) (command : Command) → IsCommand network words command → Passes (command_form network) words
   pass_command [] command asks = absurd asks.first
   pass_command (word ∷ words) command asks =
       subst (λ w. Passes (command_form network) (w ∷ words)) (sym asks.first) (pass_branch asks.verb tt verbs_apart (pass_asked (verb_asked asks.verb) words asks.values asks.asks))
@@ -103,26 +106,12 @@ module _ (network : Network) (is : IsNetwork network) where
 pub ends_unique : (network : Network) (words : List (List ℕ)) (hose other : List (ℕ × ℕ)) → IsNetwork network → AreEndsOf network words hose → AreEndsOf network words other → hose ≡ other
 ends_unique network words hose other is are are' = one_of_ends network is words hose other are are'
 
--- where words spell a hose, none of them is wrong
-pub ends_not_wrong : (network : Network) (words : List (List ℕ)) (hose : List (ℕ × ℕ)) (place : ℕ) → IsNetwork network → AreEndsOf network words hose
-    → IsFirstNotAllowed (grammar_of (ends_form network)) [] words place → ⊥
-ends_not_wrong network words hose place is are wrong = (pass_ends network is words hose are).none place wrong
-
--- words ask for one command at most
-pub command_unique : (network : Network) (words : List (List ℕ)) (one other : Command) → IsNetwork network → IsCommand network words one → IsCommand network words other → one ≡ other
-command_unique network words one other is asks asks' = one_command network is words one other asks asks'
-
--- where words ask for a command, none of them is wrong
-pub command_not_wrong : (network : Network) (words : List (List ℕ)) (command : Command) (place : ℕ) → IsNetwork network → IsCommand network words command
-    → IsFirstNotAllowed (command_grammar network) [] words place → ⊥
-command_not_wrong network words command place is asks wrong = (pass_command network is words command asks).none place wrong
-
 -- what words ask for is what was read of them, but where memory was short
 pub asked_for : (network : Network) (words : List (List ℕ)) (result : Result Command ReadFault) → IsNetwork network → IfOk result (IsCommand network words)
     → ((n : ℕ) → result ≡ Err (fault.Bad n) → (place : ℕ) × IsFirstNotAllowed (command_grammar network) [] words place) → (command : Command) → IsCommand network words command
     → (result ≡ Ok command) ⊎ (result ≡ Err fault.Memory)
-asked_for network words (Ok read) is ok bad command asks = inl (ap Ok (command_unique network words read command is ok asks))
-asked_for network words (Err (fault.Bad n)) is ok bad command asks = let wrong = bad n refl in absurd (command_not_wrong network words command wrong.0 is asks wrong.1)
+asked_for network words (Ok read) is ok bad command asks = inl (ap Ok (command_unique network is words read command ok asks))
+asked_for network words (Err (fault.Bad n)) is ok bad command asks = let wrong = bad n refl in absurd ((pass_command network is words command asks).none wrong.0 wrong.1)
 asked_for network words (Err fault.Memory) is ok bad command asks = inr refl
 
 -- ---- what a command names

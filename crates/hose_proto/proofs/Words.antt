@@ -1,8 +1,6 @@
 -- The words that choices are told by differ.
-use Rattle.std.proofs.Common.{zero, suc, ◌≡◌, ◌≢◌, ℕ, ◌<◌, ◌+◌, List, [], ◌∷◌, Option, None, Some, IfNone, length, get_or, take, decimal, refl, sym, subst, add-one, arith}
+use Rattle.std.proofs.Common.{zero, suc, ◌≡◌, ◌≢◌, ℕ, List, [], ◌∷◌, Option, None, Some, IfNone, get_or, decimal, refl, sym, subst, arith}
 use Rattle.std.specs.List.{All}
-use Rattle.std.proofs.Math.Seq.{take-suc}
-use Rattle.std.proofs.lemmas.List.Elements.{All-append, All-cons, All-nil}
 use Rattle.std.proofs.lemmas.Fmt.{decimal_injective}
 use Rattle.hose_words.specs.Form.{Each}
 use Rattle.hose_words.proofs.Forms.{AreApart, apart_by}
@@ -98,8 +96,3 @@ every_verb P all = every_choice verb_word VERBS verb.Admit verb_of-word P all (a
 
 pub links_apart : (network : Network) → IsNetwork network → AreApart (IsLinkOf network) decimal
 links_apart network is = record { apart = λ one other below below' same. decimal_injective one other (omega (arith, below, is.few_links)) (omega (arith, below', is.few_links)) same }
-
--- what holds of the first of a list holds of one more
-pub All-next : {X : Type 0} (P : X → Type 0) (xs : List X) (i : ℕ) (d : X) → i < length xs → All P (take i xs) → P (get_or xs i d) → All P (take (i + 1) xs)
-All-next P xs i d below all here =
-    rw (add-one, take-suc xs i d below) (All-append P (take i xs) (get_or xs i d ∷ []) all (All-cons P (get_or xs i d) [] here (All-nil P)))

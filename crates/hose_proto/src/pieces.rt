@@ -29,17 +29,9 @@ pub fn add_ends<S: Sink>(gather: &mut Gather, sink: &mut S, top: &Topology, ends
         (flat_map (end_text top.now) ends.now) }
 {
     for end in ends {
-        add_end(gather, sink, top, end);
+        add_node(gather, sink, top, end.0);
+        gather.add_numbered(sink, b":", end.1);
     }
-}
-
-// Adds one endpoint with its rate.
-fn add_end<S: Sink>(gather: &mut Gather, sink: &mut S, top: &Topology, end: &Endpoint)
-    requires { IsNodeOf top.now (node_of end.now) }
-    ensures { IsAdded S.Sink gather.old sink.old gather.new sink.new (end_text top.now end.now) }
-{
-    add_node(gather, sink, top, end.0);
-    gather.add_numbered(sink, b":", end.1);
 }
 
 // Adds the name of one node.
@@ -57,14 +49,7 @@ pub fn add_pairs<S: Sink>(gather: &mut Gather, sink: &mut S, pairs: &[ReservedLi
         (flat_map pair_text pairs.now) }
 {
     for pair in pairs {
-        add_pair(gather, sink, pair);
+        gather.add_numbered(sink, b" ", u64::from(pair.0));
+        gather.add_numbered(sink, b":", pair.1);
     }
-}
-
-// Adds one link with its amount.
-fn add_pair<S: Sink>(gather: &mut Gather, sink: &mut S, pair: &ReservedLink)
-    ensures { IsAdded S.Sink gather.old sink.old gather.new sink.new (pair_text pair.now) }
-{
-    gather.add_numbered(sink, b" ", u64::from(pair.0));
-    gather.add_numbered(sink, b":", pair.1);
 }

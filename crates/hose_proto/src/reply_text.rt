@@ -127,7 +127,7 @@ fn add_at<S: Sink>(gather: &mut Gather, sink: &mut S, words: &[u8], number: u64,
     gather.add_numbered(sink, b" at ", at);
 }
 
-// Adds the epoch of a quote, and that of the last change of what it rests on.
+// Adds the epoch of a quote, and the book's at the time of the take.
 fn add_stale<S: Sink>(gather: &mut Gather, sink: &mut S, seen: u64, now: u64)
     ensures { (network : Network) → IsAdded S.Sink gather.old sink.old gather.new sink.new
         (reply_text network (Stale seen now)) }
