@@ -1,15 +1,12 @@
 -- No field begins another: where two of a kind begin the same bytes, they are one.
-use Rattle.std.proofs.Common.{◌≡◌, ◌∙◌, ℕ, ◌+◌, ◌<◌, ◌≤◌, ◌^◌, List, [], ◌∷◌, ◌++◌, length, ap, sym, append_assoc, arith}
+use Rattle.std.proofs.Common.{◌≡◌, ◌∙◌, ℕ, ◌+◌, ◌<◌, ◌≤◌, ◌^◌, List, [], ◌∷◌, ◌++◌, length, sym, append_assoc, arith}
 use Rattle.byteorder.specs.Endian.{big_bytes}
 use Rattle.hose_graph.specs.declared.limits.TheConstants.{MOST_AMOUNT, MOST_LINKS, MOST_NODES, MOST_RATE}
 use Rattle.hose_graph.specs.Hose.{IsHose, IsEnd}
-use Rattle.hose_graph.specs.declared.entry.Entry.{Entry}
-use Rattle.hose_graph.specs.declared.entry.Entry.TheVariants.{Admit, Release, Down, Up}
-use Rattle.hose_codec.specs.Fields.{name_field, pair_field, pairs_field, ends_field, amounts_field, id_field, link_field, AreFormatAmounts}
+use Rattle.hose_codec.specs.Fields.{name_field, pair_field, pairs_field, ends_field, amounts_field, link_field, AreFormatAmounts}
 use Rattle.hose_codec.specs.steps.Fields.{FitsPair}
 use Rattle.hose_graph.specs.Ranges.{IsAmount}
 use Rattle.hose_codec.specs.steps.Reading.{ArePairsFrom}
-use Rattle.hose_codec.specs.Spelling.{spelling, IsEntry}
 use Rattle.hose_codec.proofs.Numbers.{same_parts, same_numbers}
 use Rattle.hose_codec.proofs.Pairs.{are_pairs, fits_pair}
 
@@ -62,25 +59,3 @@ same_amounts x y r s are_x are_y same =
 
 pub same_links : (x y : ℕ) (r s : List ℕ) → x < MOST_LINKS → y < MOST_LINKS → link_field x ++ r ≡ link_field y ++ s → (x ≡ y) × (r ≡ s)
 same_links x y r s is_x is_y same = same_numbers 2 x y r s (omega (arith, is_x)) (omega (arith, is_y)) same
-
--- two entries whose spellings begin the same bytes
-pub same_entries : (x y : Entry) (r s : List ℕ) → IsEntry x → IsEntry y → spelling x ++ r ≡ spelling y ++ s → (x ≡ y) × (r ≡ s)
-same_entries (Admit customer hose amounts) (Admit client ends pairs) r s is_x is_y same =
-    let rest : (name_field customer ++ (ends_field hose ++ amounts_field amounts)) ++ r ≡ (name_field client ++ (ends_field ends ++ amounts_field pairs)) ++ s = cc in
-    let names = same_names customer client ((ends_field hose ++ amounts_field amounts) ++ r) ((ends_field ends ++ amounts_field pairs) ++ s)
-    (sym (append_assoc (name_field customer) (ends_field hose ++ amounts_field amounts) r) ∙ rest ∙ append_assoc (name_field client) (ends_field ends ++ amounts_field pairs) s) in
-    let hoses = same_ends hose ends (amounts_field amounts ++ r) (amounts_field pairs ++ s) is_x.1 is_y.1
-    (sym (append_assoc (ends_field hose) (amounts_field amounts) r) ∙ names.1 ∙ append_assoc (ends_field ends) (amounts_field pairs) s) in
-    let last = same_amounts amounts pairs r s is_x.2 is_y.2 hoses.1 in
-    (λ i. Admit (names.0 i) (hoses.0 i) (last.0 i), last.1)
-same_entries (Release customer id) (Release client other) r s is_x is_y same =
-    let rest : (name_field customer ++ id_field id) ++ r ≡ (name_field client ++ id_field other) ++ s = cc in
-    let names = same_names customer client (id_field id ++ r) (id_field other ++ s)
-    (sym (append_assoc (name_field customer) (id_field id) r) ∙ rest ∙ append_assoc (name_field client) (id_field other) s) in
-    let last = same_numbers 4 id other r s (omega (arith, is_x.1)) (omega (arith, is_y.1)) names.1 in
-    (λ i. Release (names.0 i) (last.0 i), last.1)
-same_entries (Down one) (Down other) r s is_x is_y same =
-    let links = same_links one other r s is_x is_y cc in (ap Down links.0, links.1)
-same_entries (Up one) (Up other) r s is_x is_y same =
-    let links = same_links one other r s is_x is_y cc in (ap Up links.0, links.1)
-same_entries x y r s is_x is_y same = absurd cc

@@ -2,12 +2,11 @@
 use Rattle.std.proofs.Common.{◌≡◌, ℕ, List, [], ◌++◌, Result, Ok, Err}
 use Rattle.std.specs.Prelude.{IfOk}
 use Rattle.hose_graph.specs.declared.entry.Entry.{Entry}
-use Rattle.hose_graph.specs.declared.entry.Entry.TheVariants.{Admit, Release, Down, Up}
 use Rattle.hose_codec.specs.declared.limits.CodecFault.{CodecFault}
 use Rattle.hose_codec.specs.Spelling.{spelling, IsEntry, IsSpelling}
 use Rattle.hose_codec.specs.steps.Spelling.{Decodes}
 use Rattle.hose_graph.specs.steps.Ranges.{IsInRanges}
-use Rattle.hose_codec.proofs.Entries.{only_entry, same_entry}
+use Rattle.hose_codec.proofs.Entries.{in_ranges, only_entry, same_entry}
 
 pub again : (bytes : List ℕ) (result : Result Entry CodecFault) → Decodes bytes result → (entry : Entry) → IsSpelling entry bytes → IfOk result (λ read. read ≡ entry)
 again bytes (Ok read) decodes entry is = same_entry read entry bytes decodes is
@@ -19,8 +18,5 @@ alone bytes (Ok entry) decodes = λ other rest is begins. only_entry entry other
 alone bytes (Err fault) decodes = tt
 
 pub fits : (bytes : List ℕ) (result : Result Entry CodecFault) → Decodes bytes result → IfOk result IsInRanges
-fits bytes (Ok (Admit customer hose amounts)) decodes = decodes.is_entry.2.fit
-fits bytes (Ok (Release customer id)) decodes = decodes.is_entry.1
-fits bytes (Ok (Down link)) decodes = decodes.is_entry
-fits bytes (Ok (Up link)) decodes = decodes.is_entry
+fits bytes (Ok entry) decodes = in_ranges entry decodes.is_entry
 fits bytes (Err fault) decodes = tt

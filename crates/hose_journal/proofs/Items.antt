@@ -6,7 +6,7 @@ use Rattle.byteorder.specs.Numbers.{length-bytes_high_first}
 use Rattle.std.proofs.Math.Bool.{or-true}
 use Rattle.hose_graph.specs.declared.entry.Entry.{Entry}
 use Rattle.hose_codec.specs.Spelling.{IsEntry, spelling}
-use Rattle.hose_codec.proofs.Lengths.{length-spelling}
+use Rattle.hose_codec.proofs.Entries.{length-spelling}
 use Rattle.hose_journal.specs.declared.layout.TheConstants.{BUFFER_BYTES, CHAINED, DIGEST_BYTES, MARK, SEAL, SEAL_BYTES}
 use Rattle.hose_journal.specs.Chain.{chain}
 use Rattle.hose_journal.specs.Entries.{Item, entered, entries_format, entries_in, entry_bytes, front_of, is_chained, is_seal, item_bytes, seal_bytes, sealed, value_in}

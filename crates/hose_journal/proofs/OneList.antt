@@ -1,12 +1,10 @@
 -- An image stands for one list only.
-use Rattle.std.proofs.Common.{◌≡◌, ◌≢◌, inl, inr, ℕ, ◌+◌, ◌<◌, ◌≤◌, ◌^◌, Bool, true, false, List, [], ◌∷◌, ◌++◌, length, get_or, refl, sym, ◌∙◌, ap, arith, length-append, append_assoc}
+use Rattle.std.proofs.Common.{◌≡◌, ◌≢◌, inl, inr, ℕ, ◌+◌, ◌<◌, ◌≤◌, ◌^◌, Bool, true, false, List, [], ◌∷◌, ◌++◌, length, refl, sym, ◌∙◌, ap, arith, length-append, append_assoc}
 use Rattle.std.proofs.lemmas.Bool.{false≢true}
 use Rattle.byteorder.specs.Endian.{big_bytes}
 use Rattle.hose_graph.specs.declared.entry.Entry.{Entry}
-use Rattle.hose_graph.specs.declared.entry.Entry.TheVariants.{Admit, Release, Down, Up}
 use Rattle.hose_codec.specs.Spelling.{spelling, IsEntry}
-use Rattle.hose_codec.proofs.Alone.{same_entries}
-use Rattle.hose_codec.proofs.Lengths.{length-spelling}
+use Rattle.hose_codec.proofs.Entries.{begins_below, same_entries, length-spelling}
 use Rattle.hose_codec.proofs.Numbers.{same_numbers, same_parts}
 use Rattle.hose_journal.specs.Chain.{chain}
 use Rattle.hose_journal.specs.declared.layout.TheConstants.{DIGEST_BYTES, SEAL, SEAL_BYTES}
@@ -31,18 +29,12 @@ same_record true v w x y r s size is_x is_y same =
     let bodies = same_parts v w (spelling x ++ r) (spelling y ++ s) size (sym (append_assoc v (spelling x) r) ∙ sizes.1 ∙ append_assoc w (spelling y) s) in
     same_entries x y r s is_x is_y bodies.1
 
--- no spelling begins as a seal does
-no_seal : (entry : Entry) (r s : List ℕ) → spelling entry ++ r ≢ SEAL ∷ s
-no_seal (Admit customer hose amounts) r s same = omega (arith, ap (λ (l : List ℕ). get_or l 0 0) same)
-no_seal (Release customer id) r s same = omega (arith, ap (λ (l : List ℕ). get_or l 0 0) same)
-no_seal (Down link) r s same = omega (arith, ap (λ (l : List ℕ). get_or l 0 0) same)
-no_seal (Up link) r s same = omega (arith, ap (λ (l : List ℕ). get_or l 0 0) same)
-
+-- no record of an entry begins as a seal does
 not_sealed : (chained : Bool) (v w : List ℕ) (x : Entry) (r s : List ℕ) → chained ≡ false → IsEntry x → record_bytes chained v (spelling x) ++ r ≢ seal_bytes w ++ s
 not_sealed true v w x r s plain is same = false≢true (sym plain)
 not_sealed false v w x r s plain is same =
     let sizes = same_sizes (length (spelling x)) SEAL_BYTES (spelling x) (SEAL ∷ w) r s (omega (arith, length-spelling x is)) (omega arith) same in
-    no_seal x r (w ++ s) sizes.1
+    begins_below x SEAL r (w ++ s) (omega arith) sizes.1
 
 module _ (version : ℕ) (digest : List ℕ) (size : length digest ≡ DIGEST_BYTES) where
   values : (one other : List Entry) → length (chain digest one) ≡ length (chain digest other)

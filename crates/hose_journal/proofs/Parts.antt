@@ -10,7 +10,7 @@ use Rattle.hose_codec.specs.steps.Spelling.{IsNoSpelling}
 use Rattle.hose_codec.specs.declared.limits.CodecFault.{CodecFault}
 use Rattle.hose_codec.specs.declared.limits.CodecFault.TheVariants.{Bad, Memory}
 use Rattle.hose_codec.specs.declared.limits.TheConstants.{MOST_SPELLING}
-use Rattle.hose_codec.proofs.Lengths.{length-spelling}
+use Rattle.hose_codec.proofs.Entries.{length-spelling}
 use Rattle.hose_codec.proofs.Numbers.{same_numbers, same_parts}
 use Rattle.hose_journal.specs.declared.layout.TheConstants.{OPEN, DIGEST_BYTES}
 use Rattle.hose_journal.specs.declared.part.Found.{Found}

@@ -3,7 +3,7 @@ use Rattle.std.proofs.Common.{◌≡◌, ◌+◌, List, [], ◌∷◌, length, a
 use Rattle.hose_graph.specs.declared.entry.Entry.{Entry}
 use Rattle.hose_law.specs.Book.{Book}
 use Rattle.hose_law.specs.History.{book_after, book_of, next_book, opening_book}
-use Rattle.hose_law.proofs.LiveIds.{next_epoch}
+use Rattle.hose_law.proofs.Entries.{next_epoch}
 
 pub epoch_after : (book : Book) (entries : List Entry) → (book_after book entries).epoch ≡ book.epoch + length entries
 epoch_after book [] = omega arith

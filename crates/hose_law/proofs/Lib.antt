@@ -9,7 +9,9 @@ pub mod Cheapest
 mod Counting
 pub mod Crossing
 pub mod Distances
+pub mod Entries
 pub mod Epochs
+mod Fitting
 pub mod Fronts
 mod Halves
 pub mod Joined

@@ -1,53 +1,15 @@
 -- In every book of a history the live VPNs' ids rise, above the first epoch and up to the book's, so that no two are the same.
-use Rattle.std.proofs.Common.{◌≡◌, ◌≢◌, ℕ, ◌+◌, ◌<◌, List, [], ◌∷◌, length, get_or, not, All, Contains, ap, sym, ◌∙◌, refl, inl, inr, arith}
+use Rattle.std.proofs.Common.{◌≡◌, ◌≢◌, ℕ, List, [], ◌∷◌, get_or, Contains, ap, sym, ◌∙◌, inl, inr, arith}
 use Rattle.std.specs.List.{AllPairs}
 use Rattle.std.proofs.lemmas.Bool.{cases_order}
 use Rattle.std.proofs.lemmas.List.{get_or_default}
-use Rattle.std.proofs.lemmas.List.Elements.{All-nil, All-push, All-filter, All-weaker, All-get_or}
-use Rattle.std.proofs.lemmas.List.Kept.{AllPairs-filter}
-use Rattle.std.proofs.lemmas.List.Quantifiers.{all_pairs_push}
+use Rattle.std.proofs.lemmas.List.Elements.{All-nil}
 use Rattle.hose_graph.specs.declared.entry.Vpn.{Vpn}
 use Rattle.hose_graph.specs.declared.entry.Entry.{Entry}
-use Rattle.hose_graph.specs.declared.entry.Entry.TheVariants.{Admit, Release, Down, Up}
+use Rattle.hose_law.proofs.Entries.{rising_next}
 use Rattle.hose_law.specs.Book.{Book}
-use Rattle.hose_law.specs.History.{opening_book, next_book, book_after, book_of, is_vpn}
+use Rattle.hose_law.specs.History.{opening_book, next_book, book_after, book_of}
 use Rattle.hose_law.specs.steps.Live.{HasRisingIds, IsBetween}
-use Rattle.hose_law.specs.Service.{put_back, taken_out}
-
--- an entry makes the epoch one more
-pub next_epoch : (book : Book) (entry : Entry) → (next_book book entry).epoch ≡ book.epoch + 1
-next_epoch book (Admit customer hose amounts) = refl
-next_epoch book (Release customer id) = refl
-next_epoch book (Down link) = refl
-next_epoch book (Up link) = refl
-
--- at the next epoch the ids are as much within it
-within_next : (first : ℕ) (book : Book) → HasRisingIds first book → All (IsBetween first (book.epoch + 1)) book.live
-within_next first book ids =
-    All-weaker (IsBetween first book.epoch) (IsBetween first (book.epoch + 1)) (λ vpn between. (between.0, omega (arith, between.1))) book.live ids.between
-
--- where the live ones are the same, so are their ids
-rising_same : (first : ℕ) (book : Book) → HasRisingIds first book → (out : List ℕ) → HasRisingIds first (record { epoch = book.epoch + 1; live = book.live; out = out })
-rising_same first book ids out = record { begun = omega (arith, ids.begun); rise = ids.rise; between = within_next first book ids }
-
--- an admission's id is the new epoch, which is above all others, and a release only takes out
-pub rising_next : (first : ℕ) (book : Book) (entry : Entry) → HasRisingIds first book → HasRisingIds first (next_book book entry)
-rising_next first book (Admit customer hose amounts) ids =
-    let vpn : Vpn = record { id = book.epoch + 1; customer = customer; hose = hose; amounts = amounts } in
-    let below : (k : ℕ) (d : Vpn) → k < length book.live → (get_or book.live k d).id < vpn.id =
-    λ k d within. (let one = All-get_or (IsBetween first book.epoch) book.live k d within ids.between in omega (arith, one.1)) in
-    record {
-      begun = omega (arith, ids.begun);
-      rise = all_pairs_push (λ (one other : Vpn). one.id < other.id) book.live vpn ids.rise below;
-      between = All-push (IsBetween first (book.epoch + 1)) book.live vpn (within_next first book ids) (omega (arith, ids.begun), omega arith);
-    }
-rising_next first book (Release customer id) ids = record {
-  begun = omega (arith, ids.begun);
-  rise = AllPairs-filter (λ (one other : Vpn). one.id < other.id) (λ v. not (is_vpn customer id v)) book.live ids.rise;
-  between = All-filter (λ v. not (is_vpn customer id v)) (IsBetween first (book.epoch + 1)) book.live (within_next first book ids);
-}
-rising_next first book (Down link) ids = rising_same first book ids (taken_out book.out link)
-rising_next first book (Up link) ids = rising_same first book ids (put_back book.out link)
 
 rising_after : (first : ℕ) (book : Book) (entries : List Entry) → HasRisingIds first book → HasRisingIds first (book_after book entries)
 rising_after first book [] ids = ids

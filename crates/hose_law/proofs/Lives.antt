@@ -1,30 +1,19 @@
 -- A VPN is live from its admission up to its own release.
-use Rattle.std.proofs.Common.{◌≡◌, ◌≢◌, ◌⊎◌, ℕ, zero, suc, ◌+◌, ◌<◌, ◌≤◌, true, List, [], ◌∷◌, Option, None, Some, length, take, not, slice_get, Contains, refl, sym, ap, ◌∙◌, subst, inl, inr, arith}
-use Rattle.std.proofs.lemmas.Bool.{false≢true}
+use Rattle.std.proofs.Common.{◌≡◌, ◌≢◌, ◌⊎◌, ℕ, zero, suc, ◌+◌, ◌<◌, ◌≤◌, List, [], ◌∷◌, Some, length, take, slice_get, Contains, refl, sym, ap, subst, inl, inr, arith}
 use Rattle.std.proofs.lemmas.Option.{none-some, same_Some}
-use Rattle.std.proofs.lemmas.List.Elements.{Contains-append_left, Contains-push, Contains-push_cases}
+use Rattle.std.proofs.lemmas.List.Elements.{Contains-push}
 use Rattle.hose_graph.specs.declared.entry.Vpn.{Vpn}
 use Rattle.hose_graph.specs.declared.entry.Entry.{Entry}
-use Rattle.hose_graph.specs.declared.entry.Entry.TheVariants.{Admit, Release, Down, Up}
-use Rattle.hose_law.proofs.LiveIds.{next_epoch, rising_ids}
-use Rattle.hose_graph.proofs.Members.{in_filter}
-use Rattle.hose_law.proofs.Releases.{is_vpn_decides, kept_by_release}
+use Rattle.hose_graph.specs.declared.entry.Entry.TheVariants.{Admit}
+use Rattle.hose_law.proofs.LiveIds.{rising_ids}
+use Rattle.hose_law.proofs.Entries.{next_epoch, release_of, kept_by_entry, live_before}
 use Rattle.hose_law.specs.Book.{Book}
-use Rattle.hose_law.specs.History.{opening_book, next_book, book_after, book_of, is_vpn}
+use Rattle.hose_law.specs.History.{opening_book, next_book, book_after, book_of}
 use Rattle.hose_law.specs.Live.{AreLiveUnreleased, NotReleased, StaysLive}
-
--- an entry that is not its release keeps a VPN live
-kept_by_entry : (book : Book) (entry : Entry) (vpn : Vpn) → Contains book.live vpn → (entry ≢ Release vpn.customer vpn.id) → Contains (next_book book entry).live vpn
-kept_by_entry book (Admit customer hose amounts) vpn there other =
-    Contains-append_left book.live (record { id = book.epoch + 1; customer = customer; hose = hose; amounts = amounts } ∷ []) vpn there
-kept_by_entry book (Release customer id) vpn there other =
-    kept_by_release book customer id vpn there (λ same. other (sym (ap (λ (name : List ℕ). Release name vpn.id) same.1 ∙ ap (Release customer) same.0)))
-kept_by_entry book (Down link) vpn there other = there
-kept_by_entry book (Up link) vpn there other = there
 
 -- and so do entries of which none is its release
 kept_by_entries : (book : Book) (entries : List Entry) (place : ℕ) (vpn : Vpn) → Contains book.live vpn
-    → ((j : ℕ) → j < place → slice_get entries j ≢ Some (Release vpn.customer vpn.id)) → Contains (book_after book (take place entries)).live vpn
+    → ((j : ℕ) → j < place → slice_get entries j ≢ Some (release_of vpn)) → Contains (book_after book (take place entries)).live vpn
 kept_by_entries book entries zero vpn there held = there
 kept_by_entries book [] (suc place) vpn there held = there
 kept_by_entries book (entry ∷ entries) (suc place) vpn there held =
@@ -61,49 +50,10 @@ pub stays_live : (epoch : ℕ) (history : List Entry) (k : ℕ) → StaysLive ep
 stays_live epoch history k customer hose amounts place admits behind within held =
     lives_from (opening_book epoch) history k place (epoch + k + 1) customer hose amounts admits refl behind held
 
--- an entry's customer and number, where it is a release
-abbrev released_customer : Entry → Option (List ℕ)
-released_customer (Admit customer hose amounts) = None
-released_customer (Release customer id) = Some customer
-released_customer (Down link) = None
-released_customer (Up link) = None
-
-abbrev released_id : Entry → Option ℕ
-released_id (Admit customer hose amounts) = None
-released_id (Release customer id) = Some id
-released_id (Down link) = None
-released_id (Up link) = None
-
--- the entry makes the VPN live at a book
-abbrev IsMadeBy : Book → Entry → Vpn → Type 0
-IsMadeBy book entry vpn = (entry ≡ Admit vpn.customer vpn.hose vpn.amounts) × (vpn.id ≡ book.epoch + 1)
-
--- a VPN that is live after an entry was live before it and is not released by it, or it is what the entry admitted
-live_before : (book : Book) (entry : Entry) (vpn : Vpn) → Contains (next_book book entry).live vpn
-    → (Contains book.live vpn × (entry ≢ Release vpn.customer vpn.id)) ⊎ IsMadeBy book entry vpn
-live_before book (Admit customer hose amounts) vpn there =
-    let made : Vpn = record { id = book.epoch + 1; customer = customer; hose = hose; amounts = amounts } in
-    elim (Contains-push_cases book.live made vpn there) [
-      | inl before ↦ inl (before, λ same. none-some vpn.id (ap released_id same))
-      | inr last ↦ inr (ap (λ (v : Vpn). Admit v.customer v.hose v.amounts) last, sym (ap (λ (v : Vpn). v.id) last))
-    ]
-live_before book (Release customer id) vpn there =
-    let left = in_filter (λ v. not (is_vpn customer id v)) book.live vpn there in
-    inl (
-      left.0,
-      λ same.
-          let ids : id ≡ vpn.id = same_Some id vpn.id (ap released_id same) in
-          let names : customer ≡ vpn.customer = same_Some customer vpn.customer (ap released_customer same) in
-          let is : is_vpn customer id vpn ≡ true = (is_vpn_decides customer id vpn).1 (sym ids, sym names) in
-          false≢true (sym (ap not is) ∙ left.1),
-    )
-live_before book (Down link) vpn there = inl (there, λ same. none-some vpn.id (ap released_id same))
-live_before book (Up link) vpn there = inl (there, λ same. none-some vpn.id (ap released_id same))
-
 -- a VPN that is live after entries was live before them, and no entry is its release; or an entry admitted it, and no later one is its release
 record WasLive (book : Book) (entries : List Entry) (place : ℕ) (vpn : Vpn) : Type 0 where
   there : Contains book.live vpn
-  held : (j : ℕ) → j < place → slice_get entries j ≢ Some (Release vpn.customer vpn.id)
+  held : (j : ℕ) → j < place → slice_get entries j ≢ Some (release_of vpn)
 
 record WasMade (book : Book) (entries : List Entry) (place : ℕ) (vpn : Vpn) : Type 0 where
   admission : ℕ
@@ -115,7 +65,7 @@ record WasMade (book : Book) (entries : List Entry) (place : ℕ) (vpn : Vpn) : 
 live_after : (book : Book) (entries : List Entry) (place : ℕ) (vpn : Vpn) → Contains (book_after book (take place entries)).live vpn
     → WasLive book entries place vpn ⊎ WasMade book entries place vpn
 live_after book entries zero vpn there = inl (record { there = there; held = λ j below. absurd (omega (arith, below)) })
-live_after book [] (suc place) vpn there = inl (record { there = there; held = λ j below same. none-some (Release vpn.customer vpn.id) same })
+live_after book [] (suc place) vpn there = inl (record { there = there; held = λ j below same. none-some (release_of vpn) same })
 live_after book (entry ∷ entries) (suc place) vpn there =
     elim (live_after (next_book book entry) entries place vpn there) [
       | inl was ↦ elim (live_before book entry vpn was.there) [
@@ -137,14 +87,14 @@ live_after book (entry ∷ entries) (suc place) vpn there =
       })
     ]
   where
-    held_with : (entry : Entry) (entries : List Entry) (place : ℕ) (vpn : Vpn) → (entry ≢ Release vpn.customer vpn.id)
-        → ((j : ℕ) → j < place → slice_get entries j ≢ Some (Release vpn.customer vpn.id))
-        → (j : ℕ) → j < suc place → slice_get (entry ∷ entries) j ≢ Some (Release vpn.customer vpn.id)
-    held_with entry entries place vpn first rest zero below same = first (same_Some entry (Release vpn.customer vpn.id) same)
+    held_with : (entry : Entry) (entries : List Entry) (place : ℕ) (vpn : Vpn) → (entry ≢ release_of vpn)
+        → ((j : ℕ) → j < place → slice_get entries j ≢ Some (release_of vpn))
+        → (j : ℕ) → j < suc place → slice_get (entry ∷ entries) j ≢ Some (release_of vpn)
+    held_with entry entries place vpn first rest zero below same = first (same_Some entry (release_of vpn) same)
     held_with entry entries place vpn first rest (suc j) below same = rest j (omega arith) same
 
     held_later : (entry : Entry) (entries : List Entry) (place : ℕ) (vpn : Vpn)
-        → ((j : ℕ) → j < place → slice_get entries j ≢ Some (Release vpn.customer vpn.id))
+        → ((j : ℕ) → j < place → slice_get entries j ≢ Some (release_of vpn))
         → NotReleased (entry ∷ entries) vpn.customer vpn.id 0 (suc place)
     held_later entry entries place vpn rest zero above below same = absurd (omega (arith, above))
     held_later entry entries place vpn rest (suc j) above below same = rest j (omega arith) same

@@ -1,75 +1,15 @@
 -- Where no change names a link, its load stays and whether it is out of service; and what tracks a history tracks it with an entry more.
-use Rattle.std.proofs.Common.{◌≡◌, ◌∙◌, ℕ, ◌+◌, ◌-◌, ◌≤◌, Bool, List, [], ◌∷◌, ◌++◌, length, take, drop, not, filter, sum_by, Contains, refl, sym, ap, subst, inl, inr, arith, cond, eqb}
-use Rattle.std.specs.List.{flat_map}
-use Rattle.std.proofs.lemmas.Bool.{cases_eq}
-use Rattle.std.proofs.lemmas.Bool.Decides.{nat_tests}
+use Rattle.std.proofs.Common.{◌≡◌, ◌∙◌, ℕ, ◌+◌, ◌-◌, ◌≤◌, List, [], ◌∷◌, ◌++◌, length, take, drop, Contains, refl, sym, ap, subst, arith}
 use Rattle.std.proofs.lemmas.List.{append-nil, append_assoc, get_or-map, length-map, length-take-le, take-append-drop}
-use Rattle.std.proofs.lemmas.List.Concat.{flat_map-cons}
 use Rattle.std.proofs.lemmas.List.Elements.{Contains-append_left, Contains-append_right}
-use Rattle.std.proofs.lemmas.List.Filters.{sum_by-filter_both}
-use Rattle.std.proofs.lemmas.List.Sums.{sum_by-cons, sum_by_push}
 use Rattle.std.proofs.Math.Seq.{take-append-add}
-use Rattle.hose_graph.specs.Ascending.{firsts}
 use Rattle.hose_graph.specs.declared.entry.Entry.{Entry}
-use Rattle.hose_graph.specs.declared.entry.Entry.TheVariants.{Admit, Release, Down, Up}
-use Rattle.hose_graph.specs.declared.entry.Vpn.{Vpn}
-use Rattle.hose_law.specs.Book.{Book, amount_on, load_of}
-use Rattle.hose_law.specs.History.{book_after, book_of, is_vpn, next_book, opening_book}
+use Rattle.hose_law.specs.Book.{Book, load_of}
+use Rattle.hose_law.specs.History.{book_after, book_of, next_book, opening_book, touched_links}
 use Rattle.hose_law.specs.Service.{is_out}
-use Rattle.hose_law.specs.Tracks.{Change, Recent, Tracks, changes_from, changes_of, touched_links}
+use Rattle.hose_law.specs.Tracks.{Change, Recent, Tracks, changes_from, changes_of}
 use Rattle.hose_law.specs.steps.Tracks.{IsNamedSince, LoadsStay, ServiceStays}
-use Rattle.hose_law.proofs.LiveIds.{next_epoch}
-use Rattle.hose_law.proofs.Serving.{back_other, out_other}
-
-abbrev Plan : Type 0
-Plan = List (ℕ × ℕ)
-
--- a plan reserves nothing on what is no link of it
-nothing_on : (l : ℕ) (plan : Plan) → (Contains (firsts plan) l → ⊥) → amount_on l plan ≡ 0
-nothing_on l [] none = refl
-nothing_on l (pair ∷ plan) none =
-    let first = sum_by-cons (λ (p : ℕ × ℕ). cond (eqb p.0 l) p.1 0) pair plan in
-    let rest = nothing_on l plan (λ there. none (Contains-append_right (pair.0 ∷ []) (firsts plan) l there)) in
-    elim (cases_eq pair.0 l) [
-      | inl same ↦ absurd (none (0, omega arith, same))
-      | inr other ↦ grind (arith, nat_tests)
-    ]
-
-abbrev links_of : Vpn → List ℕ
-links_of vpn = firsts vpn.amounts
-
-abbrev amount_in : ℕ → Vpn → ℕ
-amount_in l vpn = amount_on l vpn.amounts
-
--- nor do VPNs together
-nothing_in : (l : ℕ) (vpns : List Vpn) → (Contains (flat_map links_of vpns) l → ⊥) → sum_by (amount_in l) vpns ≡ 0
-nothing_in l [] none = refl
-nothing_in l (vpn ∷ vpns) none =
-    let apart = flat_map-cons links_of vpn vpns in
-    let all : List ℕ = flat_map links_of vpns in
-    let free : Contains (links_of vpn ++ all) l → ⊥ = λ there. none (subst (λ (links : List ℕ). Contains links l) (sym apart) there) in
-    let here = nothing_on l vpn.amounts (λ there. free (Contains-append_left (links_of vpn) all l there)) in
-    let rest = nothing_in l vpns (λ there. free (Contains-append_right (links_of vpn) all l there)) in
-    omega (arith, sum_by-cons (amount_in l) vpn vpns, here, rest)
-
--- an entry leaves the load of a link that it does not touch
-pub untouched : (book : Book) (entry : Entry) (l : ℕ) → (Contains (touched_links book entry) l → ⊥) → load_of book l ≡ load_of (next_book book entry) l
-untouched book (Admit customer hose amounts) l none =
-    let vpn : Vpn = record { id = book.epoch + 1; customer = customer; hose = hose; amounts = amounts } in
-    omega (arith, sum_by_push (amount_in l) book.live vpn, nothing_on l amounts none)
-untouched book (Release customer id) l none =
-    let out : Vpn → Bool = is_vpn customer id in
-    let parts = sum_by-filter_both out (λ v. not (out v)) (λ _. refl) (amount_in l) book.live in
-    omega (arith, parts, nothing_in l (filter out book.live) none)
-untouched book (Down link) l none = refl
-untouched book (Up link) l none = refl
-
--- and whether it is out of service
-pub untouched_out : (book : Book) (entry : Entry) (l : ℕ) → (Contains (touched_links book entry) l → ⊥) → is_out book.out l ≡ is_out (next_book book entry).out l
-untouched_out book (Admit customer hose amounts) l none = refl
-untouched_out book (Release customer id) l none = refl
-untouched_out book (Down link) l none = sym (out_other book.out link l (λ same. none (0, omega arith, sym same)))
-untouched_out book (Up link) l none = sym (back_other book.out link l (λ same. none (0, omega arith, sym same)))
+use Rattle.hose_law.proofs.Entries.{next_epoch, untouched, untouched_out}
 
 -- a link that is touched is named by a change
 pub is_change : (epoch : ℕ) (links : List ℕ) (l : ℕ) → Contains links l → Contains (changes_of epoch links) (epoch, l)

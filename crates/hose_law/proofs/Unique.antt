@@ -4,7 +4,7 @@ use Rattle.std.specs.Bool.{⊤}
 use Rattle.std.proofs.lemmas.Bool.{false≢true}
 use Rattle.std.proofs.lemmas.List.Elements.{All-head, All-tail}
 use Rattle.std.proofs.lemmas.List.Kept.{AllPairs-from_increasing}
-use Rattle.hose_graph.specs.Limits.{operator}
+use Rattle.hose_graph.specs.Limits.{operator, most_live, most_epoch}
 use Rattle.hose_graph.specs.Network.{Network, IsNetwork}
 use Rattle.hose_graph.specs.declared.entry.Vpn.{Vpn}
 use Rattle.hose_graph.specs.declared.entry.Entry.{Entry}
@@ -20,7 +20,7 @@ use Rattle.hose_graph.proofs.Ordered.{same_by_elements}
 use Rattle.hose_law.specs.Plan.{plan_cost}
 use Rattle.hose_law.specs.Book.{Book, HasVpn, IsLiveVpn, load_of}
 use Rattle.hose_law.specs.Decision.{HaveEqualGrounds, IsPlanned, IsReachedList, IsRefused, lowest_end}
-use Rattle.hose_law.specs.History.{book_of, last_epoch, most_live}
+use Rattle.hose_law.specs.History.{book_of}
 use Rattle.hose_law.specs.Room.{room_of, safe_links}
 use Rattle.hose_law.specs.Answer.{AreVpnsOf, IsNewest, IsPlannedAnswer, IsAdmitAnswer, IsAfterAnswer, IsQuoteAnswer, IsTakingAnswer, IsTakeAnswer, IsReleaseAnswer, IsShowAnswer, IsVpnsAnswer, IsLinkAnswer, IsOperatorAnswer, IsServiceAnswer, IsAnswer, IsStep, IsStepOfKind, with_entry}
 use Rattle.hose_law.specs.Service.{LinkStands, is_out}
@@ -62,10 +62,10 @@ module _ {X : Type 0} where
 
 -- spent where no epoch is left, and an answer of a kind where one is
 abbrev SpentOr : Book → (Reply → Option Entry → Type 0) → Reply → Option Entry → Type 0
-SpentOr book = FirstOr (book.epoch ≡ last_epoch) (Spent book.epoch) None (book.epoch < last_epoch)
+SpentOr book = FirstOr (book.epoch ≡ most_epoch) (Spent book.epoch) None (book.epoch < most_epoch)
 
 spent_unique : (book : Book) (Is : Reply → Option Entry → Type 0) → IsUnique Is → IsUnique (SpentOr book Is)
-spent_unique book Is = first_unique (book.epoch ≡ last_epoch) (Spent book.epoch) None (book.epoch < last_epoch) Is (λ last before. omega (arith, last, before))
+spent_unique book Is = first_unique (book.epoch ≡ most_epoch) (Spent book.epoch) None (book.epoch < most_epoch) Is (λ last before. omega (arith, last, before))
 
 -- What a node reaches over a set has one ascending list.
 pub side_unique : (network : Network) (set : List Bool) (from : ℕ) (one other : List ℕ) → IsReachedList network set from one → IsReachedList network set from other → one ≡ other

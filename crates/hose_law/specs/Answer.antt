@@ -10,13 +10,13 @@ use Rattle.hose_graph.specs.declared.command.Reply.TheVariants.{Admitted, Quoted
 use Rattle.hose_graph.specs.declared.entry.Vpn.{Vpn}
 use Rattle.hose_graph.specs.Amounts.{ReservedLink}
 use Rattle.hose_graph.specs.Hose.{Endpoint}
-use Rattle.hose_graph.specs.Limits.{operator}
+use Rattle.hose_graph.specs.Limits.{operator, most_live, most_epoch}
 use Rattle.hose_graph.specs.Network.{Network}
 use Rattle.hose_law.specs.Plan.{plan_cost}
 use Rattle.hose_law.specs.Room.{room_of}
 use Rattle.hose_law.specs.Book.{Book, IsLiveVpn, HasVpn, load_of}
 use Rattle.hose_law.specs.Decision.{HaveEqualGrounds, IsPlanned, IsRefused}
-use Rattle.hose_law.specs.History.{book_of, last_epoch, most_live}
+use Rattle.hose_law.specs.History.{book_of}
 use Rattle.hose_law.specs.ReplyKind.{ReplyKind, kind_of}
 use Rattle.hose_law.specs.ReplyKind.ReplyKind.{ByTheBook, ForDisk, ForMemory, ForNoCommand}
 use Rattle.hose_law.specs.Service.{LinkStands, is_out}
@@ -34,12 +34,12 @@ HasPlan network book hose =
 abbrev pub IsPlannedAnswer : Network → Book → List ℕ → List Endpoint → Reply → Option Entry
     → Type 0
 IsPlannedAnswer network book customer hose (Spent at) None =
-    (at ≡ book.epoch) × (book.epoch ≡ last_epoch) × HasPlan network book hose
+    (at ≡ book.epoch) × (book.epoch ≡ most_epoch) × HasPlan network book hose
 IsPlannedAnswer network book customer hose (Full at) None =
-    (at ≡ book.epoch) × (book.epoch < last_epoch) × (most_live ≤ length book.live)
+    (at ≡ book.epoch) × (book.epoch < most_epoch) × (most_live ≤ length book.live)
     × HasPlan network book hose
 IsPlannedAnswer network book customer hose (Admitted id cost at amounts) (Some entry) =
-    (book.epoch < last_epoch) × (length book.live < most_live)
+    (book.epoch < most_epoch) × (length book.live < most_live)
     × IsPlanned network (room_of network book) hose amounts
     × (id ≡ book.epoch + 1) × (at ≡ book.epoch + 1) × (cost ≡ plan_cost network amounts)
     × (entry ≡ AdmitEntry customer hose amounts)
@@ -99,9 +99,9 @@ abbrev pub IsReleaseAnswer : Book → List ℕ → ℕ → Reply → Option Entr
 IsReleaseAnswer book customer id (NoVpn told at) None =
     (told ≡ id) × (at ≡ book.epoch) × (¬ HasVpn book customer id)
 IsReleaseAnswer book customer id (Spent at) None =
-    (at ≡ book.epoch) × (book.epoch ≡ last_epoch) × HasVpn book customer id
+    (at ≡ book.epoch) × (book.epoch ≡ most_epoch) × HasVpn book customer id
 IsReleaseAnswer book customer id (Released told at) (Some entry) =
-    (book.epoch < last_epoch) × HasVpn book customer id × (told ≡ id) × (at ≡ book.epoch + 1)
+    (book.epoch < most_epoch) × HasVpn book customer id × (told ≡ id) × (at ≡ book.epoch + 1)
     × (entry ≡ ReleaseEntry customer id)
 IsReleaseAnswer book customer id reply entry = ⊥
 
@@ -138,12 +138,12 @@ abbrev pub IsServiceAnswer : Network → Book → Bool → ℕ → Reply → Opt
 IsServiceAnswer network book down link (Already told at) None =
     (told ≡ link) × (at ≡ book.epoch) × LinkStands network book link down
 IsServiceAnswer network book down link (Spent at) None =
-    (at ≡ book.epoch) × (book.epoch ≡ last_epoch) × LinkStands network book link (not down)
+    (at ≡ book.epoch) × (book.epoch ≡ most_epoch) × LinkStands network book link (not down)
 IsServiceAnswer network book true link (Down told at) (Some entry) =
-    (book.epoch < last_epoch) × LinkStands network book link false × (told ≡ link)
+    (book.epoch < most_epoch) × LinkStands network book link false × (told ≡ link)
     × (at ≡ book.epoch + 1) × (entry ≡ DownEntry link)
 IsServiceAnswer network book false link (Up told at) (Some entry) =
-    (book.epoch < last_epoch) × LinkStands network book link true × (told ≡ link)
+    (book.epoch < most_epoch) × LinkStands network book link true × (told ≡ link)
     × (at ≡ book.epoch + 1) × (entry ≡ UpEntry link)
 IsServiceAnswer network book down link reply entry = ⊥
 

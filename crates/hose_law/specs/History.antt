@@ -1,11 +1,13 @@
 -- Histories: lists of accepted entries, the books that they lead to, and which of them are sound
 -- and decided.
 use Rattle.std.specs.Prelude.{ℕ, zero, suc, ◌+◌, ◌<◌, ◌==◌, ◌&&◌, not, Bool, List, [], ◌∷◌, ◌++◌, filter, length, ⊤}
+use Rattle.std.specs.List.{flat_map}
 use Rattle.std.specs.Str.{bytes_eq}
 use Rattle.hose_graph.specs.declared.entry.Entry.{Entry}
 use Rattle.hose_graph.specs.declared.entry.Entry.TheVariants.{Admit, Release, Down, Up}
 use Rattle.hose_graph.specs.declared.entry.Vpn.{Vpn}
-use Rattle.hose_graph.specs.Limits as limits
+use Rattle.hose_graph.specs.Ascending.{firsts}
+use Rattle.hose_graph.specs.Limits.{most_epoch, most_live}
 use Rattle.hose_graph.specs.Network.{Network}
 use Rattle.hose_law.specs.Book.{Book, HasVpn}
 use Rattle.hose_law.specs.Decision.{CanBeReserved, IsPlanned}
@@ -40,6 +42,15 @@ next_book book (Down link) =
 next_book book (Up link) =
     record { epoch = book.epoch + 1; live = book.live; out = put_back book.out link }
 
+-- the links that an entry touches at a book: those of the amounts that it admits or gives up, or
+-- the one that it takes out of service or puts back
+abbrev pub touched_links : Book → Entry → List ℕ
+touched_links book (Admit customer hose amounts) = firsts amounts
+touched_links book (Release customer id) =
+    flat_map (λ (vpn : Vpn). firsts vpn.amounts) (filter (is_vpn customer id) book.live)
+touched_links book (Down link) = link ∷ []
+touched_links book (Up link) = link ∷ []
+
 -- the book after entries, in order
 abbrev pub book_after : Book → List Entry → Book
 book_after book [] = book
@@ -49,24 +60,16 @@ book_after book (entry ∷ entries) = book_after (next_book book entry) entries
 abbrev pub book_of : ℕ → List Entry → Book
 book_of epoch history = book_after (opening_book epoch) history
 
--- the greatest epoch
-abbrev pub last_epoch : ℕ
-last_epoch = limits.most_epoch
-
--- the most VPNs that may be live
-abbrev pub most_live : ℕ
-most_live = limits.most_live
-
 -- An entry is sound at a book: an epoch is left; an admission has room among the live, and its
 -- amounts can be reserved; a release has a VPN of its customer to give up; a link that is taken out
 -- is in service, and one that is put back is out of it.
 abbrev pub IsSoundAt : Network → Book → Entry → Type 0
 IsSoundAt network book (Admit customer hose amounts) =
-    (book.epoch < last_epoch) × (length book.live < most_live)
+    (book.epoch < most_epoch) × (length book.live < most_live)
     × CanBeReserved network (room_of network book) hose amounts
-IsSoundAt network book (Release customer id) = (book.epoch < last_epoch) × HasVpn book customer id
-IsSoundAt network book (Down link) = (book.epoch < last_epoch) × IsInService network book link
-IsSoundAt network book (Up link) = (book.epoch < last_epoch) × IsOutOfService network book link
+IsSoundAt network book (Release customer id) = (book.epoch < most_epoch) × HasVpn book customer id
+IsSoundAt network book (Down link) = (book.epoch < most_epoch) × IsInService network book link
+IsSoundAt network book (Up link) = (book.epoch < most_epoch) × IsOutOfService network book link
 
 -- An entry is decided at a book: it is sound there, and an admission's plan is the decision's.
 abbrev pub IsDecidedAt : Network → Book → Entry → Type 0

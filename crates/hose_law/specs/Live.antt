@@ -7,26 +7,20 @@ use Rattle.hose_graph.specs.Amounts.{ReservedLink}
 use Rattle.hose_graph.specs.Hose.{Endpoint}
 use Rattle.hose_law.specs.History.{book_of}
 
--- what an admission at a place of a history that begins at an epoch makes live: its id is the epoch
--- after it
-abbrev pub admitted_vpn : ℕ → ℕ → List ℕ → List Endpoint → List ReservedLink → Vpn
-admitted_vpn epoch place customer hose amounts =
-    record { id = epoch + place + 1; customer = customer; hose = hose; amounts = amounts }
-
 -- no entry after a place and before another is the customer's release of the number
 abbrev pub NotReleased : List Entry → List ℕ → ℕ → ℕ → ℕ → Type 0
 NotReleased history customer id from to =
     (j : ℕ) → from < j → j < to → slice_get history j ≢ Some (Release customer id)
 
 -- What the admission at a place k made live stays so, and as it was admitted, at each later place
--- up to its customer's release of it.
+-- up to its customer's release of it. Its id is the epoch after its admission.
 abbrev pub StaysLive : ℕ → List Entry → ℕ → Type 0
 StaysLive epoch history k =
     (customer : List ℕ) (hose : List Endpoint) (amounts : List ReservedLink) (place : ℕ)
     → slice_get history k ≡ Some (Admit customer hose amounts) → k < place → place ≤ length history
     → NotReleased history customer (epoch + k + 1) k place
     → Contains (book_of epoch (take place history)).live
-    (admitted_vpn epoch k customer hose amounts)
+    (record { id = epoch + k + 1; customer = customer; hose = hose; amounts = amounts })
 
 -- An admission before a place of a history made the VPN live just as it is, and no later entry
 -- before that place is its customer's release of it.

@@ -1,13 +1,9 @@
 -- Which links the recent entries of a history touched: only their loads may have changed, and
 -- whether they are in service.
-use Rattle.std.specs.Prelude.{◌≡◌, ℕ, ◌+◌, List, [], ◌∷◌, ◌++◌, filter, length, map}
-use Rattle.std.specs.List.{flat_map}
-use Rattle.hose_graph.specs.Ascending.{firsts}
+use Rattle.std.specs.Prelude.{◌≡◌, ℕ, ◌+◌, List, [], ◌∷◌, ◌++◌, length, map}
 use Rattle.hose_graph.specs.declared.entry.Entry.{Entry}
-use Rattle.hose_graph.specs.declared.entry.Entry.TheVariants.{Admit, Release, Down, Up}
-use Rattle.hose_graph.specs.declared.entry.Vpn.{Vpn}
 use Rattle.hose_law.specs.Book.{Book}
-use Rattle.hose_law.specs.History.{book_of, is_vpn, next_book}
+use Rattle.hose_law.specs.History.{book_of, next_book, touched_links}
 
 -- a change: the epoch after an entry, and a link that the entry touched
 abbrev pub Change : Type 0
@@ -17,15 +13,6 @@ Change = ℕ × ℕ
 pub record Recent : Type 0 where
   pub floor : ℕ
   pub changes : List Change
-
--- the links that an entry touches at a book: those of the amounts that it admits or gives up, or
--- the one that it takes out of service or puts back
-abbrev pub touched_links : Book → Entry → List ℕ
-touched_links book (Admit customer hose amounts) = firsts amounts
-touched_links book (Release customer id) =
-    flat_map (λ (vpn : Vpn). firsts vpn.amounts) (filter (is_vpn customer id) book.live)
-touched_links book (Down link) = link ∷ []
-touched_links book (Up link) = link ∷ []
 
 -- links as changes of an epoch
 abbrev pub changes_of : ℕ → List ℕ → List Change

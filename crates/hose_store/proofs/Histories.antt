@@ -3,12 +3,12 @@ use Rattle.std.proofs.Common.{◌≡◌, inl, inr, ℕ, ◌+◌, ◌<◌, ◌≤
 use Rattle.sha2.specs.Sha256.{sha256}
 use Rattle.hose_graph.specs.Network.{Network}
 use Rattle.hose_graph.specs.declared.entry.Entry.{Entry}
-use Rattle.hose_graph.specs.declared.entry.Entry.TheVariants.{Admit, Release, Down, Up}
 use Rattle.hose_law.specs.Book.{Book}
-use Rattle.hose_law.specs.History.{book_of, opening_book, next_book, last_epoch, IsSound, IsSoundAt, IsSoundFrom}
+use Rattle.hose_law.specs.History.{book_of, opening_book, next_book, IsSound, IsSoundAt, IsSoundFrom}
+use Rattle.hose_graph.specs.Limits.{most_epoch}
 use Rattle.hose_law.specs.steps.History.{IsSoundWith}
 use Rattle.hose_law.proofs.Epochs.{epoch_after}
-use Rattle.hose_law.proofs.LiveIds.{next_epoch}
+use Rattle.hose_law.proofs.Entries.{next_epoch, sound_epoch}
 use Rattle.hose_law.proofs.Scripts.{book_after_push, sound_push}
 use Rattle.hose_topo.specs.Canonical.{canonical_text}
 use Rattle.hose_journal.specs.steps.Entries.{AreAllowed, IsListOf}
@@ -25,27 +25,20 @@ is_digest network digest is = is
 
 -- ---- books
 
--- an entry that is sound leaves an epoch
-sound_epoch : (network : Network) (book : Book) (entry : Entry) → IsSoundAt network book entry → book.epoch < last_epoch
-sound_epoch network book (Admit customer hose amounts) sound = sound.0
-sound_epoch network book (Release customer id) sound = sound.0
-sound_epoch network book (Down link) sound = sound.0
-sound_epoch network book (Up link) sound = sound.0
-
 -- a history at whose book an entry is sound is short enough
-pub few_entries : (network : Network) (book : Book) (history : List Entry) (entry : Entry) → book ≡ book_of 0 history → IsSoundAt network book entry → length history < last_epoch
+pub few_entries : (network : Network) (book : Book) (history : List Entry) (entry : Entry) → book ≡ book_of 0 history → IsSoundAt network book entry → length history < most_epoch
 few_entries network book history entry same sound =
     omega (arith, sound_epoch network book entry sound, ap (λ (b : Book). b.epoch) same, epoch_after (opening_book 0) history)
 
 -- entries that are sound one after another are no more than there are epochs
-few_sound : (network : Network) (book : Book) (entries : List Entry) → book.epoch ≤ last_epoch → IsSoundFrom network book entries → book.epoch + length entries ≤ last_epoch
+few_sound : (network : Network) (book : Book) (entries : List Entry) → book.epoch ≤ most_epoch → IsSoundFrom network book entries → book.epoch + length entries ≤ most_epoch
 few_sound network book [] low sound = omega (arith, low)
 few_sound network book (entry ∷ entries) low sound =
     let next : (next_book book entry).epoch ≡ book.epoch + 1 = next_epoch book entry in
     let more = few_sound network (next_book book entry) entries (omega (arith, next, sound_epoch network book entry sound.0)) sound.1 in
     omega (arith, more, next)
 
-pub few_in_history : (network : Network) (history : List Entry) → IsSound network 0 history → length history ≤ last_epoch
+pub few_in_history : (network : Network) (history : List Entry) → IsSound network 0 history → length history ≤ most_epoch
 few_in_history network history sound = omega (arith, few_sound network (opening_book 0) history (omega arith) sound)
 
 -- a sound history, and an entry that is sound at its end

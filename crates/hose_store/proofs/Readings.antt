@@ -5,7 +5,6 @@ use Rattle.hose_io.proofs.Frames.{Stays-none, Stays-next, Rose-later}
 use Rattle.hose_graph.specs.Network.{Network}
 use Rattle.hose_graph.specs.steps.Ranges.{IsInRanges}
 use Rattle.hose_graph.specs.declared.entry.Entry.{Entry}
-use Rattle.hose_graph.specs.declared.entry.Entry.TheVariants.{Admit, Release, Down, Up}
 use Rattle.hose_law.specs.Book.{Book}
 use Rattle.hose_law.specs.History.{opening_book, next_book, IsSoundAt}
 use Rattle.hose_law.proofs.Scripts.{book_after_push}
@@ -18,6 +17,7 @@ use Rattle.hose_journal.specs.declared.layout.TheConstants.{DIGEST_BYTES}
 use Rattle.hose_journal.specs.declared.fault.JournalFault.{JournalFault}
 use Rattle.hose_journal.specs.declared.fault.JournalFault.TheVariants as journal
 use Rattle.hose_journal.specs.declared.reading.Reading.{Reading}
+use Rattle.hose_codec.proofs.Entries.{in_ranges}
 use Rattle.hose_codec.specs.Spelling.{IsEntry}
 use Rattle.hose_journal.specs.Entries.{Item, entered, entries_format, entries_in, front_of}
 use Rattle.hose_journal.specs.steps.Entries.{AreAllowed, IsListOf, entries_reader}
@@ -58,14 +58,8 @@ last_entry : (version : ℕ) (digest : List ℕ) (before items : List Item) (ent
 last_entry version digest before [] entry are = are.0
 last_entry version digest before (item ∷ items) entry are = last_entry version digest (before ++ item ∷ []) items entry are.1
 
-entry_ranges : (entry : Entry) → IsEntry entry → IsInRanges entry
-entry_ranges (Admit customer hose amounts) is = is.2.fit
-entry_ranges (Release customer id) is = is.1
-entry_ranges (Down link) is = is
-entry_ranges (Up link) is = is
-
 found_ranges : (content : Option (List ℕ)) (digest : List ℕ) (entries : List Entry) (entry : Entry) (place end : ℕ) → IsFoundAt content digest entries entry place end → IsInRanges entry
-found_ranges content digest entries entry place end found = entry_ranges entry (last_entry found.version digest [] found.before entry found.are)
+found_ranges content digest entries entry place end found = in_ranges entry (last_entry found.version digest [] found.before entry found.are)
 
 module _ {D : Type 0} (disk : Ghosts D) where
   -- ---- the next entry

@@ -1,7 +1,8 @@
 // Reading a journal's entries, and entering them in a book.
 ghost use Rattle.std.specs.Prelude.{◌≡◌, ◌+◌, ◌≤◌, List, Ok, false, true, IfErr, IfOk, IfSome, IsTrue, OnOk};
 ghost use Rattle.hose_graph.specs.declared.entry.Entry.{Entry};
-ghost use Rattle.hose_law.specs.History.{IsSoundAt, last_epoch};
+ghost use Rattle.hose_law.specs.History.{IsSoundAt};
+ghost use Rattle.hose_graph.specs.Limits.{most_epoch};
 ghost use Rattle.hose_journal.specs.Moments.{KeepsCount};
 ghost use Rattle.hose_journal.specs.steps.Reading.{OnlyRead};
 ghost use Rattle.hose_store.specs.steps.Opening.{HasGiven, HasReadOn, IsRecovering, IsStopped};
@@ -32,7 +33,7 @@ fn recover_next<D: Disk>(book: &mut Book, reading: &mut Reading<D>) -> Result<bo
     requires { IsRecovering D.Disk book.old reading.old }
     ensures recovering { OnOk result (IsRecovering D.Disk book.new reading.new) }
     ensures more { result ≡ Ok true →
-        (book.new.book.epoch ≡ book.old.book.epoch + 1) × (book.new.book.epoch ≤ last_epoch) }
+        (book.new.book.epoch ≡ book.old.book.epoch + 1) × (book.new.book.epoch ≤ most_epoch) }
     ensures closed { result ≡ Ok false → IsTrue reading.new.closed }
     ensures network { book.new.network ≡ book.old.network }
     ensures stopped { IfErr result

@@ -2,7 +2,7 @@
 ghost use Rattle.std.specs.Prelude.{◌≡◌, ◌+◌, ◌≤◌, [], List, None, Ok, IfErr, IfOk, IsTrue, MatchResult, OnOk, OnSome, length};
 ghost use Rattle.hose_graph.specs.Network.{Network};
 ghost use Rattle.hose_graph.specs.declared.entry.Entry.{Entry};
-ghost use Rattle.hose_law.specs.History.{last_epoch};
+ghost use Rattle.hose_graph.specs.Limits.{most_epoch};
 ghost use Rattle.hose_journal.specs.Chain.{chain};
 ghost use Rattle.hose_journal.specs.Moments.{KeepsCount};
 ghost use Rattle.hose_journal.specs.Opening.{AddsNoRecord};
@@ -72,7 +72,7 @@ impl<D: Disk> Replay<D> {
             HasReplayed D.Disk was network self.new entries result }
         ensures more { IfOk result (λ next. OnSome next
             ((self.new.book.book.epoch ≡ self.old.book.book.epoch + 1)
-            × (self.new.book.book.epoch ≤ last_epoch))) }
+            × (self.new.book.book.epoch ≤ most_epoch))) }
         ensures closed { result ≡ Ok None → IsTrue self.new.reading.closed }
         ensures only { OnlyRead D.Disk self.old.reading.disk self.new.reading.disk }
     {
@@ -82,7 +82,7 @@ impl<D: Disk> Replay<D> {
     /// How many entries it has given.
     pub fn epoch(&self) -> u64
         ensures value { result ≡ self.now.book.book.epoch }
-        ensures bound { result ≤ last_epoch }
+        ensures bound { result ≤ most_epoch }
         ensures given { (was : D) → (network : Network) → (entries : List Entry) →
             IsReplaying D.Disk was network self.now entries → result ≡ length entries }
     {
@@ -141,7 +141,7 @@ fn read_next<D: Disk>(
     ensures next { (entries : List Entry) → HasGiven D.Disk book.old reading.old entries →
         GivesNext D.Disk book.new reading.new entries result }
     ensures more { IfOk result (λ next. OnSome next
-        ((book.new.book.epoch ≡ book.old.book.epoch + 1) × (book.new.book.epoch ≤ last_epoch))) }
+        ((book.new.book.epoch ≡ book.old.book.epoch + 1) × (book.new.book.epoch ≤ most_epoch))) }
     ensures network { book.new.network ≡ book.old.network }
     ensures stopped { IfErr result
         (IsStopped D.Disk reading.old.disk reading.new.disk book.old.network) }

@@ -1,6 +1,6 @@
 use Rattle.std.proofs.Common.{rules, length, arith, ap}
 use Rattle.hose_codec.specs.Spelling.{IsSpelling}
-use Rattle.hose_codec.proofs.Lengths.{length-spelling}
+use Rattle.hose_codec.proofs.Entries.{length-spelling}
 use Rattle.hose_codec.proofs.writing.encode.Goals as goal
 
 pub returns-clause-short : goal.returns-clause-short

@@ -1,5 +1,5 @@
 use Rattle.std.proofs.Common.{arith}
-use Rattle.hose_codec.proofs.Lengths.{length-admission}
+use Rattle.hose_codec.proofs.Entries.{length-admission}
 use Rattle.hose_codec.proofs.writing.spelling_len.Goals as goal
 
 pub returns-in-Admit : goal.returns-in-Admit

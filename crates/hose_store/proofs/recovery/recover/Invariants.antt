@@ -1,5 +1,5 @@
 use Rattle.std.proofs.Common.{◌≡◌, ◌-◌}
-use Rattle.hose_law.specs.History.{last_epoch}
+use Rattle.hose_graph.specs.Limits.{most_epoch}
 use Rattle.hose_journal.specs.Moments.{KeepsCount}
 use Rattle.hose_journal.specs.steps.Reading.{OnlyRead}
 use Rattle.hose_store.specs.steps.Opening.{IsRecovering}
@@ -14,4 +14,4 @@ invariant-loop g l = record {
 }
 
 abbrev pub decreases-loop : goal.decreases-loop
-decreases-loop g l = last_epoch - l.book.book.epoch
+decreases-loop g l = most_epoch - l.book.book.epoch

@@ -1,7 +1,7 @@
 use Rattle.std.proofs.Common.{◌≡◌, ◌∙◌, ◌+◌, inl, inr, length, List, ℕ, None, Some, refl, sym, subst, ap, arith}
 use Rattle.hose_graph.specs.declared.entry.Entry.{Entry}
 use Rattle.hose_codec.specs.Spelling.{IsEntry}
-use Rattle.hose_codec.proofs.Lengths.{length-spelling}
+use Rattle.hose_codec.proofs.Entries.{length-spelling}
 use Rattle.hose_journal.specs.steps.Gates.{IsDoubtful}
 use Rattle.hose_journal.specs.Image.{IsClosed}
 use Rattle.hose_journal.specs.steps.Journal.{Account, IsListAmid, IsReady, Stands, with_doubt}
