@@ -11,7 +11,8 @@ use Rattle.hose_graph.specs.declared.entry.Entry.TheVariants.{Admit, Release, Do
 use Rattle.hose_graph.specs.Network.{Network}
 use Rattle.hose_law.specs.Book.{Book, HasVpn}
 use Rattle.hose_law.specs.Decision.{CanBeReserved, Fits}
-use Rattle.hose_law.specs.History.{IsSoundAt, last_epoch}
+use Rattle.hose_law.specs.History.{IsSoundAt}
+use Rattle.hose_graph.specs.Limits.{most_epoch}
 use Rattle.hose_law.specs.Room.{first_links, room_of}
 use Rattle.hose_law.specs.Service.{LinkStands}
 use Rattle.hose_law.specs.steps.Service.{service_entry}
@@ -42,13 +43,13 @@ module _ (network : Network) (book : Book) where
   sound_admission hose amounts refusal place sound refused = refused
 
   -- nor a release
-  sound_release : (customer : List ℕ) (id : ℕ) (refusal : BookRefusal) → book.epoch < last_epoch → HasVpn book customer id → IsRefusedRelease book customer id refusal → ⊥
+  sound_release : (customer : List ℕ) (id : ℕ) (refusal : BookRefusal) → book.epoch < most_epoch → HasVpn book customer id → IsRefusedRelease book customer id refusal → ⊥
   sound_release customer id Spent left has refused = omega (arith, left, refused.1)
   sound_release customer id NoVpn left has refused = refused has
   sound_release customer id refusal left has refused = refused
 
   -- nor an entry on a link
-  sound_service : (down : Bool) (link : ℕ) (refusal : BookRefusal) → book.epoch < last_epoch → LinkStands network book link (not down) → IsRefusedService network book down link refusal → ⊥
+  sound_service : (down : Bool) (link : ℕ) (refusal : BookRefusal) → book.epoch < most_epoch → LinkStands network book link (not down) → IsRefusedService network book down link refusal → ⊥
   sound_service down link NoLink left stands refused = refused stands.0
   sound_service down link Already left stands refused = stands_once network book down link refused stands
   sound_service down link Spent left stands refused = omega (arith, left, refused.1)
@@ -143,7 +144,7 @@ module _ (network : Network) (book : Book) where
   service_refused true link refusal refused = refused
   service_refused false link refusal refused = refused
 
-  pub service_sound : (down : Bool) (link : ℕ) → book.epoch < last_epoch → LinkStands network book link (not down) → IsSoundAt network book (service_entry down link)
+  pub service_sound : (down : Bool) (link : ℕ) → book.epoch < most_epoch → LinkStands network book link (not down) → IsSoundAt network book (service_entry down link)
   service_sound true link left stands = (left, stands)
   service_sound false link left stands = (left, stands)
 

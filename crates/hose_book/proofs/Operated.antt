@@ -3,11 +3,12 @@ use Rattle.std.proofs.Common.{◌≡◌, ◌+◌, ◌<◌, ◌≤◌, ℕ, List,
 use Rattle.hose_graph.specs.declared.entry.Entry.{Entry}
 use Rattle.hose_graph.specs.Network.{Network, IsNetwork}
 use Rattle.hose_law.specs.Book.{Book}
-use Rattle.hose_law.specs.History.{last_epoch, next_book}
+use Rattle.hose_law.specs.History.{next_book}
+use Rattle.hose_graph.specs.Limits.{most_epoch}
 use Rattle.hose_law.specs.steps.Live.{HasRisingIds}
 use Rattle.hose_law.specs.Service.{links_in_service}
 use Rattle.hose_law.specs.Tracks.{Recent}
-use Rattle.hose_law.proofs.LiveIds.{rising_next}
+use Rattle.hose_law.proofs.Entries.{rising_next}
 use Rattle.hose_book.specs.steps.Changes.{AreUpTo, with_changes}
 use Rattle.hose_book.specs.steps.Ledger.{AreKeptLoads, IsKept}
 use Rattle.hose_book.specs.steps.Serving.{Served}
@@ -20,9 +21,9 @@ module _ (network : Network) (loads : List ℕ) (book : Book) (served : Served) 
 
   -- what a book keeps holds of it
   pub operated : (recent after : Recent) (link : ℕ) (entry : Entry) → next_book book entry ≡ after_it → after ≡ with_changes recent book.epoch (link ∷ [])
-      → IsNetwork network → AreKeptLoads network book loads → book.epoch < last_epoch → HasRisingIds 0 book → All (IsKept network) book.live
+      → IsNetwork network → AreKeptLoads network book loads → book.epoch < most_epoch → HasRisingIds 0 book → All (IsKept network) book.live
       → recent.floor ≤ book.epoch → AreUpTo book.epoch recent.changes → served.links ≡ links_in_service network served.out
-      → IsNetwork network × AreKeptLoads network after_it loads × (book.epoch + 1 ≤ last_epoch) × HasRisingIds 0 after_it × All (IsKept network) book.live
+      → IsNetwork network × AreKeptLoads network after_it loads × (book.epoch + 1 ≤ most_epoch) × HasRisingIds 0 after_it × All (IsKept network) book.live
       × (after.floor ≤ book.epoch + 1) × AreUpTo (book.epoch + 1) after.changes × (served.links ≡ links_in_service network served.out)
   operated recent after link entry next changed is_network kept left rising all floor up_to links = (
     is_network,

@@ -3,7 +3,8 @@ ghost use Rattle.std.specs.Prelude.{◌≡◌, ◌+◌, ◌<◌, ◌≤◌, ◌^
 ghost use Rattle.hose_graph.specs.Amounts.{link_of};
 ghost use Rattle.hose_graph.specs.Hose.{IsHose};
 ghost use Rattle.hose_law.specs.Book.{IsLiveVpn, amount_on};
-ghost use Rattle.hose_law.specs.History.{IsSoundAt, last_epoch};
+ghost use Rattle.hose_law.specs.History.{IsSoundAt};
+ghost use Rattle.hose_graph.specs.Limits.{most_epoch};
 ghost use Rattle.hose_book.specs.steps.Ledger.{TracksOn, next_ledger};
 
 use crate::Book;
@@ -80,7 +81,7 @@ impl Book {
     fn remove(&mut self, customer: &Name, id: u64, place: usize)
         requires there { IsSomeAnd (slice_get self.old.book.live place)
             (IsLiveVpn self.old.book customer.now id) }
-        requires epoch { self.old.book.epoch < last_epoch }
+        requires epoch { self.old.book.epoch < most_epoch }
         ensures { self.new ≡ next_ledger self.old (Entry.Release customer.now id) }
     {
         let vpn = &self.live.as_slice()[place];

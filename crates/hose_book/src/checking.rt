@@ -6,7 +6,7 @@ ghost use Rattle.hose_law.specs.Decision.{Fits};
 ghost use Rattle.hose_law.specs.History.{IsSoundAt};
 ghost use Rattle.hose_law.specs.Room.{free_rates};
 ghost use Rattle.hose_law.specs.steps.Service.{service_entry};
-ghost use Rattle.hose_tree.specs.steps.Amounts.{AreCarried, AreOnLinks};
+ghost use Rattle.hose_tree.specs.steps.Amounts.{AreWithinCapacities, AreOnLinks};
 ghost use Rattle.hose_book.specs.steps.Refusal.{AreInService, IsLowestFull, IsLowestOut, IsRefusedFor, Judges};
 
 use crate::Book;
@@ -120,7 +120,7 @@ fn first_link_out(service: &LinkSet, amounts: &Amounts) -> Option<u32>
 
 // The lowest link that has less free than its amount.
 fn first_full_link(top: &Topology, loads: &[u64], amounts: &Amounts) -> Option<u32>
-    requires loads { AreCarried top.now loads.now }
+    requires loads { AreWithinCapacities top.now loads.now }
     requires links { AreOnLinks top.now amounts.now }
     ensures some { IfSome result (IsLowestFull (free_rates top.now loads.now) amounts.now) }
     ensures none { IfNone result (Fits (free_rates top.now loads.now) amounts.now) }

@@ -27,7 +27,7 @@ ghost use Rattle.hose_law.specs.Live.{Rise};
 ghost use Rattle.hose_law.specs.Room.{first_links};
 ghost use Rattle.hose_law.specs.Service.{is_out};
 ghost use Rattle.hose_law.specs.Tracks.{Tracks};
-ghost use Rattle.hose_tree.specs.steps.Amounts.{AreCarried};
+ghost use Rattle.hose_tree.specs.steps.Amounts.{AreWithinCapacities};
 
 mod books;
 mod changing;
@@ -70,7 +70,7 @@ impl Model for Book {
     ghost use Rattle.hose_book.specs.steps.Changes.{AreUpTo};
     ghost use Rattle.hose_book.specs.Ledger.{Ledger};
     ghost use Rattle.hose_book.specs.steps.Ledger.{AreKeptLoads, IsKept};
-    ghost use Rattle.hose_law.specs.History.{last_epoch};
+    ghost use Rattle.hose_graph.specs.Limits.{most_epoch};
     ghost use Rattle.hose_law.specs.steps.Live.{HasRisingIds};
     ghost use Rattle.hose_law.specs.Service.{links_in_service};
 
@@ -86,7 +86,7 @@ impl Model for Book {
     ghost invariant = { λ b. IsNetwork b.topology
         × AreKeptLoads b.topology (record { epoch = b.epoch; live = b.live; out = b.served.out })
         b.loads.items
-        × (b.epoch ≤ last_epoch)
+        × (b.epoch ≤ most_epoch)
         × HasRisingIds 0 (record { epoch = b.epoch; live = b.live; out = b.served.out })
         × All (IsKept b.topology) b.live
         × (b.recent.floor ≤ b.epoch)
@@ -145,7 +145,7 @@ impl Book {
     /// than its capacity.
     pub fn loads(&self) -> &[u64]
         ensures value { result.now ≡ loads_of self.now.network self.now.book }
-        ensures carried { AreCarried self.now.network result.now }
+        ensures carried { AreWithinCapacities self.now.network result.now }
     {
         &self.loads
     }
@@ -155,7 +155,7 @@ impl Book {
         ensures value { result.now ≡ first_links self.now.network self.now.book }
         ensures places { length result.now ≡ length self.now.network.links }
     {
-        self.served.links()
+        &self.served.links
     }
 
     /// Whether a link of the network is out of service.
@@ -193,7 +193,7 @@ impl Book {
         ensures value { result ≡ self.now.recent.floor }
         ensures bound { result ≤ self.now.book.epoch }
     {
-        self.recent.floor()
+        self.recent.floor
     }
 
     /// The changes that are of a later epoch than this, the first of which is found by halving.

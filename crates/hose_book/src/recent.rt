@@ -24,7 +24,8 @@ pub fn law_limit()
 // A contract sees the floor and the changes.
 #[derive(Drop)]
 pub(crate) struct RecentChanges {
-    floor: u64,
+    // Each change of a later epoch is among the changes.
+    pub(crate) floor: u64,
     changes: Vec<(u64, u32)>,
 }
 
@@ -53,13 +54,6 @@ impl RecentChanges {
             floor: epoch,
             changes,
         })
-    }
-
-    // The floor: each change of a later epoch is among the changes.
-    pub(crate) fn floor(&self) -> u64
-        ensures { result ≡ self.now.floor }
-    {
-        self.floor
     }
 
     // The changes, in the order of their entries.

@@ -14,7 +14,7 @@ use std::marker::Model;
 // A contract sees both.
 #[derive(Drop)]
 pub(crate) struct ServedLinks {
-    links: LinkSet,
+    pub(crate) links: LinkSet,
     out: Vec<u32>,
 }
 
@@ -42,13 +42,6 @@ impl ServedLinks {
         links.fill_where(|_| true);
         let out = Vec::with_capacity(alloc, MOST_LINKS as usize)?;
         Ok(ServedLinks { links, out })
-    }
-
-    // The links in service.
-    pub(crate) fn links(&self) -> &LinkSet
-        ensures { result.now ≡ self.now.links }
-    {
-        &self.links
     }
 
     // Takes a link in service out of it.

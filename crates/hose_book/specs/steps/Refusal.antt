@@ -6,7 +6,8 @@ use Rattle.hose_graph.specs.Amounts.{ReservedLink, amount_of, link_of}
 use Rattle.hose_graph.specs.Hose.{Endpoint}
 use Rattle.hose_graph.specs.Network.{Network, IsLinkOf}
 use Rattle.hose_law.specs.Book.{Book, HasVpn}
-use Rattle.hose_law.specs.History.{IsSoundAt, last_epoch, most_live}
+use Rattle.hose_law.specs.History.{IsSoundAt}
+use Rattle.hose_graph.specs.Limits.{most_live, most_epoch}
 use Rattle.hose_law.specs.Room.{first_links, room_of}
 use Rattle.hose_law.specs.Service.{LinkStands}
 use Rattle.hose_law.specs.Tree.{IsTreeReservation}
@@ -16,7 +17,7 @@ use Rattle.hose_book.specs.declared.checking.BookRefusal.TheVariants.{Spent, Ful
 
 -- the book has an epoch left, and room among the live
 pub record HasPlace (book : Book) : Type 0 where
-  pub epoch : book.epoch < last_epoch
+  pub epoch : book.epoch < most_epoch
   pub room : length book.live < most_live
 
 -- an amount is above what its link has free
@@ -56,9 +57,9 @@ AreOnTree network hose amounts = IsTreeReservation network (all_links network) h
 -- tree, out of service, no room.
 abbrev pub IsRefusedAdmission : Network → Book → List Endpoint → List ReservedLink → BookRefusal
     → Type 0
-IsRefusedAdmission network book hose amounts Spent = book.epoch ≡ last_epoch
+IsRefusedAdmission network book hose amounts Spent = book.epoch ≡ most_epoch
 IsRefusedAdmission network book hose amounts Full =
-    (book.epoch < last_epoch) × (most_live ≤ length book.live)
+    (book.epoch < most_epoch) × (most_live ≤ length book.live)
 IsRefusedAdmission network book hose amounts NotATree =
     HasPlace book × (¬ AreOnTree network hose amounts)
 IsRefusedAdmission network book hose amounts (OutOfService link) =
@@ -74,7 +75,7 @@ IsRefusedAdmission network book hose amounts Already = ⊥
 -- a release is refused for the first of these: no VPN, spent
 abbrev pub IsRefusedRelease : Book → List ℕ → ℕ → BookRefusal → Type 0
 IsRefusedRelease book customer id NoVpn = ¬ HasVpn book customer id
-IsRefusedRelease book customer id Spent = HasVpn book customer id × (book.epoch ≡ last_epoch)
+IsRefusedRelease book customer id Spent = HasVpn book customer id × (book.epoch ≡ most_epoch)
 IsRefusedRelease book customer id Full = ⊥
 IsRefusedRelease book customer id NotATree = ⊥
 IsRefusedRelease book customer id (OutOfService link) = ⊥
@@ -88,7 +89,7 @@ abbrev pub IsRefusedService : Network → Book → Bool → ℕ → BookRefusal 
 IsRefusedService network book down link NoLink = ¬ IsLinkOf network link
 IsRefusedService network book down link Already = LinkStands network book link down
 IsRefusedService network book down link Spent =
-    LinkStands network book link (not down) × (book.epoch ≡ last_epoch)
+    LinkStands network book link (not down) × (book.epoch ≡ most_epoch)
 IsRefusedService network book down link Full = ⊥
 IsRefusedService network book down link NotATree = ⊥
 IsRefusedService network book down link (OutOfService other) = ⊥

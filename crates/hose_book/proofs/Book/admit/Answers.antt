@@ -5,8 +5,7 @@ use Rattle.hose_graph.specs.declared.entry.Vpn.{Vpn}
 use Rattle.hose_graph.specs.declared.entry.Entry.TheVariants.{Admit}
 use Rattle.hose_law.specs.Book.{Book, amount_on, load_of}
 use Rattle.hose_law.specs.History.{IsSoundAt, next_book}
-use Rattle.hose_law.proofs.Sold.{NoneOversold, entry_keeps}
-use Rattle.hose_law.proofs.LiveIds.{rising_next}
+use Rattle.hose_law.proofs.Entries.{rising_next, NoneOversold, entry_keeps}
 use Rattle.hose_law.specs.steps.Live.{HasRisingIds}
 use Rattle.hose_graph.specs.Ascending.{firsts}
 use Rattle.hose_law.specs.Tracks.{Recent}

@@ -1,7 +1,7 @@
 use Rattle.std.proofs.Common.{◌≡◌, ◌<◌, ℕ, Bool, List, length, subst, ap, arith}
 use Rattle.hose_graph.specs.Network.{Network}
 use Rattle.hose_law.specs.Decision.{Fits}
-use Rattle.hose_law.specs.History.{last_epoch, most_live}
+use Rattle.hose_graph.specs.Limits.{most_live, most_epoch}
 use Rattle.hose_law.specs.Room.{first_links, free_rates, room_of}
 use Rattle.hose_law.specs.Tree.{IsTreeReservation}
 use Rattle.hose_law.specs.Walk.{all_links}
@@ -35,6 +35,6 @@ returns-in-None c customer =
     let network : c.self.inside.topology ≡ ledger.network = ap (λ (s : Ledger). s.network) c.self.view_is in
     let fits : Fits (room_of ledger.network ledger.book).free amounts =
     subst (λ (loads : List ℕ). Fits (free_rates ledger.network loads) amounts) c.loads.ensures.value (subst (λ (n : Network). Fits (free_rates n c.loads.result.now) amounts) network fits_here) in
-    let left : ledger.book.epoch < last_epoch = omega (arith, c.if-self-eq-MOST_EPOCH.false, c.self.invariant.2, ap (λ (s : Ledger). s.book.epoch) c.self.view_is) in
+    let left : ledger.book.epoch < most_epoch = omega (arith, c.if-self-eq-MOST_EPOCH.false, c.self.invariant.2, ap (λ (s : Ledger). s.book.epoch) c.self.view_is) in
     let few : length ledger.book.live < most_live = omega (arith, c.if-as_slice-ge-MOST_LIVE.false, ap length c.as_slice.ensures.value, ap (λ (s : Ledger). length s.book.live) c.self.view_is) in
     (left, few, record { on_tree = over_served ledger.network (all_links ledger.network) hose amounts on_tree (first_links ledger.network ledger.book) served; fits = fits })

@@ -3,10 +3,10 @@ use Rattle.std.proofs.lemmas.List.{take_at}
 use Rattle.hose_graph.specs.declared.entry.Vpn.{Vpn}
 use Rattle.hose_graph.specs.declared.entry.Entry.TheVariants.{Release}
 use Rattle.hose_law.specs.Book.{Book, IsLiveVpn, amount_on, load_of}
-use Rattle.hose_law.specs.History.{last_epoch, next_book}
+use Rattle.hose_law.specs.History.{next_book}
+use Rattle.hose_graph.specs.Limits.{most_epoch}
 use Rattle.hose_law.specs.steps.Live.{HasRisingIds}
-use Rattle.hose_law.proofs.LiveIds.{rising_next}
-use Rattle.hose_law.proofs.Sold.{NoneOversold, entry_keeps}
+use Rattle.hose_law.proofs.Entries.{rising_next, NoneOversold, entry_keeps}
 use Rattle.hose_graph.specs.Ascending.{firsts}
 use Rattle.hose_law.specs.Tracks.{Recent}
 use Rattle.hose_book.specs.steps.Changes.{AreUpTo, with_changes}
@@ -66,7 +66,7 @@ invariant_of-self c =
     let long : length new ≡ length network.links = omega (arith, c.subtract_amounts.auto.loads, ap length loads_is, old.places) in
     let whole : take c.self.inside.loads.len (new ++ drop (length new) c.self.inside.loads.items) ≡ new =
     take_at new (drop (length new) c.self.inside.loads.items) c.self.inside.loads.len (omega (arith, long, old.places, c.self.inside.loads.ok.0)) in
-    let epoch : book.epoch + 1 ≤ last_epoch = omega (arith, c.requires.epoch, ap (λ (s : Ledger). s.book.epoch) c.self.view_is) in
+    let epoch : book.epoch + 1 ≤ most_epoch = omega (arith, c.requires.epoch, ap (λ (s : Ledger). s.book.epoch) c.self.view_is) in
     let kept : NoneOversold network (next_book book entry) = entry_keeps network book entry (omega (arith, epoch), (c.index-as_slice-place.result, out.is)) old.none_oversold in
     let each : (l : ℕ) → l < length network.links → get_or new l 0 ≡ load_of (next_book book entry) l = λ l inside.
     omega (
