@@ -1,8 +1,9 @@
 -- What each step makes of the line.
-use Rattle.std.proofs.Common.{◌≡◌, ◌≢◌, ℕ, ◌+◌, ◌%◌, ◌^◌, ◌<◌, ◌≤◌, Bool, true, false, cond, eqb, eq-eqb, ne_eqb, List, [], ◌∷◌, ◌++◌, length, set, sym, refl, ap, ◌∙◌, subst, ⊎_elim, arith, Option, Some, None, length-set, get_or-set_other, get_or-set_same}
+use Rattle.std.proofs.Common.{◌≡◌, ◌≢◌, ℕ, ◌+◌, ◌%◌, ◌^◌, ◌<◌, ◌≤◌, Bool, true, false, cond, eqb, eq-eqb, ne_eqb, List, [], ◌∷◌, ◌++◌, length, set, sum_by, sym, refl, ap, ◌∙◌, subst, ⊎_elim, arith, Option, Some, None, length-set, get_or-set_other, get_or-set_same}
 use Rattle.std.proofs.lemmas.List.Sums.{sum_by-cons, sum_by_push}
 use mathlib.Core.Logic.{dite}
 use mathlib.Core.Option.{none, some, some-injective}
+use mathlib.Core.Option as maybe
 use native.Mathlib.Decide.{ℕ_discrete}
 use lib.ListN.{get_elem?}
 use Rattle.atomic_table.specs.Table.{State}
@@ -64,6 +65,24 @@ module _ {S : Type 0} (R : S → Type 0) where
   abbrev Table : Type 0
   Table = State (Option S) View
 
+  -- seats and slots change, and the words stay
+  words_stay : (s : Table) (line : IsTicketQueue R s) (homes : List (maybe.Option (Option S))) (views : List View) → sum_by share_of views ≤ all_shares → line.drawn ≡ line.serving + sum_by holding views
+      → ((seat : ℕ) (view : View) → get_elem? views seat ≡ some view → HasOwnTicket line.serving line.drawn line.owner seat view) → length homes ≡ 1
+      → (sum_by turning views ≡ 0 → (value : S) × (homes ≡ some (Some value) ∷ []) × R value) → IsTicketQueue R record { words = s.words; homes = homes; views = views }
+  words_stay s line homes views shares holders each one_slot home = record {
+    serving = line.serving;
+    drawn = line.drawn;
+    owner = line.owner;
+    three_words = line.three_words;
+    ticket_word = line.ticket_word;
+    serving_word = line.serving_word;
+    shares = shares;
+    holders = holders;
+    each = each;
+    one_slot = one_slot;
+    home = home;
+  }
+
   -- a share goes to a new seat
   pub line_splits : (s : Table) (line : IsTicketQueue R s) (seat : ℕ) (old new branch : View) → get_elem? s.views seat ≡ some old → 0 < new.share → new.share + branch.share ≡ old.share
       → new.ticket ≡ old.ticket → new.has_turn ≡ old.has_turn → branch.ticket ≡ None → branch.has_turn ≡ false
@@ -73,21 +92,15 @@ module _ {S : Type 0} (R : S → Type 0) where
       let held : one_if new.ticket ≡ one_if old.ticket = ap one_if tickets in
       let turned : bit new.has_turn ≡ bit old.has_turn = ap bit turns in
       let not_held : one_if branch.ticket ≡ 0 = ap one_if bare in
-      let not_turned : bit branch.has_turn ≡ 0 = ap bit off in record {
-        serving = line.serving;
-        drawn = line.drawn;
-        owner = line.owner;
-        three_words = line.three_words;
-        ticket_word = line.ticket_word;
-        serving_word = line.serving_word;
-        shares = let a = sum_set share_of s.views seat old new at in let b = sum_by_push share_of views branch in let c = line.shares in omega arith;
-        holders = let a = sum_set holding s.views seat old new at in let b = sum_by_push holding views branch in let c = line.holders in omega arith;
-        each = λ other view is.
-            ⊎_elim (seats_stay (HasOwnTicket line.serving line.drawn line.owner) s.views seat new (same_queued (line.each seat old at) (λ none_left. absurd (omega arith)) tickets turns) (λ i d _. line.each i d) other view)
-            (λ (same : branch ≡ view). subst (HasOwnTicket line.serving line.drawn line.owner other) same (bare_queued branch bare off)) (at_snoc views branch view other is);
-        one_slot = line.one_slot;
-        home = λ none_turns. let a = sum_set turning s.views seat old new at in let b = sum_by_push turning views branch in line.home (omega arith);
-      }
+      let not_turned : bit branch.has_turn ≡ 0 = ap bit off in
+      words_stay s line s.homes (views ++ branch ∷ [])
+      (let a = sum_set share_of s.views seat old new at in let b = sum_by_push share_of views branch in let c = line.shares in omega arith)
+      (let a = sum_set holding s.views seat old new at in let b = sum_by_push holding views branch in let c = line.holders in omega arith)
+      (λ other view is.
+      ⊎_elim (seats_stay (HasOwnTicket line.serving line.drawn line.owner) s.views seat new (same_queued (line.each seat old at) (λ none_left. absurd (omega arith)) tickets turns) (λ i d _. line.each i d) other view)
+      (λ (same : branch ≡ view). subst (HasOwnTicket line.serving line.drawn line.owner other) same (bare_queued branch bare off)) (at_snoc views branch view other is))
+      line.one_slot
+      (λ none_turns. let a = sum_set turning s.views seat old new at in let b = sum_by_push turning views branch in line.home (omega arith))
 
   -- a seat takes in another one's share, and the other is left with nothing
   pub line_joins : (s : Table) (line : IsTicketQueue R s) (seat : ℕ) (old new : View) (other : ℕ) (theirs spent : View) → get_elem? s.views seat ≡ some old → ¬ (other ≡ seat)
@@ -101,20 +114,14 @@ module _ {S : Type 0} (R : S → Type 0) where
       let not_held : one_if theirs.ticket ≡ 0 = ap one_if bare in
       let not_turned : bit theirs.has_turn ≡ 0 = turning-none (line.each other theirs (was_theirs s.views seat other new theirs apart there)) bare in
       let not_held_after : one_if spent.ticket ≡ 0 = ap one_if bare_after in
-      let not_turned_after : bit spent.has_turn ≡ 0 = ap bit off in record {
-        serving = line.serving;
-        drawn = line.drawn;
-        owner = line.owner;
-        three_words = line.three_words;
-        ticket_word = line.ticket_word;
-        serving_word = line.serving_word;
-        shares = let a = sum_set share_of s.views seat old new at in let b = sum_set share_of views other theirs spent there in let c = line.shares in omega arith;
-        holders = let a = sum_set holding s.views seat old new at in let b = sum_set holding views other theirs spent there in let c = line.holders in omega arith;
-        each = seats_stay (HasOwnTicket line.serving line.drawn line.owner) views other spent (bare_queued spent bare_after off)
-            (λ i view _. seats_stay (HasOwnTicket line.serving line.drawn line.owner) s.views seat new (same_queued (line.each seat old at) (λ none_left. absurd (omega arith)) tickets turns) (λ j d _. line.each j d) i view);
-        one_slot = line.one_slot;
-        home = λ none_turns. let a = sum_set turning s.views seat old new at in let b = sum_set turning views other theirs spent there in line.home (omega arith);
-      }
+      let not_turned_after : bit spent.has_turn ≡ 0 = ap bit off in
+      words_stay s line s.homes (set views other spent)
+      (let a = sum_set share_of s.views seat old new at in let b = sum_set share_of views other theirs spent there in let c = line.shares in omega arith)
+      (let a = sum_set holding s.views seat old new at in let b = sum_set holding views other theirs spent there in let c = line.holders in omega arith)
+      (seats_stay (HasOwnTicket line.serving line.drawn line.owner) views other spent (bare_queued spent bare_after off)
+      (λ i view _. seats_stay (HasOwnTicket line.serving line.drawn line.owner) s.views seat new (same_queued (line.each seat old at) (λ none_left. absurd (omega arith)) tickets turns) (λ j d _. line.each j d) i view))
+      line.one_slot
+      (λ none_turns. let a = sum_set turning s.views seat old new at in let b = sum_set turning views other theirs spent there in line.home (omega arith))
 
   -- fewer hold tickets than there are shares
   pub few_hold : (s : Table) (line : IsTicketQueue R s) → line.drawn ≤ line.serving + all_shares
@@ -202,20 +209,14 @@ module _ {S : Type 0} (R : S → Type 0) where
       let mine = line.each seat old at in
       let held : one_if new.ticket ≡ one_if old.ticket = ap one_if tickets in
       let turned : bit new.has_turn ≡ 1 = ap bit on in
-      let not_turned : bit old.has_turn ≡ 0 = ap bit off in record {
-        serving = line.serving;
-        drawn = line.drawn;
-        owner = line.owner;
-        three_words = line.three_words;
-        ticket_word = line.ticket_word;
-        serving_word = line.serving_word;
-        shares = let a = sum_set share_of s.views seat old new at in let c = line.shares in omega arith;
-        holders = let a = sum_set holding s.views seat old new at in let c = line.holders in omega arith;
-        each = seats_stay (HasOwnTicket line.serving line.drawn line.owner) s.views seat new
-            (record { spent = λ none_left. tickets ∙ mine.spent (sym shares ∙ none_left); waits = λ k e. mine.waits k (sym tickets ∙ e); called = λ _. tickets ∙ served }) (λ j view _. line.each j view);
-        one_slot = length-set s.homes 0 none ∙ line.one_slot;
-        home = λ none_turns. let a = sum_set turning s.views seat old new at in absurd (omega arith);
-      }
+      let not_turned : bit old.has_turn ≡ 0 = ap bit off in
+      words_stay s line (set s.homes 0 none) (set s.views seat new)
+      (let a = sum_set share_of s.views seat old new at in let c = line.shares in omega arith)
+      (let a = sum_set holding s.views seat old new at in let c = line.holders in omega arith)
+      (seats_stay (HasOwnTicket line.serving line.drawn line.owner) s.views seat new
+      (record { spent = λ none_left. tickets ∙ mine.spent (sym shares ∙ none_left); waits = λ k e. mine.waits k (sym tickets ∙ e); called = λ _. tickets ∙ served }) (λ j view _. line.each j view))
+      (length-set s.homes 0 none ∙ line.one_slot)
+      (λ none_turns. let a = sum_set turning s.views seat old new at in absurd (omega arith))
 
   -- the one that has the turn gives a value and the turn on
   pub line_passes : (R' : S → Type 0) (s : Table) (line : IsTicketQueue R s) (seat word : ℕ) (old new : View) (value : S) → get_elem? s.views seat ≡ some old
