@@ -1,6 +1,5 @@
 // Rows that several workers make at once.
-ghost use Rattle.std.specs.Prelude.{◌≡◌, ◌<◌, ◌≤◌, ℕ, IfOk, Option, Some, length, map, slice_index_or};
-ghost use Rattle.hose_graph.specs.Row.{Distances};
+ghost use Rattle.std.specs.Prelude.{◌≡◌, ◌<◌, ◌≤◌, IfOk, Some, length, map};
 ghost use Rattle.hose_law.specs.Walk.{all_links};
 ghost use Rattle.hose_paths.specs.steps.Rows.{AreRows};
 ghost use Rattle.hose_pool.specs.steps.Rows.{IsMadeRow};
@@ -36,7 +35,12 @@ pub fn all_rows<T: Threads + Sync>(
 {
     let nodes = top.nodes() as usize;
     let mut made = no_rows(alloc, nodes)?;
-    make_rows(rt, alloc, top, links, workers, &mut made);
+    thread::for_each_mut(
+        rt,
+        &mut made,
+        workers as usize,
+        &|root, place| *place = row_of(alloc, top, links, root),
+    );
     all_made(alloc, made)
 }
 
@@ -76,30 +80,6 @@ fn no_rows(alloc: Global, nodes: usize) -> Result<Vec<Option<Row>>, AllocError>
         places.push(None)?;
     }
     Ok(places)
-}
-
-// Makes the row of each node, or none where memory is wanting.
-fn make_rows<T: Threads + Sync>(
-    rt: &T,
-    alloc: Global,
-    top: &Topology,
-    links: &LinkSet,
-    workers: u32,
-    made: &mut [Option<Row>],
-)
-    requires workers { 1 ≤ workers }
-    requires places { length links.now ≡ length top.now.links }
-    requires nodes { length made.old ≡ length top.now.nodes }
-    ensures nodes { length made.new ≡ length made.old }
-    ensures made { (root : ℕ) (none : Option Distances) → root < length made.old
-        → IsMadeRow top.now links.now root (slice_index_or made.new root none) }
-{
-    thread::for_each_mut(
-        rt,
-        made,
-        workers as usize,
-        &|root, place| *place = row_of(alloc, top, links, root),
-    );
 }
 
 // The row of a node, or none where memory is wanting.
