@@ -8,12 +8,12 @@ use Rattle.hose_graph.specs.declared.topology.Link.{Link}
 use Rattle.hose_law.specs.Book.{Book, load_of, loads_of}
 use Rattle.hose_law.specs.Walk.{cost_of}
 use Rattle.hose_law.proofs.Joined.{capacity_of_link, cost_of_link}
-use Rattle.hose_tree.specs.steps.Amounts.{AreCarried}
+use Rattle.hose_tree.specs.steps.Amounts.{AreWithinCapacities}
 use Rattle.hose_audit.specs.Audit.{link_numbers, load_cost}
 use Rattle.hose_audit.proofs.Numbers.{load_told, sum_more}
 
 -- a load costs little
-pub little_cost : (network : Network) (loads : List ℕ) → AreCarried network loads → (l : ℕ) → l < length network.links → (link : Link) → slice_get network.links l ≡ Some link → IsLink network link
+pub little_cost : (network : Network) (loads : List ℕ) → AreWithinCapacities network loads → (l : ℕ) → l < length network.links → (link : Link) → slice_get network.links l ≡ Some link → IsLink network link
     → get_or loads l 0 * link.cost ≤ MOST_CAPACITY * MOST_COST
 little_cost network loads carried l below link there is_link =
     let load : get_or loads l 0 ≤ MOST_CAPACITY = omega (arith, carried.within l below, capacity_of_link network l link there, is_link.in_range.capacity.1) in

@@ -21,7 +21,7 @@ use Rattle.hose_cert.specs.CertLine.{CertLine, IsLine, SaysLine}
 use Rattle.hose_cert.specs.Certificate.{AreLines, IsCertText, IsCertificate}
 use Rattle.hose_cert.specs.steps.Draft.{IsRefusedLine, IsWholeIf, IsDraftOf}
 use Rattle.hose_cert.specs.steps.Fault.{fault_of_line}
-use Rattle.hose_cert.specs.steps.Taking.{Comes, IsTextOf, KeepsLineFault, PassesOne, ReadsCertText, ReadsUpTo, IsNextStep, fault_in}
+use Rattle.hose_cert.specs.steps.Taking.{Comes, IsTextOf, KeepsReadingFault, PassesOne, ReadsCertText, ReadsUpTo, IsNextStep, fault_in}
 use Rattle.hose_cert.specs.declared.draft.Body.{Body}
 use Rattle.hose_cert.specs.declared.draft.Draft.{Draft}
 use Rattle.hose_cert.specs.declared.draft.Draft.TheVariants.{Start}
@@ -118,7 +118,7 @@ module _ {S : Type 0} (source : Ghosts S) where
     limit = λ _. next.limit;
   }
 
-  kept_then : (a b c : Option LineFault) (end : Option CertFault) → b ≡ a → KeepsLineFault b c end → KeepsLineFault a c end
+  kept_then : (a b c : Option LineFault) (end : Option CertFault) → b ≡ a → KeepsReadingFault b c end → KeepsReadingFault a c end
   kept_then a b c None same kept = kept ∙ same
   kept_then a b c (Some Read) same kept = kept
   kept_then a b c (Some TooLong) same kept = kept

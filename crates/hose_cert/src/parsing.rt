@@ -2,7 +2,7 @@
 ghost use Rattle.std.specs.Prelude.{◌≡◌, ◌≤◌, ◌↔◌, ℕ, List, [], ◌∷◌, IfErr, IfOk, IfNone, IfSome, IsTrue, MatchOption, decimal, length};
 ghost use Rattle.hose_graph.specs.Network.{Network, IsNetwork};
 ghost use Rattle.hose_cert.specs.CertLine.{IsSpaced, IsSpelled, SaysLine};
-ghost use Rattle.hose_cert.specs.steps.Reading.{AreNumbers, IsFrom, IsLineTold, IsToldAfter};
+ghost use Rattle.hose_cert.specs.steps.Reading.{AreNumberWords, IsFrom, IsLineTold, IsToldAfter};
 
 use crate::fault::CertFault;
 use crate::statement::{LINE_NUMBERS, MOST_NUMBER, Pot, Statement, StatementKind};
@@ -157,8 +157,8 @@ fn read_numbers(
     words: &mut Cursor<'_>,
 ) -> Result<Option<Vec<u64>>, CertFault>
     ensures told { IfOk result (λ told. MatchOption told
-        ((numbers : List ℕ) → AreNumbers count words.old.left numbers → ⊥)
-        (λ numbers. AreNumbers count words.old.left numbers.items)) }
+        ((numbers : List ℕ) → AreNumberWords count words.old.left numbers → ⊥)
+        (λ numbers. AreNumberWords count words.old.left numbers.items)) }
     ensures memory { IfErr result (λ fault. fault ≡ CertFault.Memory) }
 {
     let mut numbers = Vec::new(alloc);

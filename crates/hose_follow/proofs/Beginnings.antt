@@ -5,7 +5,6 @@ use Rattle.std.proofs.lemmas.Option.{slice_get_within}
 use mathlib.Core.List.{IsPrefix}
 use Rattle.hose_graph.specs.Network.{Network}
 use Rattle.hose_graph.specs.declared.entry.Entry.{Entry}
-use Rattle.hose_graph.specs.declared.entry.Entry.TheVariants.{Admit, Release, Down, Up}
 use Rattle.hose_law.specs.Book.{Book}
 use Rattle.hose_law.specs.History.{AreFrom, IsDecided, IsDecidedAt, IsSoundAt, IsSoundFrom, book_after, book_of, next_book, opening_book}
 
@@ -34,12 +33,6 @@ module _ {X : Type 0} where
   all_at P xs place x all there = subst P (get_at xs place x x there) (all place x (slice_get_within xs place x there))
 
 -- ---- sound and decided beginnings
-
-pub decided_sound : (network : Network) (book : Book) (entry : Entry) → IsDecidedAt network book entry → IsSoundAt network book entry
-decided_sound network book (Admit customer hose amounts) decided = decided.0
-decided_sound network book (Release customer id) decided = decided
-decided_sound network book (Down link) decided = decided
-decided_sound network book (Up link) decided = decided
 
 sound_front : (network : Network) (book : Book) (own rest : List Entry) → IsSoundFrom network book (own ++ rest) → IsSoundFrom network book own
 sound_front network book [] rest sound = tt

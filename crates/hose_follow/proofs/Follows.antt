@@ -33,7 +33,8 @@ use Rattle.hose_follow.specs.steps.Replication.{Happens, IsBeginning, IsFollowin
 use Rattle.hose_follow.specs.declared.answers.Offered.{Offered}
 use Rattle.hose_follow.specs.declared.answers.Offered.TheVariants.{Have, Want, Differs, Memory, Unsound, Disk}
 use Rattle.hose_law.proofs.Epochs.{epoch_is}
-use Rattle.hose_follow.proofs.Beginnings.{decided_sound, get_longer, legal_front}
+use Rattle.hose_follow.proofs.Beginnings.{get_longer, legal_front}
+use Rattle.hose_law.proofs.Entries.{decided_sound}
 use Rattle.hose_follow.proofs.Sent.{IsNext, next_brought, next_sent, next_sound}
 
 -- an image's list, where an image stands for one list only

@@ -2,7 +2,7 @@
 ghost use Rattle.std.specs.Prelude.{◌≡◌, ◌+◌, ◌≤◌, [], List, Ok, true};
 ghost use Rattle.hose_graph.specs.Network.{Network};
 ghost use Rattle.hose_graph.specs.declared.entry.Entry.{Entry};
-ghost use Rattle.hose_law.specs.History.{last_epoch};
+ghost use Rattle.hose_graph.specs.Limits.{most_epoch};
 ghost use Rattle.hose_journal.specs.Moments.{LeavesOnly};
 ghost use Rattle.hose_journal.specs.Opening.{KeepsDisk};
 ghost use Rattle.hose_store.specs.Opening.{IsAtOpening};
@@ -121,7 +121,7 @@ fn add_next<S: Sink, D: Disk>(
         replay.new (outgoing gather.new sink.new) result }
     ensures more { result ≡ Ok true →
         (replay.new.book.book.epoch ≡ replay.old.book.book.epoch + 1)
-        × (replay.new.book.book.epoch ≤ last_epoch) }
+        × (replay.new.book.book.epoch ≤ most_epoch) }
 {
     let epoch = replay.epoch() + 1;
     let value = replay.chain();

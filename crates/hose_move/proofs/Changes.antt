@@ -5,7 +5,7 @@ use Rattle.std.specs.List.{slice_get}
 use Rattle.std.proofs.lemmas.Option.{slice_get-get_or, slice_get_past}
 use Rattle.hose_graph.specs.Network.{IsNodeOf, Network}
 use Rattle.hose_graph.specs.declared.topology.Link.{Link}
-use Rattle.hose_move.specs.Changing.{JoinSame, LinkStays, NodeStays}
+use Rattle.hose_move.specs.Changing.{JoinSame, HaveSameLink, HaveSameNode}
 
 some_of : {X : Type 0} (x y : X) → Some x ≡ Some y → x ≡ y
 some_of x y same = cc same
@@ -14,22 +14,22 @@ none_some : {X : Type 0} (x : X) → None ≡ Some x → ⊥
 none_some x same = absurd (cc same)
 
 -- a node that is there no more does not stay
-pub no_node : (old new : Network) (node : ℕ) → IsNodeOf old node → length new.nodes ≤ node → ¬ NodeStays old new node
+pub no_node : (old new : Network) (node : ℕ) → IsNodeOf old node → length new.nodes ≤ node → ¬ HaveSameNode old new node
 no_node old new node is past same =
     let there = slice_get-get_or old.nodes node [] is in
     none_some (get_or old.nodes node []) (sym (slice_get_past new.nodes node past) ∙ same ∙ there)
 
-pub node_same : (old new : Network) (node : ℕ) (was is : List ℕ) → slice_get old.nodes node ≡ Some was → slice_get new.nodes node ≡ Some is → was ≡ is → NodeStays old new node
+pub node_same : (old new : Network) (node : ℕ) (was is : List ℕ) → slice_get old.nodes node ≡ Some was → slice_get new.nodes node ≡ Some is → was ≡ is → HaveSameNode old new node
 node_same old new node was is at_old at_new same = cc (at_old, at_new, same)
 
-pub same_node : (old new : Network) (node : ℕ) (was is : List ℕ) → slice_get old.nodes node ≡ Some was → slice_get new.nodes node ≡ Some is → NodeStays old new node → was ≡ is
+pub same_node : (old new : Network) (node : ℕ) (was is : List ℕ) → slice_get old.nodes node ≡ Some was → slice_get new.nodes node ≡ Some is → HaveSameNode old new node → was ≡ is
 same_node old new node was is at_old at_new same = some_of was is (sym at_old ∙ sym same ∙ at_new)
 
 -- a link that is there no more does not stay
-pub no_link : (old new : Network) (link : ℕ) → length new.links ≤ link → ¬ LinkStays old new link
+pub no_link : (old new : Network) (link : ℕ) → length new.links ≤ link → ¬ HaveSameLink old new link
 no_link old new link past stays = none_some stays.1 (sym (slice_get_past new.links link past) ∙ stays.3)
 
-pub same_links : (old new : Network) (link : ℕ) (was is : Link) → slice_get old.links link ≡ Some was → slice_get new.links link ≡ Some is → LinkStays old new link → JoinSame was is
+pub same_links : (old new : Network) (link : ℕ) (was is : Link) → slice_get old.links link ≡ Some was → slice_get new.links link ≡ Some is → HaveSameLink old new link → JoinSame was is
 same_links old new link was is at_old at_new stays =
     let first : stays.0 ≡ was = some_of stays.0 was (sym stays.2 ∙ at_old) in
     let second : stays.1 ≡ is = some_of stays.1 is (sym stays.3 ∙ at_new) in

@@ -5,7 +5,7 @@ use Rattle.std.proofs.lemmas.List.Elements.{All-append, All-cons, All-nil}
 use Rattle.hose_graph.specs.Network.{Network}
 use Rattle.hose_graph.specs.steps.Ranges.{IsInRanges}
 use Rattle.hose_graph.specs.declared.entry.Entry.{Entry}
-use Rattle.hose_graph.specs.declared.entry.Entry.TheVariants.{Admit, Release, Down, Up}
+use Rattle.hose_codec.proofs.Entries.{in_ranges}
 use Rattle.hose_codec.specs.Spelling.{IsEntry}
 use Rattle.hose_disk.specs.declared.disk.Disk.{Ghosts}
 use Rattle.hose_journal.specs.steps.Journal.{IsReady}
@@ -19,12 +19,6 @@ use Rattle.hose_store.proofs.Begins.{begun_at_most, begun_then}
 use Rattle.hose_move.specs.steps.Collecting.{HasPassed, HasPassedAll, IsReadNoFurther}
 
 -- what the format has is in its ranges
-pub in_ranges : (entry : Entry) → IsEntry entry → IsInRanges entry
-in_ranges (Admit customer hose amounts) is = is.2.fit
-in_ranges (Release customer id) is = is.1
-in_ranges (Down link) is = is
-in_ranges (Up link) is = is
-
 pub all_in_ranges : (entries : List Entry) → All IsEntry entries → All IsInRanges entries
 all_in_ranges entries are = λ k d below. in_ranges _ (are k d below)
 

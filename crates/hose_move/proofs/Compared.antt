@@ -6,7 +6,7 @@ use Rattle.std.proofs.lemmas.Option.{slice_get_within}
 use Rattle.hose_graph.specs.Network.{Network}
 use Rattle.hose_graph.specs.declared.entry.Entry.{Entry}
 use Rattle.hose_codec.specs.Spelling.{IsSpelling, spelling}
-use Rattle.hose_codec.proofs.Alone.{same_entries}
+use Rattle.hose_codec.proofs.Entries.{same_entries}
 use Rattle.hose_disk.specs.declared.disk.Disk.{Ghosts}
 use Rattle.hose_journal.specs.steps.Journal.{IsReady}
 use Rattle.hose_journal.specs.declared.prepared.Ready.{Ready}
@@ -22,7 +22,7 @@ use Rattle.hose_store.specs.declared.replay.Replay.{Replay}
 use Rattle.hose_store.proofs.Begins.{begun_at_most, nothing_begun}
 use Rattle.hose_store.proofs.Openings.{at_opening}
 use Rattle.hose_store.proofs.Replays.{has_entries}
-use Rattle.hose_move.specs.steps.Committing.{ComparesEntry, ComparesNext, IsMoving, IsPart}
+use Rattle.hose_move.specs.steps.Committing.{ComparesEntry, ComparesNext, IsMoving, HasReadPart}
 use Rattle.hose_move.specs.Moving.{IsInMove, Moves, OnlyMoves}
 use Rattle.hose_move.specs.declared.fault.MoveFault.{MoveFault}
 use Rattle.hose_move.specs.declared.fault.MoveFault.TheVariants.{Store, Differs, Unsound, Disk, Memory}
@@ -62,7 +62,7 @@ module _ {D : Type 0} (disk : Ghosts D) (was : D) (network : Network) (entries :
   refused_at left fault refused opened = ((refused, opened), only_opened left opened)
 
   module _ (new : Replay D) (place : ℕ) where
-    pub compared_none : place ≤ length entries → HasReplayed disk was network new (take place entries) (Ok None) → IsPart disk was network entries new place
+    pub compared_none : place ≤ length entries → HasReplayed disk was network new (take place entries) (Ok None) → HasReadPart disk was network entries new place
     compared_none few next = record { few = few; replaying = next.0; read = next.1 }
 
     pub compared_fault : (fault : StoreFault) → HasReplayed disk was network new (take place entries) (Err fault) → Ends new.reading.disk (Store fault)
@@ -103,7 +103,7 @@ module _ {D : Type 0} (disk : Ghosts D) (was : D) (network : Network) (entries :
     compared_some counts ready bytes spelled next (Err Disk) none = absurd none
 
   -- the store of a part goes on
-  pub moving_from : (replay : Replay D) (place : ℕ) (store : KeptStore D) → IsPart disk was network entries replay place → IsStoreOf disk was network (take place entries) store → IsMoving disk was network entries store place
+  pub moving_from : (replay : Replay D) (place : ℕ) (store : KeptStore D) → HasReadPart disk was network entries replay place → IsStoreOf disk was network (take place entries) store → IsMoving disk was network entries store place
   moving_from replay place store part is = record {
     is_network = is.is_network;
     few = part.few;

@@ -7,22 +7,22 @@ use Rattle.hose_law.specs.Book.{Book, amount_on}
 use Rattle.hose_law.specs.History.{book_after, next_book, opening_book}
 use Rattle.std.specs.List.{fold, sum_by}
 use Rattle.hose_move.specs.steps.Renumbering.{IsRenumbered, live_book, renumbered}
-use Rattle.hose_move.specs.Stating.{admission_of, down_entry, links_out}
+use Rattle.hose_move.specs.Stating.{admission_entry, down_entry, links_out}
 
 after_both : (start : Book) (xs ys : List Entry) → book_after start (xs ++ ys) ≡ book_after (book_after start xs) ys
 after_both start [] ys = refl
 after_both start (x ∷ xs) ys = after_both (next_book start x) xs ys
 
 -- after admissions
-admitted_live : (start : Book) (live : List Vpn) → (book_after start (map admission_of live)).live ≡ start.live ++ renumbered (start.epoch + 1) live
+admitted_live : (start : Book) (live : List Vpn) → (book_after start (map admission_entry live)).live ≡ start.live ++ renumbered (start.epoch + 1) live
 admitted_live start [] = sym (append-nil start.live)
 admitted_live start (vpn ∷ live) =
-    admitted_live (next_book start (admission_of vpn)) live
+    admitted_live (next_book start (admission_entry vpn)) live
     ∙ append_assoc start.live (record vpn { id = start.epoch + 1 } ∷ []) (renumbered (start.epoch + 1 + 1) live)
 
-admitted_out : (start : Book) (live : List Vpn) → (book_after start (map admission_of live)).out ≡ start.out
+admitted_out : (start : Book) (live : List Vpn) → (book_after start (map admission_entry live)).out ≡ start.out
 admitted_out start [] = refl
-admitted_out start (vpn ∷ live) = admitted_out (next_book start (admission_of vpn)) live
+admitted_out start (vpn ∷ live) = admitted_out (next_book start (admission_entry vpn)) live
 
 -- after links that are taken out
 downed_live : (start : Book) (links : List ℕ) → (book_after start (map down_entry links)).live ≡ start.live
@@ -46,10 +46,10 @@ module _ (network : Network) (book : Book) where
   links = links_out (length network.links) book
 
   abbrev admitted : Book
-  admitted = book_after (opening_book 0) (map admission_of book.live)
+  admitted = book_after (opening_book 0) (map admission_entry book.live)
 
   both : live_book network book ≡ book_after admitted (map down_entry links)
-  both = after_both (opening_book 0) (map admission_of book.live) (map down_entry links)
+  both = after_both (opening_book 0) (map admission_entry book.live) (map down_entry links)
 
   same_live : (live_book network book).live ≡ renumbered 1 book.live
   same_live = ap (λ (b : Book). b.live) both ∙ downed_live admitted links ∙ admitted_live (opening_book 0) book.live

@@ -1,20 +1,18 @@
 -- What is stated of the book that a journal leads to.
-use Rattle.std.proofs.Common.{◌≡◌, ◌∙◌, ℕ, zero, suc, ◌+◌, ◌<◌, ◌≤◌, List, [], ◌∷◌, ◌++◌, All, filter, length, map, not, sym, ap, arith, append_assoc}
+use Rattle.std.proofs.Common.{◌≡◌, ◌∙◌, ℕ, zero, suc, ◌+◌, ◌<◌, ◌≤◌, List, [], ◌∷◌, ◌++◌, All, filter, length, map, sym, ap, arith, append_assoc}
 use Rattle.std.specs.List.{range_with_len}
 use Rattle.std.proofs.lemmas.List.{map-append}
-use Rattle.std.proofs.lemmas.List.Elements.{All-append, All-cons, All-filter, All-head, All-map, All-nil, All-tail, filter-append}
+use Rattle.std.proofs.lemmas.List.Elements.{All-append, All-filter, All-head, All-map, All-nil, All-tail, filter-append}
 use Rattle.std.proofs.lemmas.List.FromFn.{get_or-range_with_len, length-range_with_len}
 use Rattle.hose_graph.specs.Limits.{most_links}
 use Rattle.hose_graph.specs.Network.{Network}
-use Rattle.hose_graph.specs.Ranges.{AreInRanges}
 use Rattle.hose_graph.specs.steps.Ranges.{IsInRanges}
 use Rattle.hose_graph.specs.declared.entry.Entry.{Entry}
-use Rattle.hose_graph.specs.declared.entry.Entry.TheVariants.{Admit, Release, Down, Up}
-use Rattle.hose_graph.specs.declared.entry.Vpn.{Vpn}
+use Rattle.hose_law.proofs.Entries.{AmountsInRanges, next_ranges}
 use Rattle.hose_law.specs.Book.{Book}
-use Rattle.hose_law.specs.History.{book_after, book_of, is_vpn, next_book, opening_book}
+use Rattle.hose_law.specs.History.{book_after, book_of, next_book, opening_book}
 use Rattle.hose_law.specs.Service.{is_out}
-use Rattle.hose_move.specs.Stating.{admission_of, down_entry, links_out, live_entries}
+use Rattle.hose_move.specs.Stating.{admission_entry, down_entry, links_out, live_entries}
 
 -- ---- loops
 
@@ -38,17 +36,6 @@ entries_more book count front mid all before next =
 
 -- ---- ranges
 
-abbrev AmountsInRanges : Vpn → Type 0
-AmountsInRanges vpn = AreInRanges vpn.amounts
-
-next_ranges : (book : Book) (entry : Entry) → All AmountsInRanges book.live → IsInRanges entry → All AmountsInRanges (next_book book entry).live
-next_ranges book (Admit customer hose amounts) has is =
-    let vpn : Vpn = record { id = book.epoch + 1; customer = customer; hose = hose; amounts = amounts } in
-    All-append AmountsInRanges book.live (vpn ∷ []) has (All-cons AmountsInRanges vpn [] is (All-nil AmountsInRanges))
-next_ranges book (Release customer id) has is = All-filter (λ vpn. not (is_vpn customer id vpn)) AmountsInRanges book.live has
-next_ranges book (Down link) has is = has
-next_ranges book (Up link) has is = has
-
 live_ranges : (book : Book) (entries : List Entry) → All AmountsInRanges book.live → All IsInRanges entries → All AmountsInRanges (book_after book entries).live
 live_ranges book [] has are = has
 live_ranges book (entry ∷ entries) has are =
@@ -68,8 +55,8 @@ pub stated_ranges : (network : Network) (history : List Entry) → length networ
 stated_ranges network history few are =
     let book = book_of 0 history in
     let count = length network.links in
-    let admitted : All IsInRanges (map admission_of book.live) = All-map IsInRanges admission_of book.live (live_ranges (opening_book 0) history (All-nil AmountsInRanges) are) in
+    let admitted : All IsInRanges (map admission_entry book.live) = All-map IsInRanges admission_entry book.live (live_ranges (opening_book 0) history (All-nil AmountsInRanges) are) in
     let outs : All (IsBelow count) (links_out count book) = All-filter (is_out book.out) (IsBelow count) (range_with_len 0 count) (below_all count) in
     let downs : All IsInRanges (map down_entry (links_out count book)) =
     All-map IsInRanges down_entry (links_out count book) (all_weaker (IsBelow count) (λ link. IsInRanges (down_entry link)) (links_out count book) (λ link below. omega (arith, below, few)) outs) in
-    All-append IsInRanges (map admission_of book.live) (map down_entry (links_out count book)) admitted downs
+    All-append IsInRanges (map admission_entry book.live) (map down_entry (links_out count book)) admitted downs

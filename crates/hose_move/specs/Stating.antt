@@ -18,8 +18,8 @@ use Rattle.hose_move.specs.declared.stating.Scope.TheVariants.{All as AllEntries
 use Rattle.hose_move.specs.declared.stating.Stated.{Stated}
 
 -- the entry that admits a VPN again: its hose with the amounts that are reserved for it
-abbrev pub admission_of : Vpn → Entry
-admission_of vpn = Admit vpn.customer vpn.hose vpn.amounts
+abbrev pub admission_entry : Vpn → Entry
+admission_entry vpn = Admit vpn.customer vpn.hose vpn.amounts
 
 -- the number of a VPN
 abbrev pub number_of : Vpn → ℕ
@@ -35,7 +35,7 @@ links_out count book = filter (is_out book.out) (range_with_len 0 count)
 
 -- what is live at a book: an admission of each VPN, in order, and then the links that are out
 abbrev pub live_entries : Network → Book → List Entry
-live_entries network book = map admission_of book.live
+live_entries network book = map admission_entry book.live
     ++ map down_entry (links_out (length network.links) book)
 
 -- the entries that a journal of this history states

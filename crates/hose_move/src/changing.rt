@@ -1,7 +1,7 @@
 // Whether a network goes on from another one.
 ghost use Rattle.std.specs.Prelude.{◌≡◌, ◌↔◌, ◌<◌, ℕ, length, IfNone, IfSome, IsTrue};
 ghost use Rattle.hose_graph.specs.Network.{IsLinkOf, IsNodeOf};
-ghost use Rattle.hose_move.specs.Changing.{IsChangedLink, IsChangedNode, IsFirstChange, JoinSame, LinkStays, NodeStays};
+ghost use Rattle.hose_move.specs.Changing.{IsChangedLink, IsChangedNode, IsFirstChange, JoinSame, HaveSameLink, HaveSameNode};
 
 use hose_graph::{Link, Topology};
 
@@ -33,7 +33,7 @@ pub fn first_change(old: &Topology, new: &Topology) -> Option<Change>
 // The first node that does not stay.
 fn changed_node(old: &Topology, new: &Topology) -> Option<u32>
     ensures none { IfNone result ((node : ℕ) → IsNodeOf old.now node →
-        NodeStays old.now new.now node) }
+        HaveSameNode old.now new.now node) }
     ensures first { IfSome result (IsChangedNode old.now new.now) }
 {
     for node in 0..old.nodes() {
@@ -47,7 +47,7 @@ fn changed_node(old: &Topology, new: &Topology) -> Option<u32>
 // The first link that does not stay.
 fn changed_link(old: &Topology, new: &Topology) -> Option<u32>
     ensures none { IfNone result ((link : ℕ) → IsLinkOf old.now link →
-        LinkStays old.now new.now link) }
+        HaveSameLink old.now new.now link) }
     ensures first { IfSome result (IsChangedLink old.now new.now) }
 {
     for link in 0..old.links() {
@@ -61,7 +61,7 @@ fn changed_link(old: &Topology, new: &Topology) -> Option<u32>
 // Whether a node of the old network has its name in the new one.
 fn node_stays(old: &Topology, new: &Topology, node: u32) -> bool
     requires { IsNodeOf old.now node }
-    ensures { IsTrue result ↔ NodeStays old.now new.now node }
+    ensures { IsTrue result ↔ HaveSameNode old.now new.now node }
 {
     if node >= new.nodes() {
         return false;
@@ -74,7 +74,7 @@ fn node_stays(old: &Topology, new: &Topology, node: u32) -> bool
 // Whether a link of the old network joins the same nodes in the new one.
 fn link_stays(old: &Topology, new: &Topology, link: u32) -> bool
     requires { IsLinkOf old.now link }
-    ensures { IsTrue result ↔ LinkStays old.now new.now link }
+    ensures { IsTrue result ↔ HaveSameLink old.now new.now link }
 {
     if link >= new.links() {
         return false;

@@ -2,7 +2,7 @@
 ghost use Rattle.std.specs.Prelude.{◌≡◌, ◌+◌, ◌≤◌, [], List, Ok, true};
 ghost use Rattle.hose_graph.specs.Network.{Network};
 ghost use Rattle.hose_graph.specs.declared.entry.Entry.{Entry};
-ghost use Rattle.hose_law.specs.History.{last_epoch};
+ghost use Rattle.hose_graph.specs.Limits.{most_epoch};
 ghost use Rattle.hose_store.specs.steps.Replaying.{IsReplaying};
 ghost use Rattle.hose_move.specs.steps.Collecting.{CollectsAll, CollectsNext, HasPassed, PassesAll, PassesNext};
 
@@ -41,7 +41,7 @@ fn collect_next<D: Disk>(
         CollectsNext D.Disk was network replay.new entries.new.items result }
     ensures more { result ≡ Ok true →
         (replay.new.book.book.epoch ≡ replay.old.book.book.epoch + 1)
-        × (replay.new.book.book.epoch ≤ last_epoch) }
+        × (replay.new.book.book.epoch ≤ most_epoch) }
 {
     let Some(ready) = replay.next()? else {
         return Ok(false);
@@ -74,7 +74,7 @@ fn pass_next<D: Disk>(replay: &mut Replay<D>) -> Result<bool, StoreFault>
         PassesNext D.Disk was network replay.new result }
     ensures more { result ≡ Ok true →
         (replay.new.book.book.epoch ≡ replay.old.book.book.epoch + 1)
-        × (replay.new.book.book.epoch ≤ last_epoch) }
+        × (replay.new.book.book.epoch ≤ most_epoch) }
 {
     let Some(_ready) = replay.next()? else {
         return Ok(false);

@@ -2,7 +2,7 @@
 ghost use Rattle.std.specs.Prelude.{◌≤◌, All, length};
 ghost use Rattle.hose_graph.specs.Network.{Network};
 ghost use Rattle.hose_graph.specs.steps.Ranges.{IsInRanges};
-ghost use Rattle.hose_move.specs.steps.Committing.{IsMoving, MovesOn, TakesEntry};
+ghost use Rattle.hose_move.specs.steps.Committing.{IsMoving, MovesAll, TakesEntry};
 
 use crate::fault::MoveFault;
 use hose_book::{Books, Committed};
@@ -22,7 +22,7 @@ pub fn commit_rest<D: Disk>(
     requires few { from ≤ length entries.now }
     ensures { (was : D) → (network : Network) →
         IsMoving D.Disk was network entries.now store.old from →
-        MovesOn D.Disk was network entries.now store.new result }
+        MovesAll D.Disk was network entries.now store.new result }
 {
     for place in from..entries.len() {
         commit_entry(alloc, store, &entries[place])?;

@@ -2,7 +2,7 @@
 ghost use Rattle.std.specs.Prelude.{◌≡◌, ◌<◌, ◌≤◌, ◌++◌, ◌∷◌, [], IfOk, OnOk, filter, map, length};
 ghost use Rattle.hose_law.specs.Service.{is_out};
 ghost use Rattle.hose_graph.specs.declared.limits.TheConstants.{MOST_LINKS};
-ghost use Rattle.hose_move.specs.Stating.{admission_of, down_entry, links_out, live_entries, number_of};
+ghost use Rattle.hose_move.specs.Stating.{admission_entry, down_entry, links_out, live_entries, number_of};
 
 use crate::stating::Stated;
 use hose_book::Book;
@@ -30,7 +30,7 @@ pub fn state_live(alloc: Global, book: &Book) -> Result<Stated, AllocError>
 // Adds an admission of each VPN.
 fn add_admissions(alloc: Global, live: &[Vpn], stated: &mut Stated) -> Result<(), AllocError>
     ensures entries { OnOk result (stated.new.entries.items
-        ≡ stated.old.entries.items ++ map admission_of live.now) }
+        ≡ stated.old.entries.items ++ map admission_entry live.now) }
     ensures numbers { OnOk result (stated.new.numbers.items
         ≡ stated.old.numbers.items ++ map number_of live.now) }
 {
@@ -43,7 +43,7 @@ fn add_admissions(alloc: Global, live: &[Vpn], stated: &mut Stated) -> Result<()
 // Adds an admission of a VPN.
 fn add_admission(alloc: Global, vpn: &Vpn, stated: &mut Stated) -> Result<(), AllocError>
     ensures entries { OnOk result (stated.new.entries.items
-        ≡ stated.old.entries.items ++ admission_of vpn.now ∷ []) }
+        ≡ stated.old.entries.items ++ admission_entry vpn.now ∷ []) }
     ensures numbers { OnOk result (stated.new.numbers.items
         ≡ stated.old.numbers.items ++ number_of vpn.now ∷ []) }
 {

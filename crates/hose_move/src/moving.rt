@@ -3,7 +3,7 @@ ghost use Rattle.std.specs.Prelude.{All, [], IsTrue};
 ghost use Rattle.hose_graph.specs.Network.{Network};
 ghost use Rattle.hose_graph.specs.steps.Ranges.{IsInRanges};
 ghost use Rattle.hose_store.specs.steps.Replaying.{IsReplaying};
-ghost use Rattle.hose_move.specs.steps.Committing.{IsPart};
+ghost use Rattle.hose_move.specs.steps.Committing.{HasReadPart};
 ghost use Rattle.hose_move.specs.Moving.{Moves, OnlyMoves};
 
 use crate::committing::commit_rest;
@@ -51,13 +51,13 @@ fn go_on<D: Disk>(
 ) -> (Result<usize, MoveFault>, D)
     requires ranges { All IsInRanges entries.now }
     requires part { (was : D) × (network : Network)
-        × IsPart D.Disk was network entries.now replay place }
+        × HasReadPart D.Disk was network entries.now replay place }
     requires closed { IsTrue replay.reading.closed }
     ensures moves { (was : D) → (network : Network) →
-        IsPart D.Disk was network entries.now replay place →
+        HasReadPart D.Disk was network entries.now replay place →
         Moves D.Disk was network entries.now result.1 result.0 }
     ensures only { (was : D) → (network : Network) →
-        IsPart D.Disk was network entries.now replay place →
+        HasReadPart D.Disk was network entries.now replay place →
         OnlyMoves D.Disk was network entries.now result.1 }
 {
     let mut store = match replay.into_store() {

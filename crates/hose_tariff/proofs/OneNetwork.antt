@@ -4,9 +4,9 @@ use Rattle.std.specs.List.{AllZip}
 use Rattle.hose_graph.specs.declared.topology.Link.{Link}
 use Rattle.hose_graph.specs.Network.{Network}
 use Rattle.hose_tariff.specs.Fact.{IsPricedBy, IsPricedLink}
-use Rattle.hose_tariff.specs.steps.Rules.{AnswersBy, with_costs}
+use Rattle.hose_tariff.specs.steps.Rules.{AnswersCosts, with_costs}
 
-module _ (answers : ℕ → ℕ → Type 0) (cost : ℕ → ℕ) (is : AnswersBy answers cost) where
+module _ (answers : ℕ → ℕ → Type 0) (cost : ℕ → ℕ) (is : AnswersCosts answers cost) where
   one_link : (link priced : Link) → IsPricedLink answers link priced → priced ≡ record link { cost = cost link.length }
   one_link link priced by = by.same ∙ ap (λ (value : ℕ). record link { cost = value }) (is link.length by.cost by.answered)
 

@@ -2,7 +2,7 @@
 ghost use Rattle.std.specs.Prelude.{◌≡◌, ◌≤◌, ℕ, IfOk, OnOk, length, vec_capacity};
 ghost use Rattle.hose_graph.specs.Network.{IsNetwork, Network};
 ghost use Rattle.hose_tariff.specs.Fact.{IsPricedBy};
-ghost use Rattle.hose_tariff.specs.steps.Rules.{AnswersBy, with_costs};
+ghost use Rattle.hose_tariff.specs.steps.Rules.{AnswersCosts, with_costs};
 
 use crate::tariff::{Rule, Tariff};
 use hose_graph::{Link, Topology};
@@ -63,7 +63,7 @@ pub fn price(alloc: Global, top: &Topology, tariff: &Tariff) -> Result<Topology,
 
 /// Where the tariff's rule answers one cost for each length, a network is priced in one way.
 pub fn law_one_network(tariff: &Tariff)
-    ensures { (cost : ℕ → ℕ) → AnswersBy (Rule.post tariff.now.rule) cost
+    ensures { (cost : ℕ → ℕ) → AnswersCosts (Rule.post tariff.now.rule) cost
         → (network priced : Network) → IsPricedBy (Rule.post tariff.now.rule) network priced
         → priced ≡ with_costs cost network }
 {

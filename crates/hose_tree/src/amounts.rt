@@ -4,7 +4,7 @@ ghost use Rattle.hose_graph.specs.Amounts.{amount_of};
 ghost use Rattle.hose_law.specs.Decision.{Fits};
 ghost use Rattle.hose_law.specs.Plan.{plan_cost};
 ghost use Rattle.hose_law.specs.Room.{free_rates};
-ghost use Rattle.hose_tree.specs.steps.Amounts.{AreOnLinks, AreCarried};
+ghost use Rattle.hose_tree.specs.steps.Amounts.{AreOnLinks, AreWithinCapacities};
 
 use hose_graph::{Amounts, MOST_AMOUNT, MOST_TREE_LINKS, Topology};
 
@@ -26,7 +26,7 @@ pub fn cost(top: &Topology, amounts: &Amounts) -> u64
 /// Whether each amount is at most what its link has free: the link's capacity without the load
 /// there. There is a load for each link of the topology, at most the link's capacity.
 pub fn fits(top: &Topology, loads: &[u64], amounts: &Amounts) -> bool
-    requires loads { AreCarried top.now loads.now }
+    requires loads { AreWithinCapacities top.now loads.now }
     requires links { AreOnLinks top.now amounts.now }
     ensures { IsTrue result ↔ Fits (free_rates top.now loads.now) amounts.now }
 {
@@ -39,7 +39,7 @@ pub fn fits(top: &Topology, loads: &[u64], amounts: &Amounts) -> bool
 /// What a link has free: its capacity without the load there. There is a load for each link of the
 /// topology, at most the link's capacity.
 pub fn free_rate(top: &Topology, loads: &[u64], link: u32) -> u64
-    requires loads { AreCarried top.now loads.now }
+    requires loads { AreWithinCapacities top.now loads.now }
     requires link { link < length top.now.links }
     ensures { result ≡ slice_index (free_rates top.now loads.now) link }
 {

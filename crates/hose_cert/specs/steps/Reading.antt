@@ -23,6 +23,6 @@ abbrev pub IsFrom : ℕ → ℕ → ℕ → Type 0
 IsFrom least end number = (least ≤ number) × (number < end)
 
 -- so many numbers
-abbrev pub AreNumbers : ℕ → List (List ℕ) → List ℕ → Type 0
-AreNumbers count words numbers = (words ≡ map decimal numbers)
+abbrev pub AreNumberWords : ℕ → List (List ℕ) → List ℕ → Type 0
+AreNumberWords count words numbers = (words ≡ map decimal numbers)
     × (length numbers ≡ count) × All (λ number. number ≤ most_number) numbers

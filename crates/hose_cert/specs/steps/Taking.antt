@@ -31,17 +31,17 @@ fault_in (Err fault) = Some fault
 
 -- A fault of reading is kept. Else the reader has the fault that it had, which is none where the
 -- input was read to its end.
-abbrev pub KeepsLineFault : Option LineFault → Option LineFault → Option CertFault → Type 0
-KeepsLineFault old new None = new ≡ old
-KeepsLineFault old new (Some Read) = new ≡ Some line.Read
-KeepsLineFault old new (Some TooLong) = new ≡ Some line.TooLong
-KeepsLineFault old new (Some Memory) = new ≡ old
+abbrev pub KeepsReadingFault : Option LineFault → Option LineFault → Option CertFault → Type 0
+KeepsReadingFault old new None = new ≡ old
+KeepsReadingFault old new (Some Read) = new ≡ Some line.Read
+KeepsReadingFault old new (Some TooLong) = new ≡ Some line.TooLong
+KeepsReadingFault old new (Some Memory) = new ≡ old
 
 -- Lines were read, up to this fault if there is one.
 pub record ReadsUpTo {S : Type 0} (source : Ghosts S) (old new : Reader S)
     (fault : Option CertFault) : Type 0 where
   pub on : ReadsOn source old new
-  pub kept : KeepsLineFault old.fault new.fault fault
+  pub kept : KeepsReadingFault old.fault new.fault fault
   -- a call of the source failed, now or before
   pub read : fault ≡ Some Read
       → (old.fault ≡ Some line.Read) ⊎ Rose (source.frame old.source) (source.frame new.source)

@@ -56,7 +56,7 @@ module _ {S : Type 0} (source : SourceGhosts S) (old new : InputState S) where
     pub frame : source.frame new.source ≡ source.frame old.source
 
   -- the source was at its end
-  pub record MeetsEnd : Type 0 where
+  pub record ReachesEnd : Type 0 where
     pub none : TakesNothing source old.source new.source
     pub at_end : IsAtEnd (source.content new.source)
 
@@ -68,7 +68,7 @@ module _ {S : Type 0} (source : SourceGhosts S) (old new : InputState S) where
   -- More was taken; or the source met its end; or it failed, or gave more than the limit.
   abbrev pub TakesMore : Result Bool FollowEnd → Type 0
   TakesMore (Ok true) = TakesMoreBytes
-  TakesMore (Ok false) = (new.pending ≡ old.pending) × (new.taken ≡ old.taken) × MeetsEnd
+  TakesMore (Ok false) = (new.pending ≡ old.pending) × (new.taken ≡ old.taken) × ReachesEnd
   TakesMore (Err Read) = BreaksOff
   TakesMore (Err TooLong) = TakesTooMuch
   TakesMore (Err End) = ⊥
@@ -80,9 +80,9 @@ module _ {S : Type 0} (source : SourceGhosts S) (old new : InputState S) where
   -- be pending.
   abbrev pub TakesPart : Result ⊤ FollowEnd → Type 0
   TakesPart (Ok _) = TakesMoreBytes
-  TakesPart (Err End) = (old.pending ≡ []) × MeetsEnd
+  TakesPart (Err End) = (old.pending ≡ []) × ReachesEnd
   TakesPart (Err (BadPacket at)) =
-      (at ≡ old.taken - length old.pending) × (old.pending ≢ []) × MeetsEnd
+      (at ≡ old.taken - length old.pending) × (old.pending ≢ []) × ReachesEnd
   TakesPart (Err Read) = BreaksOff
   TakesPart (Err TooLong) = TakesTooMuch
   TakesPart (Err Write) = ⊥
@@ -130,7 +130,7 @@ module _ {S O D : Type 0} (tells : FollowerTellings S O D) where
       × (tells.sink.frame new.sink ≡ tells.sink.frame old.sink))
       ⊎ (TakesMoreBytes tells.source old.input new.input × TouchesNone old new)
   AdvancesTo old new (Err End) = (old.input.pending ≡ [])
-      × MeetsEnd tells.source old.input new.input × TouchesNone old new
+      × ReachesEnd tells.source old.input new.input × TouchesNone old new
   AdvancesTo old new (Err (BadPacket at)) =
       (at ≡ old.input.taken - length old.input.pending)
       × (BeginsNoPacket old.input.pending

@@ -58,13 +58,13 @@ module _ {D : Type 0} (disk : Ghosts D) (was : D) (network : Network) (entries :
     pub count : KeepsCount disk was store.journal.disk
 
   -- The store has all entries; or why not.
-  abbrev pub MovesOn : KeptStore D → Result ⊤ MoveFault → Type 0
-  MovesOn store (Ok _) = IsMoving store (length entries)
-  MovesOn store (Err fault) = Moves disk was network entries store.journal.disk (Err fault)
+  abbrev pub MovesAll : KeptStore D → Result ⊤ MoveFault → Type 0
+  MovesAll store (Ok _) = IsMoving store (length entries)
+  MovesAll store (Err fault) = Moves disk was network entries store.journal.disk (Err fault)
       × OnlyMoves disk was network entries store.journal.disk
 
   -- The journal has the first entries, so many of them, and no other; they were all read.
-  pub record IsPart (replay : Replay D) (place : ℕ) : Type 0 where
+  pub record HasReadPart (replay : Replay D) (place : ℕ) : Type 0 where
     pub few : place ≤ length entries
     pub replaying : IsReplaying disk was network replay (take place entries)
     pub read : IfSome (disk.content was) (IsHistoryOf network (take place entries))
@@ -73,13 +73,13 @@ module _ {D : Type 0} (disk : Ghosts D) (was : D) (network : Network) (entries :
   abbrev pub ComparesNext : Replay D → ℕ → Result Bool MoveFault → Type 0
   ComparesNext replay place (Ok true) = (place + 1 ≤ length entries)
       × IsReplaying disk was network replay (take (place + 1) entries)
-  ComparesNext replay place (Ok false) = IsPart replay place
+  ComparesNext replay place (Ok false) = HasReadPart replay place
   ComparesNext replay place (Err fault) =
       Moves disk was network entries replay.reading.disk (Err fault)
       × OnlyMoves disk was network entries replay.reading.disk
 
   -- The journal has a part of the entries, so many of them, and no other; or why not.
   abbrev pub Compares : Replay D → Result ℕ MoveFault → Type 0
-  Compares replay (Ok place) = IsPart replay place
+  Compares replay (Ok place) = HasReadPart replay place
   Compares replay (Err fault) = Moves disk was network entries replay.reading.disk (Err fault)
       × OnlyMoves disk was network entries replay.reading.disk

@@ -17,8 +17,8 @@ abbrev pub long_cost : ℕ → ℕ
 long_cost length = min most_cost (5 + 2 * length)
 
 -- each answer of the rule is the cost of the length
-abbrev pub AnswersBy : (ℕ → ℕ → Type 0) → (ℕ → ℕ) → Type 0
-AnswersBy answers cost = (length value : ℕ) → answers length value → value ≡ cost length
+abbrev pub AnswersCosts : (ℕ → ℕ → Type 0) → (ℕ → ℕ) → Type 0
+AnswersCosts answers cost = (length value : ℕ) → answers length value → value ≡ cost length
 
 -- the network with the cost of its length for each link
 abbrev pub with_costs : (ℕ → ℕ) → Network → Network

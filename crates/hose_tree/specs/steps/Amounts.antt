@@ -10,6 +10,6 @@ AreOnLinks network amounts =
     All (λ (pair : ReservedLink). link_of pair < length network.links) amounts
 
 -- there is a load for each link, and none is above its link's capacity
-pub record AreCarried (network : Network) (loads : List ℕ) : Type 0 where
+pub record AreWithinCapacities (network : Network) (loads : List ℕ) : Type 0 where
   pub places : length loads ≡ length network.links
   pub within : (l : ℕ) → l < length network.links → slice_index loads l ≤ capacity_of network l

@@ -1,6 +1,6 @@
 use Rattle.std.proofs.Common.{◌-◌, []}
 use Rattle.hose_graph.specs.Network.{Network}
-use Rattle.hose_law.specs.History.{last_epoch}
+use Rattle.hose_graph.specs.Limits.{most_epoch}
 use Rattle.hose_store.specs.steps.Replaying.{IsReplaying}
 use Rattle.hose_follow.specs.steps.Shipping.{HasAdded, outgoing, shipment}
 use Rattle.hose_follow.proofs.shipping.add_all.Given as goal
@@ -10,4 +10,4 @@ invariant-loop g l = (was : g.row.D.Denot) → (network : Network) → IsReplayi
     → HasAdded g.S.Sink g.D.Disk (shipment was network l.fn.from) (outgoing l.fn.gather l.fn.sink) l.replay (outgoing l.gather l.sink)
 
 abbrev pub decreases-loop : goal.decreases-loop
-decreases-loop g l = last_epoch - l.replay.book.book.epoch
+decreases-loop g l = most_epoch - l.replay.book.book.epoch

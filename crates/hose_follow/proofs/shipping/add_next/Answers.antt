@@ -1,6 +1,6 @@
 use Rattle.std.proofs.Common.{◌+◌, ap, arith, length}
 use Rattle.std.proofs.lemmas.Result.{err_from_is_err_and}
-use Rattle.hose_codec.proofs.Lengths.{length-spelling}
+use Rattle.hose_codec.proofs.Entries.{length-spelling}
 use Rattle.hose_follow.proofs.Shipped.{added_all, added_passed, added_until, added_wanted}
 use Rattle.hose_follow.proofs.shipping.add_next.Goals as goal
 

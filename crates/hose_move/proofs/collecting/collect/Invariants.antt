@@ -1,7 +1,7 @@
 -- The entries so far are in the list.
 use Rattle.std.proofs.Common.{◌-◌, []}
 use Rattle.hose_graph.specs.Network.{Network}
-use Rattle.hose_law.specs.History.{last_epoch}
+use Rattle.hose_graph.specs.Limits.{most_epoch}
 use Rattle.hose_store.specs.steps.Replaying.{IsReplaying}
 use Rattle.hose_move.specs.steps.Collecting.{HasPassed}
 use Rattle.hose_move.proofs.collecting.collect.Given as goal
@@ -11,4 +11,4 @@ invariant-loop g l = (was : g.row.D.Denot) (network : Network) → IsReplaying g
     → HasPassed g.D.Disk was network l.replay l.entries.items
 
 abbrev pub decreases-loop : goal.decreases-loop
-decreases-loop g l = last_epoch - l.replay.book.book.epoch
+decreases-loop g l = most_epoch - l.replay.book.book.epoch
