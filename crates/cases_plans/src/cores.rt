@@ -107,6 +107,7 @@ fn planned(alloc: Global, book: &Book, line: &str) -> Result<Quote, Trouble>
         top,
         service,
         loads,
+        kept: None,
         epoch: book.epoch(),
     };
     match plan_beside(alloc, seen, hose, &mut PlainRows::new()) {

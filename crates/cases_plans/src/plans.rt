@@ -8,7 +8,7 @@ ghost use Rattle.hose_law.specs.steps.Plan.{AreNodes};
 ghost use Rattle.hose_law.specs.Row.{IsRow};
 ghost use Rattle.hose_law.specs.Tree.{JoinsHose};
 ghost use Rattle.hose_law.specs.Walk.{capacity_of};
-ghost use Rattle.hose_tree.specs.steps.Amounts.{AreCarried};
+ghost use Rattle.hose_tree.specs.steps.Amounts.{AreWithinCapacities};
 
 use cases_common::{Told, Trouble, debugged, first, hose, numbers};
 use hose_graph::{Amounts, Hose, Row, Topology};
@@ -172,7 +172,7 @@ fn first_link(alloc: Global, top: &Topology) -> Result<LinkSet, AllocError>
 
 // Whether there are as many loads as links, each at most its link's capacity.
 fn are_carried(top: &Topology, loads: &[u64]) -> bool
-    ensures { IsTrue result → AreCarried top.now loads.now }
+    ensures { IsTrue result → AreWithinCapacities top.now loads.now }
 {
     if loads.len() != top.links() as usize {
         return false;
@@ -213,7 +213,7 @@ struct State {
 // A state by the numbers of the links that are out, and the words of the loads.
 fn state_of(alloc: Global, top: &Topology, out: &[u64], loads: &str) -> Result<State, Trouble>
     ensures service { IfOk result (λ state. length state.service ≡ length top.now.links) }
-    ensures loads { IfOk result (λ state. AreCarried top.now state.loads.items) }
+    ensures loads { IfOk result (λ state. AreWithinCapacities top.now state.loads.items) }
 {
     let loads = loads_of(alloc, top, loads)?;
     let service = service(alloc, top, out)?;
@@ -223,14 +223,14 @@ fn state_of(alloc: Global, top: &Topology, out: &[u64], loads: &str) -> Result<S
 // A state by the words of the links that are out, and of the loads.
 fn state_but(alloc: Global, top: &Topology, out: &str, loads: &str) -> Result<State, Trouble>
     ensures service { IfOk result (λ state. length state.service ≡ length top.now.links) }
-    ensures loads { IfOk result (λ state. AreCarried top.now state.loads.items) }
+    ensures loads { IfOk result (λ state. AreWithinCapacities top.now state.loads.items) }
 {
     let out = numbers(alloc, out)?;
     state_of(alloc, top, &out, loads)
 }
 
 fn loads_of(alloc: Global, top: &Topology, words: &str) -> Result<Vec<u64>, Trouble>
-    ensures { IfOk result (λ loads. AreCarried top.now loads.items) }
+    ensures { IfOk result (λ loads. AreWithinCapacities top.now loads.items) }
 {
     let loads = numbers(alloc, words)?;
     if !are_carried(top, &loads) {
@@ -285,9 +285,9 @@ fn decided_at(
     hose: &Hose,
 ) -> Result<String, AllocError>
     requires service { length now.now.service ≡ length top.now.links }
-    requires loads { AreCarried top.now now.now.loads.items }
+    requires loads { AreWithinCapacities top.now now.now.loads.items }
     requires later_service { length then.now.service ≡ length top.now.links }
-    requires later_loads { AreCarried top.now then.now.loads.items }
+    requires later_loads { AreWithinCapacities top.now then.now.loads.items }
     requires nodes { AreNodes top.now hose.now }
 {
     let rows = &mut PlainRows::new();

@@ -21,7 +21,7 @@ use Rattle.hose_plan.specs.declared.decision.Decision.TheVariants.{Plan}
 use Rattle.hose_book.specs.declared.books.Books.{Ghosts}
 use Rattle.hose_book.specs.declared.books.Committed.TheVariants.{Done}
 use Rattle.hose_book.specs.Ledger.{Ledger}
-use Rattle.hose_core.specs.steps.Bound.{HasNewest, TellsNewest, admission_of}
+use Rattle.hose_core.specs.steps.Bound.{HasNewest, TellsNewest, admission_command}
 use Rattle.hose_core.specs.steps.Holding.{IsMadeAt}
 use Rattle.hose_core.specs.steps.Planning.{AdmitsAtOnce, EntersPlan, IsNotAdmitted, IsNotPlanned, IsPlannedFor}
 use Rattle.hose_core.specs.declared.admitting.Admission.{Admission}
@@ -71,12 +71,12 @@ bound_of network book customer None hose given entry newest answer = answer
 bound_of network book customer (Some known) hose given entry newest answer = after_of network book customer known hose given entry newest answer
 
 bound_answer : (network : Network) (epoch : ℕ) (history : List Entry) (customer : List ℕ) (held : Held) (known : Option ℕ) (hose : List (ℕ × ℕ)) (given : Reply) (entry : Option Entry)
-    → IsBoundAnswer network (book_of epoch history) customer known hose given entry → IsAnswer network epoch history customer held (admission_of known hose) given entry held
+    → IsBoundAnswer network (book_of epoch history) customer known hose given entry → IsAnswer network epoch history customer held (admission_command known hose) given entry held
 bound_answer network epoch history customer held None hose given entry answer = (answer, refl)
 bound_answer network epoch history customer held (Some known) hose given entry answer = (answer, refl)
 
 -- memory may be wanting at it
-bound_wants : (book : Book) (customer : List ℕ) (held : Held) (known : Option ℕ) (hose : List (ℕ × ℕ)) → MayWantMemory book customer held (admission_of known hose)
+bound_wants : (book : Book) (customer : List ℕ) (held : Held) (known : Option ℕ) (hose : List (ℕ × ℕ)) → MayWantMemory book customer held (admission_command known hose)
 bound_wants book customer held None hose = tt
 bound_wants book customer held (Some known) hose = tt
 
@@ -88,11 +88,11 @@ module _ {K R : Type 0} (books : Ghosts K R) (old new : K) (epoch : ℕ) (histor
   book = (books.ledger old).book
 
   abbrev Stepped : Reply → Type 0
-  Stepped answer = HasStepped books old new epoch history customer held (admission_of known hose) answer
+  Stepped answer = HasStepped books old new epoch history customer held (admission_command known hose) answer
 
   admits : (Is : Reply → Option Entry → Type 0) → ((given : Reply) (entry : Option Entry) → Is given entry → IsBoundAnswer network book customer known hose given entry) → (answer : Reply)
       → AnswersBy books old new Is answer → Stepped answer
-  admits Is are answer by = stepped_by books old new epoch history customer held held (admission_of known hose) answer Is here
+  admits Is are answer by = stepped_by books old new epoch history customer held held (admission_command known hose) answer Is here
       (λ given entry is. bound_answer network epoch history customer held known hose given entry (subst (λ (b : Book). IsBoundAnswer network b customer known hose given entry) here (are given entry is))) by
 
   -- a planned hose was answered
@@ -108,7 +108,7 @@ module _ {K R : Type 0} (books : Ghosts K R) (old new : K) (epoch : ℕ) (histor
 
 -- another VPN is the newest
 newest_step : {K R : Type 0} (books : Ghosts K R) (old : K) (epoch : ℕ) (history : List Entry) (customer : List ℕ) (held : Held) (known : Option ℕ) (hose : List (ℕ × ℕ)) → (books.ledger old).book ≡ book_of epoch history
-    → (answer : Reply) → TellsNewest (books.ledger old).book customer known answer → HasStepped books old old epoch history customer held (admission_of known hose) answer
+    → (answer : Reply) → TellsNewest (books.ledger old).book customer known answer → HasStepped books old old epoch history customer held (admission_command known hose) answer
 newest_step books old epoch history customer held (Some known) hose here (reply.Newest id at) tells =
     let Is : Reply → Option Entry → Type 0 = IsAfterAnswer (books.ledger old).network (books.ledger old).book customer known hose in
     admits books old old epoch history customer held (Some known) hose here Is (λ given entry answer. answer) (reply.Newest id at) (answers_without books old old Is (reply.Newest id at) tells refl)
@@ -165,7 +165,7 @@ module _ {K R : Type 0} (books : Ghosts K R) (old : K) (customer : List ℕ) (kn
   -- nor where memory was wanting
   starved_admits : AdmitsAtOnce books old old customer asked reply.Memory None
   starved_admits = record {
-    step = λ epoch history held here. told_step books old epoch history customer held here (admission_of known hose) reply.Memory (bound_wants (book_of epoch history) customer held known hose, refl, refl, refl);
+    step = λ epoch history held here. told_step books old epoch history customer held here (admission_command known hose) reply.Memory (bound_wants (book_of epoch history) customer held known hose, refl, refl, refl);
     cheapest = tt;
     answered = answered_same books old reply.Memory refl tt;
     none = refl;
@@ -202,7 +202,7 @@ module _ {K R : Type 0} (books : Ghosts K R) (old : K) (customer : List ℕ) (kn
 
 -- A step at all that was seen, where an admission has nothing to be entered.
 pub not_admitted_step : (network : Network) (epoch : ℕ) (history : List Entry) (customer : List ℕ) (held : Held) (known : Option ℕ) (hose : List (ℕ × ℕ)) (answer : Reply) → IsNotAdmitted network (book_of epoch history) customer known hose answer
-    → IsStepOf network epoch history customer held (admission_of known hose) answer None history held
+    → IsStepOf network epoch history customer held (admission_command known hose) answer None history held
 not_admitted_step _ epoch history customer held (Some known) hose (reply.Newest id at) (inl tells) = ((tells, refl), refl)
 not_admitted_step _ epoch history customer held None hose answer (inl tells) = absurd tells
 not_admitted_step _ epoch history customer held (Some known) hose answer (inl tells) = absurd tells

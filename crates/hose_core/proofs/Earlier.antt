@@ -1,16 +1,18 @@
 -- Quotes that were made at a book before: their grounds since then, and that they stay so as entries come.
-use Rattle.std.proofs.Common.{◌∙◌, ℕ, ◌+◌, ◌<◌, ◌≤◌, Bool, true, false, not, List, ◌++◌, Option, length, nat_lt, Contains, refl, sym, ap, subst, inl, inr, arith, cond}
+use Rattle.std.proofs.Common.{◌≡◌, ◌∙◌, ℕ, ◌+◌, ◌<◌, ◌≤◌, Bool, IfSome, true, false, not, List, ◌++◌, Option, length, nat_lt, Contains, refl, sym, ap, subst, inl, inr, arith, cond}
 use Rattle.std.proofs.lemmas.List.Elements.{Contains-append_left, Contains-append_right}
 use Rattle.hose_graph.specs.Network.{Network}
 use Rattle.hose_graph.specs.declared.entry.Entry.{Entry}
 use Rattle.hose_law.specs.Book.{Book, loads_of}
 use Rattle.hose_law.specs.Room.{first_links}
-use Rattle.hose_law.specs.Tracks.{Change, Recent, changes_of, touched_links}
+use Rattle.hose_law.specs.Tracks.{Change, Recent, changes_of}
+use Rattle.hose_law.specs.History.{touched_links}
 use Rattle.hose_law.specs.steps.Tracks.{IsNamedSince}
-use Rattle.hose_law.proofs.LiveIds.{next_epoch}
+use Rattle.hose_law.proofs.Entries.{next_epoch, untouched, untouched_out}
 use Rattle.hose_law.proofs.Rooms.{loads_of-at}
 use Rattle.hose_law.proofs.Serving.{length-links_in_service, links_in_service-at}
-use Rattle.hose_law.proofs.Tracked.{is_change, untouched, untouched_out}
+use Rattle.hose_law.proofs.Tracked.{is_change}
+use Rattle.hose_paths.specs.steps.Kept.{KeptRows}
 use Rattle.hose_plan.specs.steps.Planning.{AreMadeSince}
 use Rattle.hose_plan.specs.declared.decision.Grounds.{Grounds}
 use Rattle.hose_book.specs.Ledger.{Ledger}
@@ -118,3 +120,9 @@ before_on old new (inr (entry, next)) quote before = subst (λ (l : Ledger). Was
 
 pub kept_on : (old new : Ledger) → IsSameOrNext old new → (quotes : List (Option Quote)) → AreKept old quotes → AreKept new quotes
 kept_on old new goes quotes kept = record { numbers = kept.numbers; made = λ number quote there. before_on old new goes quote (kept.made number quote there) }
+
+-- rows that are kept of a network are those of the network after an entry, which is the same
+pub table_on : (old new : Ledger) → IsSameOrNext old new → (table : Option KeptRows)
+    → IfSome table (λ rows. rows.network ≡ old.network) → IfSome table (λ rows. rows.network ≡ new.network)
+table_on old new (inl same) table are = subst (λ (l : Ledger). IfSome table (λ rows. rows.network ≡ l.network)) (sym same) are
+table_on old new (inr (entry, next)) table are = subst (λ (l : Ledger). IfSome table (λ rows. rows.network ≡ l.network)) (sym next) are

@@ -12,7 +12,8 @@ use Rattle.hose_law.specs.Room.{room_of}
 use Rattle.hose_law.proofs.CanonicalPlans.{planned_sound}
 use Rattle.hose_law.proofs.Cheapest.{canonical_cheapest}
 use Rattle.hose_law.specs.Book.{Book}
-use Rattle.hose_law.specs.History.{IsSoundAt, last_epoch, most_live}
+use Rattle.hose_law.specs.History.{IsSoundAt}
+use Rattle.hose_graph.specs.Limits.{most_live, most_epoch}
 use Rattle.hose_law.specs.Plan.{plan_cost}
 use Rattle.hose_book.specs.declared.books.Books.{Ghosts}
 use Rattle.hose_book.specs.Ledger.{Ledger}
@@ -35,16 +36,16 @@ module _ {K R : Type 0} (books : Ghosts K R) (old new : K) (customer : List ℕ)
   Is = IsPlannedAnswer ledger.network book customer hose
 
   -- the entry is sound where an epoch and room are left
-  pub sound_entry : book.epoch < last_epoch → length book.live < most_live → IsSoundAt ledger.network book entry
+  pub sound_entry : book.epoch < most_epoch → length book.live < most_live → IsSoundAt ledger.network book entry
   sound_entry epoch room = subst (IsSoundAt ledger.network book) (sym planned.admits) (epoch, room, planned.sound)
 
-  pub spent_answers : (at : ℕ) → at ≡ book.epoch → at ≡ last_epoch → new ≡ old → AnswersBy books old new Is (reply.Spent at)
+  pub spent_answers : (at : ℕ) → at ≡ book.epoch → at ≡ most_epoch → new ≡ old → AnswersBy books old new Is (reply.Spent at)
   spent_answers at here last = answers_without books old new Is (reply.Spent at) (here, sym here ∙ last, (plan, planned.planned))
 
-  pub full_answers : (at : ℕ) → at ≡ book.epoch → book.epoch < last_epoch → most_live ≤ length book.live → new ≡ old → AnswersBy books old new Is (reply.Full at)
+  pub full_answers : (at : ℕ) → at ≡ book.epoch → book.epoch < most_epoch → most_live ≤ length book.live → new ≡ old → AnswersBy books old new Is (reply.Full at)
   full_answers at here epoch full = answers_without books old new Is (reply.Full at) (here, epoch, full, (plan, planned.planned))
 
-  module _ (epoch : book.epoch < last_epoch) (room : length book.live < most_live) (at cost : ℕ) (here : at ≡ book.epoch) (costs : cost ≡ plan_cost ledger.network plan) where
+  module _ (epoch : book.epoch < most_epoch) (room : length book.live < most_live) (at cost : ℕ) (here : at ≡ book.epoch) (costs : cost ≡ plan_cost ledger.network plan) where
     abbrev admitted : Reply
     admitted = reply.Admitted (at + 1) cost (at + 1) plan
 

@@ -7,7 +7,8 @@ use Rattle.hose_graph.specs.declared.command.Reply.{Reply}
 use Rattle.hose_graph.specs.declared.command.Reply.TheVariants as reply
 use Rattle.hose_law.specs.Answer.{IsReleaseAnswer}
 use Rattle.hose_law.specs.Book.{Book, HasVpn}
-use Rattle.hose_law.specs.History.{IsSoundAt, book_of, last_epoch}
+use Rattle.hose_law.specs.History.{IsSoundAt, book_of}
+use Rattle.hose_graph.specs.Limits.{most_epoch}
 use Rattle.hose_law.specs.Quotes.{Held}
 use Rattle.hose_book.specs.declared.books.Books.{Ghosts}
 use Rattle.hose_book.specs.Ledger.{Ledger}
@@ -31,10 +32,10 @@ module _ {K R : Type 0} (books : Ghosts K R) (old new : K) (customer : List ℕ)
   pub none_answers : (told at : ℕ) → told ≡ id → at ≡ book.epoch → (HasVpn book customer id → ⊥) → new ≡ old → Answers (reply.NoVpn told at)
   none_answers told at tells here refused = answers_without books old new Is (reply.NoVpn told at) (tells, here, refused)
 
-  pub spent_answers : (at : ℕ) → at ≡ book.epoch → HasVpn book customer id → at ≡ last_epoch → new ≡ old → Answers (reply.Spent at)
+  pub spent_answers : (at : ℕ) → at ≡ book.epoch → HasVpn book customer id → at ≡ most_epoch → new ≡ old → Answers (reply.Spent at)
   spent_answers at here has last = answers_without books old new Is (reply.Spent at) (here, sym here ∙ last, has)
 
-  module _ (told at : ℕ) (tells : told ≡ id) (here : at ≡ book.epoch) (epoch : book.epoch < last_epoch) (has : HasVpn book customer id) where
+  module _ (told at : ℕ) (tells : told ≡ id) (here : at ≡ book.epoch) (epoch : book.epoch < most_epoch) (has : HasVpn book customer id) where
     abbrev released : Reply
     released = reply.Released told (at + 1)
 

@@ -1,6 +1,6 @@
 -- What becomes of an order to take a link out of service, or to put it back.
 use Rattle.std.proofs.Common.{◌≡◌, ◌+◌, ◌<◌, ◌∙◌, ℕ, Bool, true, false, not, List, Option, None, Some, refl, sym, ap, subst}
-use Rattle.hose_graph.specs.Limits.{operator}
+use Rattle.hose_graph.specs.Limits.{operator, most_epoch}
 use Rattle.hose_graph.specs.steps.Naming.{NamesPlaces}
 use Rattle.hose_graph.specs.Network.{IsLinkOf, Network}
 use Rattle.hose_graph.specs.declared.entry.Entry.{Entry}
@@ -8,7 +8,7 @@ use Rattle.hose_graph.specs.declared.command.Reply.{Reply}
 use Rattle.hose_graph.specs.declared.command.Reply.TheVariants as reply
 use Rattle.hose_law.specs.Answer.{IsAnswer, IsOperatorAnswer, IsServiceAnswer, MayWantMemory}
 use Rattle.hose_law.specs.Book.{Book}
-use Rattle.hose_law.specs.History.{IsSoundAt, book_of, last_epoch}
+use Rattle.hose_law.specs.History.{IsSoundAt, book_of}
 use Rattle.hose_law.specs.Quotes.{Held}
 use Rattle.hose_law.specs.ReplyKind.{kind_of}
 use Rattle.hose_law.specs.ReplyKind.ReplyKind.{ByTheBook}
@@ -84,10 +84,10 @@ module _ {K R : Type 0} (books : Ghosts K R) (old new : K) (down : Bool) (link :
   pub already_answers : (told at : ℕ) → told ≡ link → at ≡ book.epoch → LinkStands ledger.network book link down → new ≡ old → Answers (reply.Already told at)
   already_answers told at tells here stands = answers_without books old new Is (reply.Already told at) (tells, here, stands)
 
-  pub spent_answers : (at : ℕ) → at ≡ book.epoch → LinkStands ledger.network book link (not down) → at ≡ last_epoch → new ≡ old → Answers (reply.Spent at)
+  pub spent_answers : (at : ℕ) → at ≡ book.epoch → LinkStands ledger.network book link (not down) → at ≡ most_epoch → new ≡ old → Answers (reply.Spent at)
   spent_answers at here stands last = answers_without books old new Is (reply.Spent at) (here, sym here ∙ last, stands)
 
-  module _ (at : ℕ) (here : at ≡ book.epoch) (epoch : book.epoch < last_epoch) (stands : LinkStands ledger.network book link (not down)) where
+  module _ (at : ℕ) (here : at ≡ book.epoch) (epoch : book.epoch < most_epoch) (stands : LinkStands ledger.network book link (not down)) where
     abbrev done : Reply
     done = service_reply down link (at + 1)
 

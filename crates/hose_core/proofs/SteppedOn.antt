@@ -22,7 +22,7 @@ use Rattle.hose_plan.specs.steps.Planning.{allowed_links}
 use Rattle.hose_book.specs.declared.books.Books.{Ghosts}
 use Rattle.hose_book.specs.declared.books.Committed.TheVariants.{Done}
 use Rattle.hose_book.specs.Ledger.{Ledger}
-use Rattle.hose_core.specs.steps.Bound.{admission_of}
+use Rattle.hose_core.specs.steps.Bound.{admission_command}
 use Rattle.hose_core.specs.steps.Holding.{AllQuotes, AreHeld, HoldsNow, IsMadeAt, IsQuoteOf, State, quotes_in}
 use Rattle.hose_core.specs.steps.Planning.{HasTold, IsNotPlanned}
 use Rattle.hose_core.specs.steps.Serving.{service_command}
@@ -63,7 +63,7 @@ order_keeps true link = λ changes. changes
 order_keeps false link = λ changes. changes
 
 -- and so does an admission, bound to a number or to none
-pub admission_keeps : (known : Option ℕ) (hose : List (ℕ × ℕ)) → ¬ ChangesHeld (admission_of known hose)
+pub admission_keeps : (known : Option ℕ) (hose : List (ℕ × ℕ)) → ¬ ChangesHeld (admission_command known hose)
 admission_keeps None hose = λ changes. changes
 admission_keeps (Some known) hose = λ changes. changes
 

@@ -17,7 +17,7 @@ use crate::quotes::Quote;
 use crate::taking::take_now;
 use hose_book::Books;
 use hose_graph::{Entry, Hose, Name, Reply};
-use hose_paths::RowMaker;
+use hose_paths::{RowMaker, RowTable};
 use std::alloc::Global;
 use std::snapshot::Snapshot;
 
@@ -45,11 +45,30 @@ pub fn admit_now<K: Books, R: RowMaker>(
     ensures { AdmitsAtOnce K.Books books.old books.new customer.now asked result.0
         (option_map (λ entry. entry.value) result.1) }
 {
+    admit_with_rows(alloc, books, customer, asked, None, rows)
+}
+
+// Plans a hose and admits it, as `admit_now` does. Where there is a table of the rows of the books'
+// network, it is asked first.
+pub(crate) fn admit_with_rows<K: Books, R: RowMaker>(
+    alloc: Global,
+    books: &mut K,
+    customer: &Name,
+    asked: Admission,
+    table: Option<&RowTable>,
+    rows: &mut R,
+) -> (Reply, Option<Snapshot<Entry>>)
+    requires nodes { AreNodes (K.ledger books.old).network asked.hose }
+    requires table { IfSome table
+        (λ table. table.now.network ≡ (K.ledger books.old).network) }
+    ensures { AdmitsAtOnce K.Books books.old books.new customer.now asked result.0
+        (option_map (λ entry. entry.value) result.1) }
+{
     let Admission { known, hose } = asked;
     if let Some(reply) = newest_now(books.book(), customer, known) {
         return (reply, None);
     }
-    match plan_now(alloc, books, hose, rows) {
+    match plan_now(alloc, books, hose, table, rows) {
         Err(reply) => (reply, None),
         Ok(quote) => admit_planned(alloc, books, customer, known, quote),
     }

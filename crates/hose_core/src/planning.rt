@@ -1,28 +1,33 @@
 // Planning a hose: a quote, or a reply.
-ghost use Rattle.std.specs.Prelude.{◌≡◌, MatchResult, length};
+ghost use Rattle.std.specs.Prelude.{◌≡◌, IfSome, MatchResult, length};
 ghost use Rattle.hose_graph.specs.Network.{IsNetwork};
 ghost use Rattle.hose_law.specs.Book.{Book, loads_of};
 ghost use Rattle.hose_law.specs.steps.Plan.{AreNodes};
 ghost use Rattle.hose_law.specs.Room.{first_links};
-ghost use Rattle.hose_tree.specs.steps.Amounts.{AreCarried};
+ghost use Rattle.hose_paths.specs.steps.Rows.{AreRows};
+ghost use Rattle.hose_tree.specs.steps.Amounts.{AreWithinCapacities};
 ghost use Rattle.hose_core.specs.steps.Planning.{IsNotPlanned, IsPlannedFor};
 
 use crate::quotes::Quote;
 use hose_book::Books;
-use hose_graph::{Hose, Reply, Topology};
+use hose_graph::{Hose, Reply, Row, Topology};
 use hose_links::LinkSet;
-use hose_paths::RowMaker;
-use hose_plan::{Decision, decide};
+use hose_paths::{RowMaker, RowTable, kept_rows};
+use hose_plan::{Decision, decide_with_rows};
 use std::alloc::Global;
 
-/// The plan of a hose at books, or the reply where it has none.
+/// The plan of a hose at books, or the reply where it has none. Where there is a table of the rows
+/// of their network, it is asked first.
 pub fn plan_now<K: Books, R: RowMaker>(
     alloc: Global,
     books: &K,
     hose: Hose,
+    table: Option<&RowTable>,
     rows: &mut R,
 ) -> Result<Quote, Reply>
-    requires { AreNodes (K.ledger books.now).network hose }
+    requires nodes { AreNodes (K.ledger books.now).network hose }
+    requires table { IfSome table
+        (λ table. table.now.network ≡ (K.ledger books.now).network) }
     ensures planned { MatchResult result
         (IsPlannedFor (K.ledger books.now).network (K.ledger books.now).book hose)
         (IsNotPlanned (K.ledger books.now).network (K.ledger books.now).book hose) }
@@ -34,18 +39,22 @@ pub fn plan_now<K: Books, R: RowMaker>(
         top,
         service,
         loads,
+        kept: kept_rows(table, service),
         epoch: book.epoch(),
     };
     plan_beside(alloc, seen, hose, rows)
 }
 
 /// What a plan sees of a book: its topology, the links that it has in service, a load for each, and
-/// its epoch. It may be of a book that has gone on since.
+/// its epoch, with the rows of all nodes, where they are kept. It may be of a book that has gone on
+/// since.
 #[derive(Drop)]
 pub struct BookView<'a> {
     pub top: &'a Topology,
     pub service: &'a LinkSet,
     pub loads: &'a [u64],
+    /// The rows of all nodes over the links in service, where they are kept.
+    pub kept: Option<&'a [Row]>,
     pub epoch: u64,
 }
 
@@ -59,8 +68,9 @@ pub fn plan_beside<R: RowMaker>(
     rows: &mut R,
 ) -> Result<Quote, Reply>
     requires places { length seen.service.now ≡ length seen.top.now.links }
-    requires loads { AreCarried seen.top.now seen.loads.now }
+    requires loads { AreWithinCapacities seen.top.now seen.loads.now }
     requires nodes { AreNodes seen.top.now hose }
+    requires kept { IfSome seen.kept (λ rows. AreRows seen.top.now seen.service.now rows.now) }
     ensures planned { (book : Book)
         → seen.entry.service.now ≡ first_links seen.entry.top.now book
         → seen.entry.loads.now ≡ loads_of seen.entry.top.now book
@@ -73,11 +83,12 @@ pub fn plan_beside<R: RowMaker>(
         top,
         service,
         loads,
+        kept,
         epoch,
     } = seen;
     // What holds of each network is told by any of its calls.
     let _nodes = top.nodes();
-    match decide(alloc, top, service, loads, &hose, rows) {
+    match decide_with_rows(alloc, top, service, loads, &hose, kept, rows) {
         Err(_) => Err(Reply::Memory),
         Ok(Decision::Refused { side }) => Err(Reply::Refused { at: epoch, side }),
         Ok(

@@ -6,7 +6,7 @@ ghost use Rattle.hose_graph.specs.declared.command.Command.{Command};
 ghost use Rattle.hose_graph.specs.declared.command.Reply.{Reply};
 ghost use Rattle.hose_graph.specs.declared.limits.TheConstants.{MOST_EPOCH};
 ghost use Rattle.hose_law.specs.steps.Plan.{AreNodes};
-ghost use Rattle.hose_core.specs.steps.Bound.{admission_of};
+ghost use Rattle.hose_core.specs.steps.Bound.{admission_command};
 ghost use Rattle.hose_core.specs.steps.Serving.{service_command};
 
 use crate::admitting::Admission;
@@ -35,7 +35,7 @@ pub trait Provider {
     ) -> Reply
         requires can { can_answer self.old }
         requires nodes { AreNodes (network self.old) asked.hose }
-        ensures { answers self.old self.new customer.now (admission_of asked.known asked.hose)
+        ensures { answers self.old self.new customer.now (admission_command asked.known asked.hose)
             result };
 
     /// Plans a hose, and holds the plan.

@@ -10,7 +10,7 @@ ghost use Rattle.hose_book.specs.Ledger.{HasBookOf};
 ghost use Rattle.hose_core.specs.steps.Holding.{IsMadeAt, quotes_of};
 ghost use Rattle.hose_core.specs.steps.Stepping.{FitsHistory, HaveAnswered, Steps, committed_of};
 
-use crate::admitting::{Admission, admit_now};
+use crate::admitting::{Admission, admit_with_rows};
 use crate::by_customer::QuotesByCustomer;
 use crate::claim::{claim_release, claim_service, claim_take};
 use crate::planning::plan_now;
@@ -22,7 +22,7 @@ use crate::taking::take_now;
 use crate::telling::{link_now, show_now, vpns_now};
 use hose_book::Books;
 use hose_graph::{Command, Hose, Name, Reply};
-use hose_paths::RowMaker;
+use hose_paths::{RowMaker, RowTable};
 use std::alloc::Global;
 use std::marker::Model;
 
@@ -33,19 +33,23 @@ use std::marker::Model;
 pub struct Core<K: Books + Drop> {
     books: K,
     quotes: QuotesByCustomer,
+    // Of the books' network.
+    table: Option<RowTable>,
 }
 
 impl<K: Books + Drop> Model for Core<K> {
-    ghost use Rattle.std.specs.Prelude.{ℕ, List};
+    ghost use Rattle.std.specs.Prelude.{◌≡◌, ℕ, IfSome, List};
     ghost use Rattle.hose_core.specs.steps.Holding.{AreKept, State, quotes_in};
 
     ghost Value = { State K };
 
     ghost view = { λ core. record { books = core.books; quotes = core.quotes } };
 
-    // What is held was decided on this network, at a book that this one came from.
-    ghost invariant = { λ core. (customer : List ℕ)
-        → AreKept (K.ledger core.books) (quotes_in core.quotes customer) };
+    // What is held was decided on this network, at a book that this one came from. What rows are
+    // kept are of this network, so that no plan has to compare it with theirs.
+    ghost invariant = { λ core. let ledger = K.ledger core.books in
+        ((customer : List ℕ) → AreKept ledger (quotes_in core.quotes customer))
+        × IfSome core.table (λ table. table.network ≡ ledger.network) };
 }
 
 impl<K: Books + Drop> Core<K> {
@@ -59,6 +63,22 @@ impl<K: Books + Drop> Core<K> {
         Core {
             books,
             quotes: QuotesByCustomer::new(alloc),
+            table: None,
+        }
+    }
+
+    /// As `new`, with a table of the rows of the books' network, by which it plans.
+    pub fn with_rows(alloc: Global, books: K, table: RowTable) -> Core<K>
+        requires { table.network ≡ (K.ledger books).network }
+        ensures books { result.books ≡ books }
+        ensures fits { (epoch : ℕ) (history : List Entry)
+            → HasBookOf epoch history (K.ledger books)
+            → FitsHistory K.Books result epoch history nothing_held }
+    {
+        Core {
+            books,
+            quotes: QuotesByCustomer::new(alloc),
+            table: Some(table),
         }
     }
 
@@ -127,7 +147,15 @@ impl<K: Books + Drop> Provider for Core<K> {
         asked: Admission,
         rows: &mut R,
     ) -> Reply {
-        let (reply, _entered) = admit_now(alloc, &mut self.books, customer, asked, rows);
+        let table = self.table.as_ref();
+        let (reply, _entered) = admit_with_rows(
+            alloc,
+            &mut self.books,
+            customer,
+            asked,
+            table,
+            rows,
+        );
         reply
     }
 
@@ -142,7 +170,7 @@ impl<K: Books + Drop> Provider for Core<K> {
             let at = self.books.book().epoch();
             return Reply::TooMany { at };
         };
-        match plan_now(alloc, &self.books, hose, rows) {
+        match plan_now(alloc, &self.books, hose, self.table.as_ref(), rows) {
             Err(reply) => reply,
             Ok(quote) => self.hold(alloc, customer, number, quote),
         }

@@ -70,9 +70,8 @@ impl<L: Door + Send, N: DoorStart + Send + Sync> Crew<L, N> {
     }
 
     /// Serves the connections of a door that is open, each in a session along a part of the pass,
-    /// until there are as many as the crew is for, or no more will come, or accepting fails. All of
-    /// them plan with the rows of one table. They are given back to the door, and the pass comes
-    /// back whole.
+    /// until there are as many as the crew is for, or no more will come, or accepting fails. They
+    /// are given back to the door, and the pass comes back whole.
     pub fn serve<R: Threads + Wait + Sync, D: Disk + Send, B: Begun<D> + Send, G: Gate + Sync>(
         self,
         work: Work<'_, R, D, B, G>,
@@ -205,7 +204,6 @@ fn serve_at_once<
     let Work {
         context: Context { rt, alloc, gate },
         shared,
-        table,
     } = *work;
     let serve = |_: usize, hand: &mut Hand<L, N>|
         requires { MayServe shared.now first.now.value
@@ -214,7 +212,6 @@ fn serve_at_once<
         let work = Work {
             context: Context { rt, alloc, gate },
             shared,
-            table,
         };
         let mut locked = LockedDesk { rt, desk: &desk };
         hand.work(&work, first, &mut locked)

@@ -11,7 +11,7 @@ ghost use Rattle.hose_crew.specs.steps.Hands.{AllComeBack, AllMayComeBack, AreBa
 use crate::desk::{Accept, Accepted, DoorStart};
 use hose_disk::Disk;
 use hose_io::Door;
-use hose_paths::{RowMaker, RowTable, TableRows};
+use hose_paths::{RowMaker, RowsInAdvance};
 use hose_pool::Gate;
 use hose_session::{Session, serve_session};
 use hose_shared::{Begun, Context, Shared};
@@ -22,13 +22,11 @@ use std::snapshot::Snapshot;
 use std::sync::Wait;
 use std::sync::ledger::{Book as Tally, Share};
 
-/// What all workers of a crew are given: its context, the book that they share, and the rows that
-/// all sessions plan with.
+/// What all workers of a crew are given: its context, and the book that they share.
 #[derive(Drop)]
 pub struct Work<'a, W, D: Disk, B: Begun<D>, G> {
     pub context: Context<'a, W, G>,
     pub shared: &'a Shared<D, B>,
-    pub table: &'a RowTable,
 }
 
 /// A worker's place: its pass, and its share of what was accepted.
@@ -140,7 +138,7 @@ fn serve_one_by_one<W: Wait, D: Disk, B: Begun<D>, G: Gate, L: Door, N: DoorStar
 {
     // The first pass is there for the clauses alone.
     let _ = first;
-    let mut rows = TableRows::new(work.table);
+    let mut rows = RowsInAdvance::new();
     let Place {
         mut pass,
         mut share,

@@ -4,7 +4,7 @@
 //! ```
 //! let crew = Crew::<_, N>::new(alloc, 4, 200)?;       // four workers, for 200 connections
 //! let context = Context { rt, alloc, gate: &PlainGate };
-//! let work = Work { context, shared: &shared, table: &table };
+//! let work = Work { context, shared: &shared };
 //! let CrewEnd { accepting, pass, door } = crew.serve(work, pass, door, Blank::new(4));
 //! ```
 #![tactic(auto)]

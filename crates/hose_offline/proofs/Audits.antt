@@ -27,7 +27,7 @@ use Rattle.hose_topo.specs.declared.fault.TopoFault.{TopoFault}
 use Rattle.hose_topo.specs.declared.fault.TopoFault.TheVariants as topo
 use Rattle.hose_offline.specs.Auditing.{IsLongAt, IsStarvedAt, IsTextFault, TextComesTo, ReadsText}
 use Rattle.hose_offline.specs.CabinetText.{OnlyTextsRead, stream_at, text_stream, whole_text}
-use Rattle.hose_offline.specs.steps.CabinetText.{HasAsked, TextState, reading_frame, text_at, text_source}
+use Rattle.hose_offline.specs.steps.CabinetText.{HasAsked, TextState, reading_frame, text_left, text_source}
 use Rattle.hose_offline.specs.steps.Fault.{of_topology}
 use Rattle.hose_offline.specs.OnDisk.{CabinetFailed, CabinetWorked, HadContent, IsRefusedOnDisk, IsUnopened}
 use Rattle.hose_offline.specs.steps.JsonRead.{IsJsonOf}
@@ -157,7 +157,7 @@ module _ {C E : Type 0} (cabinet : CabinetGhosts C E) (old new : C) (name : List
     (value : text.cabinet.now ≡ old) (named : text.name ≡ name) (from : text.from ≡ 0) (behind : last.source.cabinet.now ≡ new) (there : IsTrue (cabinet.frame old).tells → IsSome (cabinet.text old name))
     (reads : ReadsOn (text_source cabinet) first last) (within : first.taken ≤ INPUT_LIMIT + 1 → last.taken ≤ INPUT_LIMIT + 1) where
   abbrev told : (List ℕ → List ℕ → Type 0) → Type 0
-  told P = WhereTold (text_at cabinet first.source) (text_at cabinet last.source) P
+  told P = WhereTold (text_left cabinet first.source) (text_left cabinet last.source) P
 
   begun : first.source ≡ text
   begun = ap (λ (r : Reader (TextState C)). r.source) made

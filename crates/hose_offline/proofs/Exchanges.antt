@@ -34,7 +34,7 @@ use Rattle.hose_book.specs.declared.books.Books.{Ghosts as BooksGhosts}
 use Rattle.hose_core.specs.steps.Holding.{State}
 use Rattle.hose_core.specs.steps.Stepping.{FitsHistory, Goes, committed_for, committed_of, history_with}
 use Rattle.hose_offline.specs.Talking.{IsAskedBy, Says, TellsDisks}
-use Rattle.hose_offline.specs.steps.Talking.{AnswersLine, HasAnswered, SaysRead}
+use Rattle.hose_offline.specs.steps.Talking.{AnswersLine, HasAnsweredLines, SaysRead}
 
 -- what a reader shows of a line says what the line says
 pub says_shown : (network : Network) (shown : Line) (bytes : List ℕ) (said : ReadLine) → Shows shown bytes → SaysRead network shown said → Says network bytes said
@@ -154,7 +154,7 @@ asked_last lines replies customer command reply network history next held after 
   step = step;
 }
 
-module _ {K R : Type 0} (books : BooksGhosts K R) (since : List Entry) (first old new : State K) (lines : List ReadLine) (replies : List Reply) (was : HasAnswered books since first old lines replies) where
+module _ {K R : Type 0} (books : BooksGhosts K R) (since : List Entry) (first old new : State K) (lines : List ReadLine) (replies : List Reply) (was : HasAnsweredLines books since first old lines replies) where
   abbrev network : Network
   network = (books.ledger first.books).network
 
@@ -166,7 +166,7 @@ module _ {K R : Type 0} (books : BooksGhosts K R) (since : List Entry) (first ol
   longer line reply = goes_weaker books (IsAskedBy lines replies) (Asked line reply) network since first.books (asked_more lines replies line reply network) was.answered.goes_on
 
   -- a command was answered by a step
-  command_more : (customer : List ℕ) (command : Command) (reply : Reply) → AnswersLine books old new (Asks customer command) reply → HasAnswered books since first new (lines ++ Asks customer command ∷ []) (replies ++ reply ∷ [])
+  command_more : (customer : List ℕ) (command : Command) (reply : Reply) → AnswersLine books old new (Asks customer command) reply → HasAnsweredLines books since first new (lines ++ Asks customer command ∷ []) (replies ++ reply ∷ [])
   command_more customer command reply answers =
       let history = was.answered.history in
       let left = was.answered.left in
@@ -209,8 +209,8 @@ module _ {K R : Type 0} (books : BooksGhosts K R) (since : List Entry) (first ol
 
   -- any other line changed nothing
   fixed_more : (said : ReadLine) (reply : Reply) → IsFixedReply said reply → one_if_disk reply ≡ 0 → new ≡ old
-      → HasAnswered books since first new (lines ++ said ∷ []) (replies ++ reply ∷ [])
-  fixed_more said reply fixed no_disk same = subst (λ (s : State K). HasAnswered books since first s (lines ++ said ∷ []) (replies ++ reply ∷ [])) (sym same) (record {
+      → HasAnsweredLines books since first new (lines ++ said ∷ []) (replies ++ reply ∷ [])
+  fixed_more said reply fixed no_disk same = subst (λ (s : State K). HasAnsweredLines books since first s (lines ++ said ∷ []) (replies ++ reply ∷ [])) (sym same) (record {
     answered = record {
       history = was.answered.history;
       left = was.answered.left;
@@ -226,14 +226,14 @@ module _ {K R : Type 0} (books : BooksGhosts K R) (since : List Entry) (first ol
   })
 
   -- one line more is answered
-  pub answered_more : (said : ReadLine) (reply : Reply) → AnswersLine books old new said reply → HasAnswered books since first new (lines ++ said ∷ []) (replies ++ reply ∷ [])
+  pub answered_more : (said : ReadLine) (reply : Reply) → AnswersLine books old new said reply → HasAnsweredLines books since first new (lines ++ said ∷ []) (replies ++ reply ∷ [])
   answered_more (Asks customer command) reply answers = command_more customer command reply answers
   answered_more (IsBad word) reply answers = fixed_more (IsBad word) reply answers.0 (ap one_if_disk answers.0) answers.1
   answered_more IsLong reply answers = fixed_more IsLong reply answers.0 (ap one_if_disk answers.0) answers.1
   answered_more Unread reply answers = fixed_more Unread reply answers.0 (ap one_if_disk answers.0) answers.1
 
 -- nothing is answered yet
-pub answered_none : {K R : Type 0} (books : BooksGhosts K R) (since : List Entry) (core : State K) → IsSound (books.ledger core.books).network 0 since → FitsHistory books core 0 since nothing_held → HasAnswered books since core core [] []
+pub answered_none : {K R : Type 0} (books : BooksGhosts K R) (since : List Entry) (core : State K) → IsSound (books.ledger core.books).network 0 since → FitsHistory books core 0 since nothing_held → HasAnsweredLines books since core core [] []
 answered_none books since core sound fits = record {
   answered = record {
     history = since;

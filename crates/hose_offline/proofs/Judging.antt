@@ -7,7 +7,7 @@ use Rattle.hose_words.specs.Reading.{WhereTold}
 use Rattle.hose_words.specs.declared.lines.LineFault.{LineFault}
 use Rattle.hose_words.specs.declared.lines.LineFault.TheVariants as line
 use Rattle.hose_words.proofs.OnReading.{WhereTold-both, WhereTold-map}
-use Rattle.hose_cert.specs.steps.Taking.{IsAllRead, KeepsLineFault, fault_in}
+use Rattle.hose_cert.specs.steps.Taking.{IsAllRead, KeepsReadingFault, fault_in}
 use Rattle.hose_cert.specs.Verdict.{IsVerdict}
 use Rattle.hose_cert.specs.declared.fault.CertFault.{CertFault}
 use Rattle.hose_cert.specs.declared.fault.CertFault.TheVariants as certificate
@@ -33,7 +33,7 @@ found_told source old new network (Ok verdict) pending found all =
     (λ was left both. (nil_from_length left (omega (arith, ap length both.1, length-append new.pending left)), subst (λ (front : List ℕ). IsVerdict network (front ++ was) verdict) pending both.0))
 
 -- no call of the source failed where none is told to have
-pub read_not : (old new : Option LineFault) (result : Result Verdict CertFault) → old ≡ None → KeepsLineFault old new (fault_in result) → (result ≡ Err certificate.Read → ⊥) → new ≡ Some line.Read → ⊥
+pub read_not : (old new : Option LineFault) (result : Result Verdict CertFault) → old ≡ None → KeepsReadingFault old new (fault_in result) → (result ≡ Err certificate.Read → ⊥) → new ≡ Some line.Read → ⊥
 read_not old new (Ok verdict) none kept never read = cc (none, kept, read)
 read_not old new (Err certificate.Read) none kept never read = never refl
 read_not old new (Err certificate.TooLong) none kept never read = cc (kept, read)

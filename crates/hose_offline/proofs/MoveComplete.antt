@@ -31,7 +31,7 @@ use Rattle.hose_offline.specs.Ending.{IsOut, OutputWorked}
 use Rattle.hose_offline.specs.Fault.{status_of}
 use Rattle.hose_offline.specs.MoveEnd.{EndsMoved, moved_done, stop_status}
 use Rattle.hose_offline.specs.MoveOutcome.{CanTake, EachNamed, FitsMoved, IsHeldTold, IsMovable}
-use Rattle.hose_offline.specs.Moving.{Enters, IsComplete, IsLent, LendsDisk, LendsOld, MoveNames, MovesFrom, read_done, to_move, to_read}
+use Rattle.hose_offline.specs.Moving.{EntersStated, IsComplete, IsLent, LendsDisk, LendsOld, MoveNames, MovesFrom, read_done, to_move, to_read}
 use Rattle.hose_offline.specs.OnDisk.{CabinetFailed}
 use Rattle.hose_offline.specs.Parts.{Parts, Tellings}
 use Rattle.hose_offline.specs.Run.{IsFor, IsServable}
@@ -237,7 +237,7 @@ module _ {I O C E : Type 0} (tells : Tellings I O C E) (names : MoveNames) (befo
         to_new Is told = lent_later tells.cabinet tells.disk names.journals.old c3 c4 _ lent names.journals.new Is movable.apart (after_texts tells.cabinet tells.disk names.journals.new c2 c3 Is looked
             (after_texts tells.cabinet tells.disk names.journals.new c1 c2 Is reads'.only_texts (after_texts tells.cabinet tells.disk names.journals.new before.cabinet c1 Is reads.only_texts told)))
 
-        entered : (result : Result Moved MoveStop) → Enters tells names.journals.new (record before { cabinet = c4 }) after new stated result → Ends Worked result
+        entered : (result : Result Moved MoveStop) → EntersStated tells names.journals.new (record before { cabinet = c4 }) after new stated result → Ends Worked result
         entered result (inl (is, rose, part, held)) = absurd (not_put rose)
         entered result (inr (out, worked, moves)) = new_ends tells.cabinet tells.disk names.journals.new before.cabinet c4 after.cabinet new stated.entries.items Worked worked stays_4 none
             (subst (IsSound new 0) (sym was.1) was.2.0)

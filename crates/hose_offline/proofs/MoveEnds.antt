@@ -14,7 +14,7 @@ use Rattle.hose_store.specs.declared.fault.StoreFault.TheVariants as store
 use Rattle.hose_offline.specs.Fault.{of_store, status_of}
 use Rattle.hose_offline.specs.MoveEnd.{EndsMoved, moved_done, stop_status}
 use Rattle.hose_offline.specs.MoveOutcome.{MoveOutcome}
-use Rattle.hose_offline.specs.Moving.{Enters, LendsDisk, LendsOld, MoveNames, MovedJournals, MovesFrom, MovesNamed, MovesOn, MovesStated, read_done, to_move, to_read}
+use Rattle.hose_offline.specs.Moving.{EntersStated, LendsDisk, LendsOld, MoveNames, MovedJournals, MovesFrom, MovesNamed, MovesBetween, MovesStated, read_done, to_move, to_read}
 use Rattle.hose_offline.specs.Parts.{Parts, Tellings}
 use Rattle.hose_offline.specs.declared.fault.Fault.{Fault}
 use Rattle.hose_offline.specs.declared.move_end.MoveStop.{MoveStop}
@@ -63,7 +63,7 @@ module _ {C E : Type 0} (cabinet : CabinetGhosts C E) (disk : DiskGhosts E) wher
   new_not_1 name old new network entries result (inr (moved, same, lent)) one = moved_not_1 (length entries) moved (sym (ap done_status same) ∙ one)
 
 module _ {I O C E : Type 0} (tells : Tellings I O C E) where
-  enters_not_1 : (name : List ℕ) (before after : Parts I O C) (network : Network) (stated : Stated) (result : Result Moved MoveStop) → Enters tells name before after network stated result → done_status result ≡ 1 → ⊥
+  enters_not_1 : (name : List ℕ) (before after : Parts I O C) (network : Network) (stated : Stated) (result : Result Moved MoveStop) → EntersStated tells name before after network stated result → done_status result ≡ 1 → ⊥
   enters_not_1 name before after network stated result (inl (same, rose, part, cabinet)) one = omega (arith, sym (ap done_status same) ∙ one)
   enters_not_1 name before after network stated result (inr (out, worked, moves)) one = new_not_1 tells.cabinet tells.disk name before.cabinet after.cabinet network stated.entries.items result moves one
 
@@ -71,7 +71,7 @@ module _ {I O C E : Type 0} (tells : Tellings I O C E) where
   stated_not_1 journals before after old new result (inl (why, same, reads, out)) one = old_not_1 tells.cabinet tells.disk journals.old journals.scope before.cabinet after.cabinet old (Err why) reads (sym (ap done_status same) ∙ one)
   stated_not_1 journals before after old new result (inr (stated, read, reads, enters)) one = enters_not_1 journals.new (record before { cabinet = read }) after new stated result enters one
 
-  on_not_1 : (journals : MovedJournals) (before after : Parts I O C) (old new : Network) (result : Result Moved MoveStop) → MovesOn tells journals before after old new result → done_status result ≡ 1 → ⊥
+  on_not_1 : (journals : MovedJournals) (before after : Parts I O C) (old new : Network) (result : Result Moved MoveStop) → MovesBetween tells journals before after old new result → done_status result ≡ 1 → ⊥
   on_not_1 journals before after old new result (inl (change, same, first, out, cabinet)) one = omega (arith, sym (ap done_status same) ∙ one)
   on_not_1 journals before after old new result (inr (goes_on, moves)) one = stated_not_1 journals before after old new result moves one
 

@@ -27,7 +27,7 @@ use Rattle.hose_offline.specs.CabinetText.{OnlyTextsRead}
 use Rattle.hose_offline.specs.Fault.{status_of}
 use Rattle.hose_offline.specs.MoveEnd.{EndsMoved, moved_done, stop_status}
 use Rattle.hose_offline.specs.MoveOutcome.{IsMoved, IsOnlyRead}
-use Rattle.hose_offline.specs.Moving.{Enters, IsComplete, IsLent, IsLookedFor, MoveNames, MovesNamed, read_done}
+use Rattle.hose_offline.specs.Moving.{EntersStated, IsComplete, IsLent, IsLookedFor, MoveNames, MovesNamed, read_done}
 use Rattle.hose_offline.specs.OnDisk.{HadContent}
 use Rattle.hose_offline.specs.Parts.{Parts, Tellings}
 use Rattle.hose_offline.specs.TopologyTold.{TellsPriced, notation_of}
@@ -232,7 +232,7 @@ module _ {I O C E : Type 0} (tells : Tellings I O C E) (names : MoveNames) (befo
     not_lent : (one other : C) → tells.cabinet.held other ≡ tells.cabinet.held one → (tells.cabinet.frame other).tells ≡ (tells.cabinet.frame one).tells → Same one other
     not_lent one other held told = record { held = ap (λ (h : List ℕ → Option E). h names.journals.old) held; tells = told }
 
-    later : (c4 : C) (new : Network) (stated : Stated) (done : Result Moved MoveStop) → Enters tells names.journals.new (record before { cabinet = c4 }) after new stated done → Same c4 after.cabinet
+    later : (c4 : C) (new : Network) (stated : Stated) (done : Result Moved MoveStop) → EntersStated tells names.journals.new (record before { cabinet = c4 }) after new stated done → Same c4 after.cabinet
     later c4 new stated done (inl (same', rose, part, held)) = same_none tells.cabinet tells.disk names.journals.old c4 after.cabinet held
     later c4 new stated done (inr (out, worked, inl (same', none))) = not_lent c4 after.cabinet none.same none.tells
     later c4 new stated done (inr (out, worked, inr (moved, same', lent'))) = other c4 after.cabinet _ lent'

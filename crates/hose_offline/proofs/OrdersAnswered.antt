@@ -22,7 +22,7 @@ use Rattle.hose_gen.specs.Generated.{Order}
 use Rattle.hose_offline.specs.GenOutcome.{IsSummary, network_of_sizes, script_of_sizes, summary_of_replies}
 use Rattle.hose_offline.specs.Generating.{IsScriptOf, asked}
 use Rattle.hose_offline.specs.steps.Generating.{HaveBeenAnswered, IsTallyOf}
-use Rattle.hose_offline.specs.steps.Talking.{AnswersLine, HasAnswered, plain_books}
+use Rattle.hose_offline.specs.steps.Talking.{AnswersLine, HasAnsweredLines, plain_books}
 use Rattle.hose_offline.specs.Tally.{admitted_cost, one_if_admitted, one_if_refused, one_if_released, tally_line, tally_of}
 use Rattle.hose_offline.specs.steps.Tally.{IsOfUpTo, with_reply}
 use Rattle.hose_offline.specs.declared.generating.Sizes.{Sizes}
@@ -60,10 +60,10 @@ module _ {K R : Type 0} (books : BooksGhosts K R) (first : State K) where
   pub answered_next : (old new : State K) (orders : List Order) (order : Order) (reply : Reply) (tally : Tally) → HaveBeenAnswered books first old orders tally
       → AnswersLine books old new (Asks order.0 order.1) reply → (¬ IsForMemory reply) → HaveBeenAnswered books first new (orders ++ order ∷ []) (with_reply tally reply)
   answered_next old new orders order reply tally was answers some =
-      let before : HasAnswered books [] first old (asked orders) was.replies = record { answered = was.answered; fits = was.fits; network = was.network } in
+      let before : HasAnsweredLines books [] first old (asked orders) was.replies = record { answered = was.answered; fits = was.fits; network = was.network } in
       let line : ReadLine = Asks order.0 order.1 in
       let longer : asked (orders ++ order ∷ []) ≡ asked orders ++ line ∷ [] = map-append (λ (o : Order). Asks o.0 o.1) orders (order ∷ []) in
-      let more = subst (λ (lines : List ReadLine). HasAnswered books [] first new lines (was.replies ++ reply ∷ [])) (sym longer)
+      let more = subst (λ (lines : List ReadLine). HasAnsweredLines books [] first new lines (was.replies ++ reply ∷ [])) (sym longer)
       (answered_more books [] first old new (asked orders) was.replies before line reply answers) in
       record {
         replies = was.replies ++ reply ∷ [];

@@ -147,9 +147,9 @@ module _ {E : Type 0} (disk : DiskGhosts E) (network : Network) where
 module _ {I O C E : Type 0} (tells : Tellings I O C E) where
   -- The numbers are out, and then the entries were moved into the journal of a name; or the output
   -- failed, a part of the numbers is out, and nothing was done to the cabinet.
-  abbrev pub Enters : List ℕ → Parts I O C → Parts I O C → Network → Stated
+  abbrev pub EntersStated : List ℕ → Parts I O C → Parts I O C → Network → Stated
       → Result Moved MoveStop → Type 0
-  Enters name before after network stated result = ((result ≡ Err (Old Write))
+  EntersStated name before after network stated result = ((result ≡ Err (Old Write))
       × Rose (tells.sink.frame before.output) (tells.sink.frame after.output)
       × GrowsInPart (tells.sink.content before.output) (tells.sink.content after.output)
       (number_lines stated.numbers.items) × (after.cabinet ≡ before.cabinet))
@@ -169,13 +169,13 @@ module _ {I O C E : Type 0} (tells : Tellings I O C E) where
       ⊎ ((stated : Stated) × (read : C)
       × LendsOld tells.cabinet tells.disk journals.old before.cabinet read
       (to_read tells.disk old journals.scope) (Ok stated)
-      × Enters journals.new (record before { cabinet = read }) after new stated result)
+      × EntersStated journals.new (record before { cabinet = read }) after new stated result)
 
   -- The new network goes on from the old one, and the journal was moved; or it does not, the first
   -- change is told, and nothing else was done.
-  abbrev pub MovesOn : MovedJournals → Parts I O C → Parts I O C → Network → Network
+  abbrev pub MovesBetween : MovedJournals → Parts I O C → Parts I O C → Network → Network
       → Result Moved MoveStop → Type 0
-  MovesOn journals before after old new result = ((change : Change)
+  MovesBetween journals before after old new result = ((change : Change)
       × (result ≡ Err (Changed change)) × IsFirstChange old new (Some change)
       × (after.output ≡ before.output) × (after.cabinet ≡ before.cabinet))
       ⊎ (GoesOnFrom old new × MovesStated journals before after old new result)
@@ -189,7 +189,7 @@ module _ {I O C E : Type 0} (tells : Tellings I O C E) where
       (Err why) × (after.output ≡ before.output))
       ⊎ ((new : Network) × (read : C)
       × ReadsTopology tells.cabinet before.cabinet read names.prices names.new_topology (Ok new)
-      × MovesOn names.journals (record before { cabinet = read }) after old new result)
+      × MovesBetween names.journals (record before { cabinet = read }) after old new result)
 
   -- The old topology was read, and its journal was moved; or it was not read, and nothing is out.
   abbrev pub MovesNamed : MoveNames → Parts I O C → Parts I O C → Result Moved MoveStop → Type 0

@@ -38,7 +38,7 @@ use hose_core::Core;
 use hose_disk::{Cabinet, Disk};
 use hose_graph::{Reply, Topology};
 use hose_io::{Failed, Sink, Source};
-use hose_paths::{RowMaker, RowTable, TableRows};
+use hose_paths::{RowMaker, RowTable, RowsInAdvance};
 use hose_proto::{ReadFault, put_reply};
 use hose_store::{Decided, Store};
 use hose_talk::{Answers, converse};
@@ -163,8 +163,8 @@ fn answer_in_memory<S: Source, O: Sink>(
     let table = RowTable::of_all(alloc, book.topology())?;
     let mut clerk = Clerk {
         alloc,
-        core: Core::new(alloc, Plain { book }),
-        rows: TableRows::new(&table),
+        core: Core::with_rows(alloc, Plain { book }, table),
+        rows: RowsInAdvance::new(),
     };
     answer_all(&mut clerk, lines, output)
 }
@@ -202,17 +202,18 @@ fn answer_by_journal<S: Source, O: Sink, C: Cabinet>(
     };
     let mut clerk = Clerk {
         alloc,
-        core: core_over(alloc, store),
-        rows: TableRows::new(&table),
+        core: core_over(alloc, store, table),
+        rows: RowsInAdvance::new(),
     };
     let answered = answer_all(&mut clerk, lines, output);
     let closed = close_journal(clerk.core.into_books(), cabinet);
     first_fault(answered, closed.0)
 }
 
-// A core over a store. Where the store was just opened, its disk is left, after commits of entries
-// that lines ask for, as closing says.
-fn core_over<D: Disk>(alloc: Global, store: Store<D>) -> Core<Store<D>>
+// A core over a store, which plans by the rows of its network. Where the store was just opened, its
+// disk is left, after commits of entries that lines ask for, as closing says.
+fn core_over<D: Disk>(alloc: Global, store: Store<D>, table: RowTable) -> Core<Store<D>>
+    requires { table.network ≡ store.ledger.network }
     ensures books { result.books ≡ store }
     ensures fits { (history : List Entry) → HasBookOf 0 history store.ledger
         → FitsHistory (store_books D.Disk) result 0 history nothing_held }
@@ -224,7 +225,7 @@ fn core_over<D: Disk>(alloc: Global, store: Store<D>) -> Core<Store<D>>
         → HasLeft D.Disk (IsAskedBy lines replies) (D.may_leave old)
         (opening_of D.Disk network opens.opened.history old) history left closing }
 {
-    Core::new(alloc, store)
+    Core::with_rows(alloc, store, table)
 }
 
 // Who answers the lines of a script: where memory is taken, a core of books, and what makes rows.
@@ -244,7 +245,7 @@ impl<K: Books + Drop, R: RowMaker> Answers for Clerk<K, R> {
     ghost use Rattle.hose_graph.specs.declared.entry.Entry.{Entry};
     ghost use Rattle.hose_law.specs.Script.{ReadLine};
     ghost use Rattle.hose_proto.specs.ReplyText.{line_of, reply_text};
-    ghost use Rattle.hose_offline.specs.steps.Talking.{HasAnswered, SaysAlone};
+    ghost use Rattle.hose_offline.specs.steps.Talking.{HasAnsweredLines, SaysAlone};
 
     ghost said = { ReadLine };
 
@@ -260,7 +261,7 @@ impl<K: Books + Drop, R: RowMaker> Answers for Clerk<K, R> {
     ghost origin = { List Entry × Self };
 
     ghost comes = { λ from lines replies clerk.
-        HasAnswered K.Books from.0 from.1.core clerk.core lines replies };
+        HasAnsweredLines K.Books from.0 from.1.core clerk.core lines replies };
 
     ghost fits = { λ _. ⊤ };
 

@@ -64,11 +64,11 @@ impl<'a, C: Cabinet> CabinetText<'a, C> {
 }
 
 impl<'a, C: Cabinet> Source for CabinetText<'a, C> {
-    ghost use Rattle.hose_offline.specs.steps.CabinetText.{HasAsked, reading_frame, text_at};
+    ghost use Rattle.hose_offline.specs.steps.CabinetText.{HasAsked, reading_frame, text_left};
 
     ghost frame = { λ text. reading_frame C.Cabinet text };
 
-    ghost content = { λ text. text_at C.Cabinet text };
+    ghost content = { λ text. text_left C.Cabinet text };
 
     ghost went = { λ old new. HasAsked C.Cabinet old new };
 

@@ -24,7 +24,7 @@ use hose_disk::Cabinet;
 use hose_gen::{Generated, generate};
 use hose_graph::{Command, Name, Reply};
 use hose_io::{Sink, Source};
-use hose_paths::{RowMaker, RowTable, TableRows};
+use hose_paths::{RowMaker, RowTable, RowsInAdvance};
 use std::alloc::Global;
 
 /// What a network and a script are made of: a seed, and how many nodes, links and hoses there are.
@@ -77,8 +77,8 @@ fn tally_in_memory(alloc: Global, made: Generated) -> Result<Tally, Fault>
     let Generated { top, script } = made;
     let book = Book::new(alloc, top)?;
     let table = RowTable::of_all(alloc, book.topology())?;
-    let mut core = Core::new(alloc, Plain { book });
-    tally_orders(alloc, &mut core, script, &mut TableRows::new(&table))
+    let mut core = Core::with_rows(alloc, Plain { book }, table);
+    tally_orders(alloc, &mut core, script, &mut RowsInAdvance::new())
 }
 
 // The tally of orders that a book in memory answers, which has no entry yet.

@@ -3,7 +3,7 @@ ghost use Rattle.std.specs.Prelude.{◌≡◌, ◌≢◌, All, IfOk, None};
 ghost use Rattle.hose_graph.specs.steps.Ranges.{IsInRanges};
 ghost use Rattle.hose_offline.specs.steps.Journal.{IsBack};
 ghost use Rattle.hose_offline.specs.MoveOutcome.{MoveOutcome};
-ghost use Rattle.hose_offline.specs.Moving.{Enters, LendsDisk, LendsOld, MovesFrom, MovesOn, MovesStated, read_done, scope_of, to_move, to_read};
+ghost use Rattle.hose_offline.specs.Moving.{EntersStated, LendsDisk, LendsOld, MovesFrom, MovesBetween, MovesStated, read_done, scope_of, to_move, to_read};
 ghost use Rattle.hose_offline.specs.steps.Moving.{journals_of, names_of};
 ghost use Rattle.hose_offline.specs.Parts.{tellings};
 ghost use Rattle.hose_offline.specs.steps.Parts.{KeepsAll, held};
@@ -87,7 +87,7 @@ fn move_on<I: Source, O: Sink, C: Cabinet>(
     outside: &mut Outside<'_, I, O, C>,
 ) -> Result<Moved, MoveStop>
     requires { (C.frame (held outside.old).cabinet).out ≡ None }
-    ensures moves { MovesOn (tellings I.Source O.Sink C.Cabinet C.Disk.Disk)
+    ensures moves { MovesBetween (tellings I.Source O.Sink C.Cabinet C.Disk.Disk)
         (journals_of of.entry) (held outside.old) (held outside.new) old.now new.now result }
     ensures input { (held outside.new).input ≡ (held outside.old).input }
     ensures back { (C.frame (held outside.new).cabinet).out ≡ None }
@@ -133,7 +133,7 @@ fn enter<I: Source, O: Sink, C: Cabinet>(
 ) -> Result<Moved, MoveStop>
     requires none_out { (C.frame (held outside.old).cabinet).out ≡ None }
     requires ranges { All IsInRanges stated.now.entries.items }
-    ensures enters { Enters (tellings I.Source O.Sink C.Cabinet C.Disk.Disk) name.now
+    ensures enters { EntersStated (tellings I.Source O.Sink C.Cabinet C.Disk.Disk) name.now
         (held outside.old) (held outside.new) new.now stated.now result }
     ensures input { (held outside.new).input ≡ (held outside.old).input }
     ensures back { (C.frame (held outside.new).cabinet).out ≡ None }

@@ -1,22 +1,21 @@
 // The maker of rows by a heap: what fell waits in a queue, the nearest first, until its links are
 // followed.
-ghost use Rattle.std.specs.Prelude.{◌≡◌, ◌≢◌, ◌⊎◌, ℕ, ◌+◌, ◌*◌, ◌/◌, ◌%◌, ◌^◌, ◌<◌, ◌≤◌, ◌↔◌, None, Some, IfOk, IsTrue, OnOk, length, slice_get};
+ghost use Rattle.std.specs.Prelude.{◌≡◌, ◌≢◌, ◌⊎◌, ℕ, ◌+◌, ◌*◌, ◌/◌, ◌%◌, ◌^◌, ◌<◌, ◌≤◌, ◌↔◌, None, Some, IfOk, IsTrue, OnOk, length};
 ghost use Rattle.std.specs.BinaryHeap.{heap_items, heap_len};
 ghost use Rattle.hose_graph.specs.Network.{IsNetwork};
 ghost use Rattle.hose_graph.specs.steps.Row.{HasBoundedDistances};
 ghost use Rattle.hose_law.specs.Row.{IsRow};
 ghost use Rattle.hose_paths.specs.steps.Rows.{HasDistances};
-ghost use Rattle.hose_law.specs.Walk.{Joins};
 ghost use Rattle.hose_paths.specs.steps.Table.{entry, IsFound, IsBounded, CannotLower, IsSettled, Lowers, left_to_fall};
-ghost use Rattle.hose_paths.specs.steps.Chain.{AreChains, Meets};
+ghost use Rattle.hose_paths.specs.steps.Chain.{AreChainsOver};
 ghost use Rattle.hose_paths.specs.steps.Queue.{IsQueued, IsSettledBut, Relaxes, key_of};
 
 use crate::MadeRow;
 use crate::chains::Chains;
-use crate::entries::lower;
+use crate::entries::lower_from;
 use crate::settling::{RowsBy, Settling, settled, start};
 use crate::tight::with_tight_links;
-use hose_graph::{Link, Topology};
+use hose_graph::Topology;
 use hose_links::LinkSet;
 use std::alloc::{AllocError, Global};
 use std::cmp::Reverse;
@@ -53,8 +52,7 @@ pub fn distances_along(
 ) -> MadeRow
     requires places { length links.now ≡ length top.now.links }
     requires is_node { root < length top.now.nodes }
-    requires chains { AreChains top.now links.now (length top.now.links)
-        chains.now.last.items chains.now.from_a.items chains.now.from_b.items }
+    requires chains { AreChainsOver top.now links.now chains.now }
     ensures distances { IfOk result (HasDistances top.now links.now root) }
     ensures bounded { IfOk result HasBoundedDistances }
 {
@@ -73,8 +71,7 @@ pub fn row_along(
 ) -> MadeRow
     requires places { length links.now ≡ length top.now.links }
     requires is_node { root < length top.now.nodes }
-    requires chains { AreChains top.now links.now (length top.now.links)
-        chains.now.last.items chains.now.from_a.items chains.now.from_b.items }
+    requires chains { AreChainsOver top.now links.now chains.now }
     ensures row { IfOk result (IsRow top.now links.now root) }
     ensures bounded { IfOk result HasBoundedDistances }
 {
@@ -94,8 +91,7 @@ fn settle_along(
     requires network { IsNetwork top.now }
     requires places { length dist.old ≡ length top.now.nodes }
     requires links { length links.now ≡ length top.now.links }
-    requires chains { AreChains top.now links.now (length top.now.links)
-        chains.now.last.items chains.now.from_a.items chains.now.from_b.items }
+    requires chains { AreChainsOver top.now links.now chains.now }
     requires bounded { IsBounded dist.old }
     requires root { entry dist.old root ≡ Some 0 }
     requires alone { (v : ℕ) → v ≢ root → entry dist.old v ≡ None }
@@ -108,8 +104,9 @@ fn settle_along(
     queue.push(Reverse(key(0, root)))?;
     while let Some(Reverse(lowest)) = queue.pop() {
         let node = node_in(lowest);
-        if stands(dist, node, distance_in(lowest)) {
-            follow_all(top, links, chains, dist, &mut queue, node)?;
+        let near = distance_in(lowest);
+        if stands(dist, node, near) {
+            follow_all(top, links, chains, dist, &mut queue, node, near)?;
         }
     }
     Ok(())
@@ -151,7 +148,7 @@ fn stands(dist: &[Option<u64>], node: u32, distance: u64) -> bool
     dist.get(node as usize) == Some(&Some(distance))
 }
 
-// Follows each link of the set that meets the node.
+// Follows each link of the set that meets the node, of which this is the entry.
 fn follow_all(
     top: &Topology,
     links: &LinkSet,
@@ -159,14 +156,15 @@ fn follow_all(
     dist: &mut [Option<u64>],
     queue: &mut Queue,
     node: u32,
+    near: u64,
 ) -> Result<(), AllocError>
     requires network { IsNetwork top.now }
     requires places { length dist.old ≡ length top.now.nodes }
     requires links { length links.now ≡ length top.now.links }
-    requires chains { AreChains top.now links.now (length top.now.links)
-        chains.now.last.items chains.now.from_a.items chains.now.from_b.items }
+    requires chains { AreChainsOver top.now links.now chains.now }
     requires bounded { IsBounded dist.old }
     requires node { node < length top.now.nodes }
+    requires near { entry dist.old node ≡ Some near }
     requires settled { IsSettledBut top.now links.now dist.old (heap_items queue.old)
         node (length top.now.links) }
     ensures bounded { OnOk result (IsBounded dist.new) }
@@ -178,43 +176,33 @@ fn follow_all(
         ≤ 2 * left_to_fall dist.old + heap_len queue.old) }
 {
     let mut at = chains.last_of(top, links, node);
-    while let Some(number) = at {
-        let link = top.link(number);
-        let other = far_end(top, links, node, number, &link);
-        follow(dist, queue, node, other, link.cost)?;
-        at = chains.before(top, links, node, number, &link);
+    while let Some(place) = at {
+        let arc = chains.arc(top, links, node, place);
+        follow(dist, queue, node, near, arc.to, arc.cost)?;
+        at = arc.before;
     }
     Ok(())
 }
 
-// The node to which a link leads from one of its nodes.
-fn far_end(top: &Topology, links: &LinkSet, node: u32, number: u32, link: &Link) -> u32
-    requires link { slice_get top.now.links number ≡ Some link.now }
-    requires meets { Meets top.now links.now node number }
-    ensures { Joins top.now number node result }
-{
-    if link.a == node { link.b } else { link.a }
-}
-
-// Lowers a node's entry to that of another and the cost, where that is less, and puts it into the
-// queue then.
+// Lowers a node's entry to that of another, which is known, and the cost, where that is less, and
+// puts it into the queue then.
 fn follow(
     dist: &mut [Option<u64>],
     queue: &mut Queue,
     from: u32,
+    near: u64,
     to: u32,
     cost: u64,
 ) -> Result<(), AllocError>
-    requires from { from < length dist.old }
+    requires near { entry dist.old from ≡ Some near }
     requires to { to < length dist.old }
-    requires fits { (near : ℕ) → entry dist.old from ≡ Some near
-        → key_of (near + cost) to < 2 ^ 64 }
+    requires fits { key_of (near + cost) to < 2 ^ 64 }
     ensures follows { OnOk result
         (Relaxes dist.old (heap_items queue.old) dist.new (heap_items queue.new) from to cost) }
     ensures len { OnOk result ((heap_len queue.new ≡ heap_len queue.old) × (dist.new ≡ dist.old)
         ⊎ (heap_len queue.new ≡ heap_len queue.old + 1) × Lowers dist.old dist.new from to cost) }
 {
-    if let Some(far) = lower(dist, from, to, cost) {
+    if let Some(far) = lower_from(dist, from, near, to, cost) {
         queue.push(Reverse(key(far, to)))?;
     }
     Ok(())

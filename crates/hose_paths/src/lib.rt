@@ -1,14 +1,15 @@
 //! Rows: the distances of all nodes of a topology from one of them, over a set of its links, and
-//! each node's tight link. The planner takes what makes them by its contract alone. Three makers
+//! each node's tight link. The planner takes what makes them by its contract alone. Four makers
 //! are here: by rounds over all links; by a heap, which follows the links of the nearest node first
-//! and is the faster one the longer the ways are; and over a table of rows that are kept, which are
-//! lent as they lie. Whoever wants the distances of several nodes over one set makes its chains
-//! once, and marks tight links in the row alone of which a tree is wanted.
+//! and is the faster one the longer the ways are; over a table of rows that are kept, which are
+//! lent as they lie; and by a heap in advance, for a set that is asked for again and again. Whoever
+//! wants the distances of several nodes over one set makes its chains once, and marks tight links
+//! in the row alone of which a tree is wanted.
 //!
 //! ```
 //! let row = HeapRows::new().row(alloc, &top, &links, root)?;
 //!
-//! if let Some(rows) = TableRows::new(&table).kept(&top, &links) {
+//! if let Some(rows) = table.kept(&links) {
 //!     let row = row_of(&top, &links, rows, root);
 //! }
 //!
@@ -34,14 +35,14 @@ mod table;
 mod tight;
 mod whole;
 
-pub use chains::Chains;
+pub use chains::{Arc, Chains};
 pub use heap::{HeapRows, distances_along, row_along};
 use hose_graph::{Row, Topology};
 use hose_links::LinkSet;
 pub use plain::PlainRows;
 pub use settling::RowsBy;
 use std::alloc::{AllocError, Global};
-pub use table::{RowTable, TableRows, row_of};
+pub use table::{RowTable, RowsInAdvance, TableRows, kept_rows, row_of};
 pub use tight::with_tight_links;
 pub use whole::{all_links, rows_of_all};
 

@@ -1,5 +1,6 @@
 // Rows that are kept.
 ghost use Rattle.std.specs.Prelude.{◌≡◌, ◌<◌, ◌↔◌, IfOk, IfSome, IsTrue, length};
+ghost use Rattle.hose_graph.specs.Network.{Network};
 ghost use Rattle.hose_graph.specs.steps.Row.{HasBoundedDistances};
 ghost use Rattle.hose_law.specs.Row.{IsRow};
 ghost use Rattle.hose_paths.specs.steps.Alike.{AreCostAlike};
@@ -73,6 +74,18 @@ impl RowTable {
         self.links.same(links)
     }
 
+    /// Its rows, where they are over this set of its network's links. Whoever has made it of a
+    /// network asks so, and nothing of the network is compared.
+    pub fn kept(&self, links: &LinkSet) -> Option<&[Row]>
+        ensures { IfSome result (λ rows. AreRows self.now.network links.now rows.now) }
+    {
+        if self.has_links(links) {
+            Some(&self.rows)
+        } else {
+            None
+        }
+    }
+
     /// Its rows, where they are over this set of this network's links.
     pub fn over(&self, top: &Topology, links: &LinkSet) -> Option<&[Row]>
         ensures { IfSome result (λ rows. AreRows top.now links.now rows.now) }
@@ -93,6 +106,16 @@ impl RowTable {
     }
 }
 
+/// The rows of all nodes over a set of a network's links, where there is a table of this network
+/// that keeps them.
+pub fn kept_rows<'a>(table: Option<&'a RowTable>, links: &LinkSet) -> Option<&'a [Row]>
+    ensures { (network : Network)
+        → IfSome table.entry (λ table. table.now.network ≡ network)
+        → IfSome result (λ rows. AreRows network links.now rows.now) }
+{
+    table?.kept(links)
+}
+
 /// The row of a root among those of all nodes over a set of the topology's links.
 pub fn row_of<'a>(top: &Topology, links: &LinkSet, rows: &'a [Row], root: u32) -> &'a Row
     requires rows { AreRows top.now links.now rows.now }
@@ -103,14 +126,11 @@ pub fn row_of<'a>(top: &Topology, links: &LinkSet, rows: &'a [Row], root: u32) -
     &rows[root as usize]
 }
 
-/// Lends the rows of a table or gives copies of them, where they are over the set that is asked
-/// for, and makes others by a heap. Of the last set that it was told to expect, where that is
-/// another one, it makes one row more each time that it is told so, and lends them once all are
-/// there.
+/// Gives copies of the rows of a table, or lends them, where they are over the set that is asked
+/// for, and makes others by a heap.
 #[derive(Drop)]
 pub struct TableRows<'a> {
     table: &'a RowTable,
-    ahead: Option<RowsAhead>,
 }
 
 impl<'a> TableRows<'a> {
@@ -118,7 +138,7 @@ impl<'a> TableRows<'a> {
     pub fn new(table: &'a RowTable) -> TableRows<'a>
         ensures { result.table.now ≡ table.now }
     {
-        TableRows { table, ahead: None }
+        TableRows { table }
     }
 }
 
@@ -131,17 +151,37 @@ impl RowMaker for TableRows<'_> {
     }
 
     fn kept(&self, top: &Topology, links: &LinkSet) -> Option<&[Row]> {
-        let rows = self.table.over(top, links);
-        if rows.is_some() {
-            return rows;
-        }
+        self.table.over(top, links)
+    }
+}
+
+/// Makes rows by a heap. Of the last set that it was told to expect it makes one row more each time
+/// that it is told so, and lends them once all are there.
+#[derive(Drop)]
+pub struct RowsInAdvance {
+    ahead: Option<RowsAhead>,
+}
+
+impl RowsInAdvance {
+    /// A maker that keeps nothing yet.
+    pub fn new() -> RowsInAdvance
+        ensures { result.ahead ≡ None }
+    {
+        RowsInAdvance { ahead: None }
+    }
+}
+
+impl RowMaker for RowsInAdvance {
+    fn row(&mut self, alloc: Global, top: &Topology, links: &LinkSet, root: u32) -> MadeRow {
+        HeapRows::new().row(alloc, top, links, root)
+    }
+
+    fn kept(&self, top: &Topology, links: &LinkSet) -> Option<&[Row]> {
         self.ahead.as_ref()?.over(top, links)
     }
 
     fn expect(&mut self, alloc: Global, top: &Topology, links: &LinkSet) {
-        if !self.table.has_links(links) {
-            make_ahead(alloc, top, links, &mut self.ahead);
-        }
+        make_ahead(alloc, top, links, &mut self.ahead);
     }
 }
 

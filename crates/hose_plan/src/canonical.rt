@@ -5,6 +5,7 @@ ghost use Rattle.hose_graph.specs.Hose.{IsHose};
 ghost use Rattle.hose_graph.specs.Network.{IsNetwork};
 ghost use Rattle.hose_law.specs.steps.Plan.{AreNodes};
 ghost use Rattle.hose_law.specs.Row.{IsRow};
+ghost use Rattle.hose_paths.specs.steps.Rows.{AreRows};
 ghost use Rattle.hose_plan.specs.steps.Rooting.{IsBestRoot, IsPlanOver};
 ghost use Rattle.hose_tree.specs.steps.Amounts.{AreOnLinks};
 
@@ -38,11 +39,7 @@ pub fn plan<R: RowMaker>(
     ensures hose { IsHose hose.now }
 {
     if let Some(kept) = rows.kept(top, links) {
-        let Some(root) = best_root_of_kept(alloc, top, links, hose, kept)? else {
-            return Ok(None);
-        };
-        let row = row_of(top, links, kept, root);
-        return Ok(Some(reserved_from(alloc, top, links, hose, root, row)?));
+        return plan_by_kept(alloc, top, links, hose, kept);
     }
     // The calls tell the proof what holds of each network and of each hose.
     let _nodes = top.nodes();
@@ -54,6 +51,35 @@ pub fn plan<R: RowMaker>(
     };
     let row = root_row(alloc, top, links, &chains, &made, root)?;
     Ok(Some(reserved_from(alloc, top, links, hose, root, &row)?))
+}
+
+// What a hose reserves on the tree of its root over a set of links, of which the rows of all nodes
+// are kept; none where no node reaches all endpoints.
+pub(crate) fn plan_by_kept(
+    alloc: Global,
+    top: &Topology,
+    links: &LinkSet,
+    hose: &Hose,
+    kept: &[Row],
+) -> Result<Option<Amounts>, AllocError>
+    requires places { length links.now ≡ length top.now.links }
+    requires nodes { AreNodes top.now hose.now }
+    requires kept { AreRows top.now links.now kept.now }
+    ensures plan { IfOk result (IsPlanOver top.now links.now hose.now) }
+    ensures no_root { IfOk result
+        (λ found. IfNone found (IsBestRoot top.now links.now hose.now None)) }
+    ensures links { IfOk result (λ found. IfSome found (AreOnLinks top.now)) }
+    ensures few { IfOk result (λ found. IfSome found (λ plan. length plan ≤ MOST_TREE_LINKS)) }
+    ensures amounts { IfOk result
+        (λ found. IfSome found (All (λ pair. amount_of pair ≤ MOST_AMOUNT))) }
+    ensures network { IsNetwork top.now }
+    ensures hose { IsHose hose.now }
+{
+    let Some(root) = best_root_of_kept(alloc, top, links, hose, kept)? else {
+        return Ok(None);
+    };
+    let row = row_of(top, links, kept, root);
+    Ok(Some(reserved_from(alloc, top, links, hose, root, row)?))
 }
 
 // What a hose reserves on the tree of its root, of which this is the row.

@@ -1,16 +1,18 @@
 // The decision on a hose, and its grounds.
-ghost use Rattle.std.specs.Prelude.{◌≡◌, ◌↔◌, IfOk, IfSome, IsSomeAnd, IsTrue, false, length, replicate, true};
+ghost use Rattle.std.specs.Prelude.{◌≡◌, ◌↔◌, ◌≤◌, All, IfNone, IfOk, IfSome, IsSomeAnd, IsTrue, None, false, length, replicate, true};
+ghost use Rattle.hose_graph.specs.Amounts.{amount_of};
 ghost use Rattle.hose_graph.specs.Hose.{IsHose};
 ghost use Rattle.hose_graph.specs.Network.{IsNetwork};
 ghost use Rattle.hose_law.specs.Decision.{Fits};
 ghost use Rattle.hose_law.specs.steps.Plan.{AreNodes};
 ghost use Rattle.hose_law.specs.Room.{Room, free_rates, safe_links};
 ghost use Rattle.hose_plan.specs.steps.Planning.{AreGroundsOf, IsCheapestDecision, IsDecision, IsSoundDecision, NamesNodes, allowed_links, room_beside};
-ghost use Rattle.hose_plan.specs.steps.Rooting.{IsPlanOver};
-ghost use Rattle.hose_tree.specs.steps.Amounts.{AreCarried, AreOnLinks};
+ghost use Rattle.hose_paths.specs.steps.Rows.{AreRows};
+ghost use Rattle.hose_plan.specs.steps.Rooting.{IsBestRoot, IsPlanOver};
+ghost use Rattle.hose_tree.specs.steps.Amounts.{AreWithinCapacities, AreOnLinks};
 
-use crate::canonical::plan;
-use hose_graph::{Amounts, Hose, NodeList, Topology};
+use crate::canonical::{plan, plan_by_kept};
+use hose_graph::{Amounts, Hose, MOST_AMOUNT, MOST_TREE_LINKS, NodeList, Row, Topology};
 use hose_links::LinkSet;
 use hose_paths::RowMaker;
 use hose_tree::{cost, fits, free_rate, reached};
@@ -69,7 +71,7 @@ pub fn decide<R: RowMaker>(
     rows: &mut R,
 ) -> Result<Decision, AllocError>
     requires service { length service.now ≡ length top.now.links }
-    requires loads { AreCarried top.now loads.now }
+    requires loads { AreWithinCapacities top.now loads.now }
     requires nodes { AreNodes top.now hose.now }
     ensures decision { IfOk result
         (IsDecision top.now (room_beside top.now service.now loads.now) hose.now) }
@@ -80,8 +82,34 @@ pub fn decide<R: RowMaker>(
     ensures names { IfOk result (NamesNodes top.now) }
     ensures hose { IfOk result (λ _. IsHose hose.now) }
 {
-    rows.expect(alloc, top, service);
-    let first = plan(alloc, top, service, hose, rows)?;
+    decide_with_rows(alloc, top, service, loads, hose, None, rows)
+}
+
+/// Decides as `decide` does. Where the rows of all nodes over the links in service are kept, they
+/// are given, and the maker is asked for those over the safe links alone.
+pub fn decide_with_rows<R: RowMaker>(
+    alloc: Global,
+    top: &Topology,
+    service: &LinkSet,
+    loads: &[u64],
+    hose: &Hose,
+    kept: Option<&[Row]>,
+    rows: &mut R,
+) -> Result<Decision, AllocError>
+    requires service { length service.now ≡ length top.now.links }
+    requires loads { AreWithinCapacities top.now loads.now }
+    requires nodes { AreNodes top.now hose.now }
+    requires kept { IfSome kept (λ rows. AreRows top.now service.now rows.now) }
+    ensures decision { IfOk result
+        (IsDecision top.now (room_beside top.now service.now loads.now) hose.now) }
+    ensures sound { IfOk result
+        (IsSoundDecision top.now (room_beside top.now service.now loads.now) hose.now) }
+    ensures cheapest { IfOk result
+        (IsCheapestDecision top.now (room_beside top.now service.now loads.now) hose.now) }
+    ensures names { IfOk result (NamesNodes top.now) }
+    ensures hose { IfOk result (λ _. IsHose hose.now) }
+{
+    let first = first_plan(alloc, top, service, hose, kept, rows)?;
     let grounds = grounds_of(alloc, top, service, loads, hose, first)?;
     let Some(amounts) = allowed_plan(alloc, top, hose, &grounds, rows)? else {
         let side = reached(alloc, top, &grounds.safe, hose.ends()[0].0)?;
@@ -92,6 +120,35 @@ pub fn decide<R: RowMaker>(
         grounds,
         amounts,
     })
+}
+
+// The plan over the links in service, by the rows that are kept, or else by the maker.
+fn first_plan<R: RowMaker>(
+    alloc: Global,
+    top: &Topology,
+    service: &LinkSet,
+    hose: &Hose,
+    kept: Option<&[Row]>,
+    rows: &mut R,
+) -> Result<Option<Amounts>, AllocError>
+    requires service { length service.now ≡ length top.now.links }
+    requires nodes { AreNodes top.now hose.now }
+    requires kept { IfSome kept (λ rows. AreRows top.now service.now rows.now) }
+    ensures plan { IfOk result (IsPlanOver top.now service.now hose.now) }
+    ensures no_root { IfOk result
+        (λ found. IfNone found (IsBestRoot top.now service.now hose.now None)) }
+    ensures links { IfOk result (λ found. IfSome found (AreOnLinks top.now)) }
+    ensures few { IfOk result (λ found. IfSome found (λ plan. length plan ≤ MOST_TREE_LINKS)) }
+    ensures amounts { IfOk result
+        (λ found. IfSome found (All (λ pair. amount_of pair ≤ MOST_AMOUNT))) }
+    ensures network { IsNetwork top.now }
+    ensures hose { IsHose hose.now }
+{
+    if let Some(kept) = kept {
+        return plan_by_kept(alloc, top, service, hose, kept);
+    }
+    rows.expect(alloc, top, service);
+    plan(alloc, top, service, hose, rows)
 }
 
 // The grounds of a decision on a hose with this first plan, or with none.
@@ -105,7 +162,7 @@ fn grounds_of(
 ) -> Result<Grounds, AllocError>
     requires network { IsNetwork top.now }
     requires service { length service.now ≡ length top.now.links }
-    requires loads { AreCarried top.now loads.now }
+    requires loads { AreWithinCapacities top.now loads.now }
     requires first { IsPlanOver top.now service.now hose.now first }
     requires links { IfSome first (AreOnLinks top.now) }
     ensures { IfOk result
@@ -125,7 +182,7 @@ fn grounds_of(
 
 // Whether there is a first plan, and it fits.
 pub(crate) fn first_fits(top: &Topology, loads: &[u64], first: &Option<Amounts>) -> bool
-    requires loads { AreCarried top.now loads.now }
+    requires loads { AreWithinCapacities top.now loads.now }
     requires links { IfSome first.now (AreOnLinks top.now) }
     ensures { IsTrue result ↔ IsSomeAnd first.now (Fits (free_rates top.now loads.now)) }
 {
@@ -146,7 +203,7 @@ fn safe_links(
     first_fits: bool,
 ) -> Result<LinkSet, AllocError>
     requires service { length service.now ≡ length top.now.links }
-    requires loads { AreCarried top.now loads.now }
+    requires loads { AreWithinCapacities top.now loads.now }
     ensures none { first_fits ≡ true
         → IfOk result (λ links. links ≡ replicate (length top.now.links) false) }
     ensures links { first_fits ≡ false → IfOk result

@@ -4,7 +4,7 @@ ghost use Rattle.hose_graph.specs.Hose.{Endpoint};
 ghost use Rattle.hose_law.specs.Decision.{Fits};
 ghost use Rattle.hose_law.specs.Room.{Room, free_rates, half_rate, safe_links};
 ghost use Rattle.hose_plan.specs.steps.Planning.{AreGroundsOf, AreMade, HoldBySafe, IsSafeStill, TellsBooks, TellsRooms, room_beside};
-ghost use Rattle.hose_tree.specs.steps.Amounts.{AreCarried, AreOnLinks};
+ghost use Rattle.hose_tree.specs.steps.Amounts.{AreWithinCapacities, AreOnLinks};
 
 use crate::decision::{Grounds, first_fits};
 use hose_graph::Topology;
@@ -17,7 +17,7 @@ use hose_tree::free_rate;
 /// at most the link's capacity.
 pub fn grounds_hold(top: &Topology, service: &LinkSet, loads: &[u64], grounds: &Grounds) -> bool
     requires service { length service.now ≡ length top.now.links }
-    requires loads { AreCarried top.now loads.now }
+    requires loads { AreWithinCapacities top.now loads.now }
     requires made { AreMade top.now grounds.now }
     ensures rooms { TellsRooms top.now service.now loads.now grounds.now result }
     ensures books { TellsBooks top.now service.now loads.now grounds.now result }
@@ -43,7 +43,7 @@ pub(crate) fn fits_as_before(
     grounds: &Grounds,
 ) -> bool
     requires same { grounds.now.service ≡ service.now }
-    requires loads { AreCarried top.now loads.now }
+    requires loads { AreWithinCapacities top.now loads.now }
     requires made { AreMade top.now grounds.now }
     ensures { (hose : List Endpoint) (earlier : Room)
         → AreGroundsOf top.now earlier hose grounds.now
@@ -59,7 +59,7 @@ pub(crate) fn fits_as_before(
 // grounds.
 pub(crate) fn are_safe(top: &Topology, service: &LinkSet, loads: &[u64], grounds: &Grounds) -> bool
     requires service { length service.now ≡ length top.now.links }
-    requires loads { AreCarried top.now loads.now }
+    requires loads { AreWithinCapacities top.now loads.now }
     requires places { length grounds.now.safe ≡ length top.now.links }
     ensures { (hose : List Endpoint) → grounds.now.half ≡ half_rate hose
         → (IsTrue result
@@ -83,7 +83,7 @@ pub(crate) fn is_safe_as_before(
     link: u32,
 ) -> bool
     requires service { length service.now ≡ length top.now.links }
-    requires loads { AreCarried top.now loads.now }
+    requires loads { AreWithinCapacities top.now loads.now }
     requires places { length grounds.now.safe ≡ length top.now.links }
     requires link { link < length top.now.links }
     ensures { IsTrue result

@@ -17,6 +17,6 @@ mod root;
 mod since;
 
 pub use canonical::plan;
-pub use decision::{Decision, Grounds, decide};
+pub use decision::{Decision, Grounds, decide, decide_with_rows};
 pub use holding::grounds_hold;
 pub use since::grounds_hold_since;

@@ -6,7 +6,7 @@ ghost use Rattle.hose_graph.specs.Row.{Distances, distance_of};
 ghost use Rattle.hose_graph.specs.steps.Row.{HasBoundedDistances, IsWithinReach};
 ghost use Rattle.hose_law.specs.steps.Plan.{AreNodes};
 ghost use Rattle.hose_law.specs.Row.{IsRow};
-ghost use Rattle.hose_paths.specs.steps.Chain.{AreChains};
+ghost use Rattle.hose_paths.specs.steps.Chain.{AreChainsOver};
 ghost use Rattle.hose_paths.specs.steps.Rows.{AreRows, HasDistances};
 ghost use Rattle.hose_plan.specs.steps.Rooting.{AreLight, AreDistancesOver, AreWeights, IsBestRoot, heavier, most_share};
 ghost use Rattle.hose_root.specs.steps.Choice.{weight_at};
@@ -31,8 +31,7 @@ pub fn best_root(
 ) -> Result<Option<u32>, AllocError>
     requires places { length links.now ≡ length top.now.links }
     requires nodes { AreNodes top.now hose.now }
-    requires chains { AreChains top.now links.now (length top.now.links)
-        chains.now.last.items chains.now.from_a.items chains.now.from_b.items }
+    requires chains { AreChainsOver top.now links.now chains.now }
     requires made { AreDistancesOver top.now links.now made.old.items }
     ensures root { IfOk result (IsBestRoot top.now links.now hose.now) }
     ensures made { OnOk result (AreDistancesOver top.now links.now made.new.items) }
@@ -87,8 +86,7 @@ pub fn root_row(
 ) -> MadeRow
     requires places { length links.now ≡ length top.now.links }
     requires is_node { root < length top.now.nodes }
-    requires chains { AreChains top.now links.now (length top.now.links)
-        chains.now.last.items chains.now.from_a.items chains.now.from_b.items }
+    requires chains { AreChainsOver top.now links.now chains.now }
     requires made { AreDistancesOver top.now links.now made.now }
     ensures { IfOk result (IsRow top.now links.now root) }
 {

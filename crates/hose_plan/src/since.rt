@@ -4,7 +4,7 @@ ghost use Rattle.hose_graph.specs.Hose.{Endpoint};
 ghost use Rattle.hose_law.specs.Room.{half_rate, safe_links};
 ghost use Rattle.hose_law.specs.steps.Tracks.{IsNamedSince};
 ghost use Rattle.hose_plan.specs.steps.Planning.{AreMadeSince, AreServedSince, IsSafeStill, TellsBooks, TellsRooms, room_beside};
-ghost use Rattle.hose_tree.specs.steps.Amounts.{AreCarried};
+ghost use Rattle.hose_tree.specs.steps.Amounts.{AreWithinCapacities};
 
 use crate::decision::Grounds;
 use crate::holding::{are_safe, fits_as_before, is_safe_as_before};
@@ -32,7 +32,7 @@ pub fn grounds_hold_since(
     seen: u64,
 ) -> bool
     requires service { length service.now ≡ length top.now.links }
-    requires loads { AreCarried top.now loads.now }
+    requires loads { AreWithinCapacities top.now loads.now }
     requires made { AreMadeSince top.now service.now loads.now grounds.now changes.now seen }
     ensures rooms { TellsRooms top.now service.now loads.now grounds.now result }
     ensures books { TellsBooks top.now service.now loads.now grounds.now result }
@@ -86,7 +86,7 @@ fn are_safe_since(
     seen: u64,
 ) -> bool
     requires service { length service.now ≡ length top.now.links }
-    requires loads { AreCarried top.now loads.now }
+    requires loads { AreWithinCapacities top.now loads.now }
     requires places { length grounds.now.safe ≡ length top.now.links }
     requires others { (l : ℕ) → l < length top.now.links → (¬ IsNamedSince changes.now seen l)
         → IsSafeStill top.now service.now loads.now grounds.now.half grounds.now.safe l }

@@ -15,7 +15,7 @@ use Rattle.hose_law.specs.History.{book_of}
 use Rattle.hose_law.specs.Quotes.{Held, none_held}
 use Rattle.hose_law.specs.Room.{first_links}
 use Rattle.hose_book.specs.declared.books.Committed.TheVariants.{Done}
-use Rattle.hose_core.specs.steps.Bound.{HasNewest, admission_of}
+use Rattle.hose_core.specs.steps.Bound.{HasNewest, admission_command}
 use Rattle.hose_core.specs.steps.Planning.{AdmitsAtOnce, IsNotPlanned, IsPlannedFor}
 use Rattle.hose_core.specs.steps.Stepping.{committed_of}
 use Rattle.hose_core.specs.declared.quotes.Quote.{Quote}
@@ -33,16 +33,16 @@ use Rattle.hose_shared.proofs.Turned.{none_joined, reads_turn}
 -- ---- without an entry
 
 -- want of memory comes first, bound or not
-bound_wants : (book : Book) (customer : List ℕ) (held : Held) (known : Option ℕ) (hose : List Endpoint) → MayWantMemory book customer held (admission_of known hose)
+bound_wants : (book : Book) (customer : List ℕ) (held : Held) (known : Option ℕ) (hose : List Endpoint) → MayWantMemory book customer held (admission_command known hose)
 bound_wants book customer held None hose = tt
 bound_wants book customer held (Some known) hose = tt
 
 module _ (network : Network) (seen : List Entry) (customer : List ℕ) (known : Option ℕ) (hose : List Endpoint) where
-  pub memory_step : (held : Held) → IsStepOf network 0 seen customer held (admission_of known hose) reply.Memory None seen held
+  pub memory_step : (held : Held) → IsStepOf network 0 seen customer held (admission_command known hose) reply.Memory None seen held
   memory_step held = (bound_wants (book_of 0 seen) customer held known hose, refl, refl, refl)
 
-  pub untried_step : (answer : Reply) (held : Held) → IsNotTried network (book_of 0 seen) customer known hose answer → IsStepOf network 0 seen customer held (admission_of known hose) answer None seen held
-  untried_step answer held (inl is) = subst (λ (r : Reply). IsStepOf network 0 seen customer held (admission_of known hose) r None seen held) (sym is) (memory_step held)
+  pub untried_step : (answer : Reply) (held : Held) → IsNotTried network (book_of 0 seen) customer known hose answer → IsStepOf network 0 seen customer held (admission_command known hose) answer None seen held
+  untried_step answer held (inl is) = subst (λ (r : Reply). IsStepOf network 0 seen customer held (admission_command known hose) r None seen held) (sym is) (memory_step held)
   untried_step answer held (inr none) = not_admitted_step network 0 seen customer held known hose answer none
 
   pub untried_done : (answer : Reply) → IsNotTried network (book_of 0 seen) customer known hose answer → committed_of answer ≡ Done
@@ -89,12 +89,12 @@ module _ {D : Type 0} {disk : Ghosts D} {Begins : List Entry → KeptStore D →
 
   -- a turn in which a plan was taken
   pub claimed_turn : (entry : Entry) → told ≡ Some entry → (held : Held) (answer : Reply) → AdmitsAtOnce (store_books disk) old new customer (record { known = bound; hose = hose }) answer (Some entry)
-      → AnswersTurn disk known.seen was new told customer held (admission_of bound hose) answer
-  claimed_turn entry is held answer admits = subst (λ (t : Option Entry). AnswersTurn disk known.seen was new t customer held (admission_of bound hose) answer) (sym is)
+      → AnswersTurn disk known.seen was new told customer held (admission_command bound hose) answer
+  claimed_turn entry is held answer admits = subst (λ (t : Option Entry). AnswersTurn disk known.seen was new t customer held (admission_command bound hose) answer) (sym is)
       (admit_turn begun same admits.answered (Some entry) customer held (record { known = bound; hose = hose }) admits)
 
   -- or was stale
   pub settled_turn : (entry : Entry) → told ≡ Some entry → (settled : Option Reply) → MatchOption settled (new ≡ old) (λ answer. AdmitsAtOnce (store_books disk) old new customer (record { known = bound; hose = hose }) answer (Some entry))
       → (name : List ℕ) × (held : Held) × (asked : Command) × (answer : Reply) × AnswersTurn disk known.seen was new told name held asked answer
   settled_turn entry is None stays = (customer, none_held, command.Admit hose, reply.Memory, idle_turn stays)
-  settled_turn entry is (Some answer) admits = (customer, none_held, admission_of bound hose, answer, claimed_turn entry is none_held answer admits)
+  settled_turn entry is (Some answer) admits = (customer, none_held, admission_command bound hose, answer, claimed_turn entry is none_held answer admits)

@@ -28,7 +28,7 @@ use Rattle.hose_law.specs.Room.{first_links, room_of, safe_links}
 use Rattle.hose_law.specs.steps.Service.{service_entry}
 use Rattle.hose_book.specs.declared.books.Committed.{Committed}
 use Rattle.hose_book.specs.declared.books.Committed.TheVariants.{Done, Disk}
-use Rattle.hose_core.specs.steps.Bound.{admission_of}
+use Rattle.hose_core.specs.steps.Bound.{admission_command}
 use Rattle.hose_core.specs.steps.Holding.{AreHeld, IsMadeAt, IsQuoteOf}
 use Rattle.hose_core.specs.steps.Planning.{AdmitsAtOnce, EntersPlan, HasTold, IsNotPlanned, IsPlannedFor}
 use Rattle.hose_core.specs.steps.Serving.{service_command}
@@ -139,15 +139,15 @@ module _ (network : Network) (earlier book : Book) (customer : List ℕ) (hose :
 
 module _ (network : Network) (history : List Entry) (customer : List ℕ) (held : Held) (hose : List Endpoint) where
   -- an entry is that of an admission, bound to a number or to none
-  bound_admits : (bound : Option ℕ) (answer : Reply) (entry : Entry) (after : Held) → IsAnswer network 0 history customer held (admission_of bound hose) answer (Some entry) after → IsAdmitAnswer network (book_of 0 history) customer hose answer (Some entry)
+  bound_admits : (bound : Option ℕ) (answer : Reply) (entry : Entry) (after : Held) → IsAnswer network 0 history customer held (admission_command bound hose) answer (Some entry) after → IsAdmitAnswer network (book_of 0 history) customer hose answer (Some entry)
   bound_admits None answer entry after is = is.0
   bound_admits (Some known) answer entry after is = after_admits network (book_of 0 history) customer hose known answer entry is.0
 
   pub admit_entry : (bound : Option ℕ) (answer : Reply) (mine : Entry) (entry : Option Entry) (next : List Entry) (after : Held) → EntersPlan customer hose answer mine
-      → IsStepOf network 0 history customer held (admission_of bound hose) answer entry next after → IfSome (joined_of entry (committed_of answer)) (λ joined. joined ≡ mine)
+      → IsStepOf network 0 history customer held (admission_command bound hose) answer entry next after → IfSome (joined_of entry (committed_of answer)) (λ joined. joined ≡ mine)
   admit_entry bound answer mine entry next after enters step = joined_is (λ joined. joined ≡ mine) entry (committed_of answer) (λ joined is done.
       entered_is network (book_of 0 history) customer hose answer joined mine enters (bound_admits bound answer joined after
-      (answered network history customer held (admission_of bound hose) answer joined next after done (subst (λ (e : Option Entry). IsStepOf network 0 history customer held (admission_of bound hose) answer e next after) is step))))
+      (answered network history customer held (admission_command bound hose) answer joined next after done (subst (λ (e : Option Entry). IsStepOf network 0 history customer held (admission_command bound hose) answer e next after) is step))))
 
 -- ---- a take that is stale, or not
 
@@ -225,11 +225,11 @@ module _ {D : Type 0} {disk : Ghosts D} {Begins : List Entry → KeptStore D →
       (take_entry old.ledger.network known.seen customer held number one there quote.amounts quote.cost answer stepped.entry stepped.next stepped.after tells stepped.step))
 
   -- an admission may have had no entry, and then the store is as it was
-  pub admit_turn : (asks : Admission) → AdmitsAtOnce (store_books disk) old new customer asks answer told → Turn (admission_of asks.known asks.hose)
+  pub admit_turn : (asks : Admission) → AdmitsAtOnce (store_books disk) old new customer asks answer told → Turn (admission_command asks.known asks.hose)
   admit_turn asks admits = answers_turn disk known.seen old was new told customer held asked answer same stepped answered.network answered.met (joined told admits.none admits.enters)
     where
       asked : Command
-      asked = admission_of asks.known asks.hose
+      asked = admission_command asks.known asks.hose
 
       stepped : Stepped asked
       stepped = step_of asked admits.step

@@ -7,7 +7,7 @@ use Rattle.hose_graph.specs.declared.command.Reply.{Reply}
 use Rattle.hose_law.specs.steps.Answer.{ChangesHeld}
 use Rattle.hose_law.specs.Quotes.{Held}
 use Rattle.hose_law.proofs.Steps.{step_keeps}
-use Rattle.hose_core.specs.steps.Bound.{admission_of}
+use Rattle.hose_core.specs.steps.Bound.{admission_command}
 use Rattle.hose_core.specs.steps.Holding.{AreHeld}
 use Rattle.hose_core.specs.steps.Serving.{service_command}
 use Rattle.hose_core.specs.declared.quotes.Quote.{Quote}
@@ -15,7 +15,7 @@ use Rattle.hose_core.proofs.HeldQuotes.{held_on}
 use Rattle.hose_turn.specs.Known.{Known}
 use Rattle.hose_shared.specs.steps.Along.{StepsAlong, StepsHolding}
 
-pub admission_keeps : (known : Option ℕ) (hose : List Endpoint) → ¬ ChangesHeld (admission_of known hose)
+pub admission_keeps : (known : Option ℕ) (hose : List Endpoint) → ¬ ChangesHeld (admission_command known hose)
 admission_keeps None hose = λ changes. changes
 admission_keeps (Some known) hose = λ changes. changes
 

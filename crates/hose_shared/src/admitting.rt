@@ -1,23 +1,27 @@
 // Admissions.
+ghost use Rattle.std.specs.Prelude.{option_map};
 ghost use Rattle.hose_graph.specs.steps.Naming.{NamesPlaces};
 ghost use Rattle.hose_graph.specs.declared.command.Command.{Command};
 ghost use Rattle.hose_law.specs.History.{book_of};
 ghost use Rattle.hose_law.specs.steps.Plan.{AreNodes};
 ghost use Rattle.hose_law.specs.Quotes.{Held as HeldQuotes};
-ghost use Rattle.hose_core.specs.steps.Bound.{admission_of};
+ghost use Rattle.hose_core.specs.steps.Bound.{admission_command};
 ghost use Rattle.hose_core.specs.steps.Holding.{IsMadeAt};
+ghost use Rattle.hose_core.specs.steps.Planning.{AdmitsAtOnce};
 ghost use Rattle.hose_shared.specs.steps.Along.{IsTried, StepsAlong};
 ghost use Rattle.hose_shared.specs.steps.Sharing.{IsPassOf};
 
 use crate::caller::Caller;
 use crate::kept::Begun;
 use crate::shared::Shared;
+use hose_book::Books;
 use hose_core::{Admission, Quote, admit_claimed_now, admit_now, claim_take};
 use hose_disk::Disk;
-use hose_graph::{Hose, Reply};
-use hose_paths::RowMaker;
+use hose_graph::{Entry, Hose, Name, Reply};
+use hose_paths::{RowMaker, RowTable, TableRows};
 use hose_pool::{Gate, Point};
 use hose_turn::Pass;
+use std::alloc::Global;
 use std::snapshot::Snapshot;
 use std::sync::Wait;
 
@@ -45,28 +49,10 @@ impl<D: Disk, B: Begun<D>> Shared<D, B> {
         self.admit_bound(caller, pass, asked, rows)
     }
 
-    /// Admits a hose as `admit` does, where the customer's newest live VPN has this number, or it
-    /// is 0 and the customer has none. Else the reply is `Newest`, which comes before all others
-    /// but `Memory`. It is looked at together with the loads, and again where the plan is taken.
-    pub fn admit_after<W: Wait, G: Gate, R: RowMaker>(
-        &self,
-        caller: &Caller<'_, W, G>,
-        pass: Pass,
-        known: u64,
-        hose: Hose,
-        rows: &mut R,
-    ) -> (Reply, Pass)
-        requires of { IsPassOf self.now pass }
-        requires nodes { AreNodes self.now.network hose }
-        ensures steps { (held : HeldQuotes) → StepsAlong self.now.network
-            caller.now.customer.now held (Command.AdmitAfter known hose) result.0 pass result.1 }
-        ensures names { NamesPlaces self.now.network result.0 }
-    {
-        let known = Some(known);
-        self.admit_bound(caller, pass, Admission { known, hose }, rows)
-    }
-
-    /// Admits a hose, bound to the customer's newest VPN where a number is named.
+    /// Admits a hose as `admit` does. Where a number is named, the customer's newest live VPN has
+    /// to have it, or where it is 0 the customer has none. Else the reply is `Newest`, which comes
+    /// before all others but `Memory`: it is looked at together with the loads, and again where
+    /// the plan is taken.
     pub(crate) fn admit_bound<W: Wait, G: Gate, R: RowMaker>(
         &self,
         caller: &Caller<'_, W, G>,
@@ -77,7 +63,7 @@ impl<D: Disk, B: Begun<D>> Shared<D, B> {
         requires of { IsPassOf self.now pass }
         requires nodes { AreNodes self.now.network asked.hose }
         ensures steps { (held : HeldQuotes) → StepsAlong self.now.network caller.now.customer.now
-            held (admission_of asked.known asked.hose) result.0 pass result.1 }
+            held (admission_command asked.known asked.hose) result.0 pass result.1 }
         ensures names { NamesPlaces self.now.network result.0 }
     {
         let mut pass = pass;
@@ -141,13 +127,36 @@ impl<D: Disk, B: Begun<D>> Shared<D, B> {
         requires of { IsPassOf self.now pass }
         requires nodes { AreNodes self.now.network asked.hose }
         ensures steps { (held : HeldQuotes) → StepsAlong self.now.network caller.now.customer.now
-            held (admission_of asked.known asked.hose) result.0 pass result.1 }
+            held (admission_command asked.known asked.hose) result.0 pass result.1 }
         ensures names { NamesPlaces self.now.network result.0 }
     {
         let (mut held, start) = self.begin_turn(caller.context.rt, pass);
         let (alloc, customer) = (caller.context.alloc, caller.customer);
         let store = &mut held.value_mut().store;
-        let (reply, entry) = admit_now(alloc, store, customer, asked, rows);
+        let table = self.table.as_ref();
+        let (reply, entry) = admit_by(alloc, store, customer, asked, table, rows);
         (reply, self.end_turn(held, start, entry))
     }
+}
+
+// Plans a hose and admits it, by a table where it has the rows over the links in service, and else
+// by the maker.
+fn admit_by<K: Books, R: RowMaker>(
+    alloc: Global,
+    books: &mut K,
+    customer: &Name,
+    asked: Admission,
+    table: Option<&RowTable>,
+    rows: &mut R,
+) -> (Reply, Option<Snapshot<Entry>>)
+    requires { AreNodes (K.ledger books.old).network asked.hose }
+    ensures { AdmitsAtOnce K.Books books.old books.new customer.now asked result.0
+        (option_map (λ entry. entry.value) result.1) }
+{
+    if let Some(table) = table {
+        if table.has_links(books.book().service()) {
+            return admit_now(alloc, books, customer, asked, &mut TableRows::new(table));
+        }
+    }
+    admit_now(alloc, books, customer, asked, rows)
 }

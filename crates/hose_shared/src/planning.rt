@@ -4,7 +4,7 @@ ghost use Rattle.hose_law.specs.Book.{loads_of};
 ghost use Rattle.hose_law.specs.History.{book_of};
 ghost use Rattle.hose_law.specs.steps.Plan.{AreNodes};
 ghost use Rattle.hose_law.specs.Room.{first_links};
-ghost use Rattle.hose_tree.specs.steps.Amounts.{AreCarried};
+ghost use Rattle.hose_tree.specs.steps.Amounts.{AreWithinCapacities};
 ghost use Rattle.hose_core.specs.steps.Bound.{HasNewest, TellsNewest};
 ghost use Rattle.hose_core.specs.steps.Planning.{IsPlannedFor};
 ghost use Rattle.hose_shared.specs.steps.Along.{IsNotTried};
@@ -18,7 +18,7 @@ use hose_core::{Admission, BookView, Quote, newest_now, plan_beside};
 use hose_disk::Disk;
 use hose_graph::Reply;
 use hose_links::LinkSet;
-use hose_paths::RowMaker;
+use hose_paths::{RowMaker, kept_rows};
 use hose_turn::Pass;
 use std::sync::Wait;
 
@@ -57,6 +57,7 @@ impl<D: Disk, B: Begun<D>> Shared<D, B> {
             top: &self.topology,
             service: &service,
             loads: &loads,
+            kept: kept_rows(self.table.as_ref(), &service),
             epoch,
         };
         let planned = plan_beside(alloc, seen, hose, rows);
@@ -84,7 +85,7 @@ impl<D: Disk, B: Begun<D>> Shared<D, B> {
             (TellsNewest book caller.now.customer.now known) }
         ensures service { service.new ≡ first_links self.now.network (book_of 0 result.2.seen) }
         ensures loads { loads.new ≡ loads_of self.now.network (book_of 0 result.2.seen) }
-        ensures carried { AreCarried self.now.network loads.new }
+        ensures carried { AreWithinCapacities self.now.network loads.new }
     {
         let held = self.turn.lock(caller.context.rt, pass);
         let book = held.value().store.book();

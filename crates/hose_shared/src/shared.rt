@@ -1,5 +1,5 @@
 // The shared book and its passes.
-ghost use Rattle.std.specs.Prelude.{◌≡◌, ◌⊎◌, ◌+◌, ◌-◌, ◌++◌, ◌≤◌, [], IfErr, IfOk, List, length};
+ghost use Rattle.std.specs.Prelude.{◌≡◌, ◌⊎◌, ◌+◌, ◌-◌, ◌++◌, ◌≤◌, [], IfErr, IfOk, IfSome, List, length};
 ghost use mathlib.Core.List.{IsPrefix};
 ghost use Rattle.hose_graph.specs.Network.{IsNetwork};
 ghost use Rattle.hose_graph.specs.declared.entry.Entry.{Entry};
@@ -16,6 +16,7 @@ use crate::kept::{Begun, Kept};
 use hose_book::Books;
 use hose_disk::Disk;
 use hose_graph::Topology;
+use hose_paths::RowTable;
 use hose_store::Store;
 use hose_turn::{ALL_SHARES, Pass, Turn};
 use std::alloc::{AllocError, Global};
@@ -29,9 +30,12 @@ use std::sync::Wait;
 pub struct Shared<D: Disk, B: Begun<D>> {
     pub(crate) turn: Turn<Kept<D, B>>,
     pub(crate) topology: Topology,
+    // Of this topology.
+    pub(crate) table: Option<RowTable>,
 }
 
 impl<D: Disk, B: Begun<D>> Model for Shared<D, B> {
+    ghost use Rattle.std.specs.Prelude.{◌≡◌, IfSome};
     ghost use Rattle.hose_graph.specs.Network.{IsNetwork};
     ghost use Rattle.hose_shared.specs.steps.Sharing.{SharedBook};
 
@@ -39,7 +43,9 @@ impl<D: Disk, B: Begun<D>> Model for Shared<D, B> {
 
     ghost view = { λ shared. record { turn = shared.turn; network = shared.topology } };
 
-    ghost invariant = { λ shared. IsNetwork shared.topology };
+    // What rows are kept are of this network, so that no plan has to compare it with theirs.
+    ghost invariant = { λ shared. IsNetwork shared.topology
+        × IfSome shared.table (λ table. table.network ≡ shared.topology) };
 }
 
 impl<D: Disk, B: Begun<D>> Shared<D, B> {
@@ -54,17 +60,23 @@ impl<D: Disk, B: Begun<D>> Shared<D, B> {
         ensures pass { IfOk result (λ made. IsPassOf made.0 made.1) }
         ensures network { IfOk result (λ made. made.0.network ≡ store.ledger.network) }
     {
-        match Shared::share(alloc, store) {
+        match Shared::share(alloc, store, None) {
             Ok(made) => Ok(made),
             Err(_store) => Err(AllocError),
         }
     }
 
-    /// Shares a store, as `new` does. Where memory is wanting the store comes back, and nothing was
-    /// done to its disk.
-    pub fn share(alloc: Global, store: Store<D>) -> Result<(Shared<D, B>, Pass), Store<D>>
-        requires { (since : List Entry) × B.begins since store
+    /// Shares a store, as `new` does, with the rows of its network by which it plans, where there
+    /// is a table of them. Where memory is wanting the store comes back, and nothing was done to
+    /// its disk.
+    pub fn share(
+        alloc: Global,
+        store: Store<D>,
+        table: Option<RowTable>,
+    ) -> Result<(Shared<D, B>, Pass), Store<D>>
+        requires stands { (since : List Entry) × B.begins since store
             × HasBookOf 0 since store.ledger × Tracks 0 since store.ledger.recent }
+        requires table { IfSome table (λ table. table.network ≡ store.ledger.network) }
         ensures first { IfOk result (λ made. made.1 ≡ first_known made.0.turn made.1.origin) }
         ensures stands { IfOk result (λ made. StandsShared D.Disk B.begins made.1.origin
             made.1.origin.since store) }
@@ -80,7 +92,14 @@ impl<D: Disk, B: Begun<D>> Shared<D, B> {
             begun: PhantomData,
         };
         match Turn::from_ticket(alloc, kept, 0) {
-            Ok((turn, pass)) => Ok((Shared { turn, topology }, pass)),
+            Ok((turn, pass)) => {
+                let shared = Shared {
+                    turn,
+                    topology,
+                    table,
+                };
+                Ok((shared, pass))
+            }
             Err(kept) => Err(kept.store),
         }
     }

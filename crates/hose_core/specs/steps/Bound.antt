@@ -9,9 +9,9 @@ use Rattle.hose_law.specs.Answer.{IsNewest}
 use Rattle.hose_law.specs.Book.{Book}
 
 -- the command to admit a hose, bound to a number or to none
-abbrev pub admission_of : Option ℕ → List Endpoint → Command
-admission_of None hose = Admit hose
-admission_of (Some known) hose = AdmitAfter known hose
+abbrev pub admission_command : Option ℕ → List Endpoint → Command
+admission_command None hose = Admit hose
+admission_command (Some known) hose = AdmitAfter known hose
 
 -- the number that an admission is bound to, if it is bound, is that of the customer's newest VPN
 abbrev pub HasNewest : Book → List ℕ → Option ℕ → Type 0

@@ -12,7 +12,7 @@ use Rattle.hose_law.specs.Book.{Book}
 use Rattle.hose_law.specs.Decision.{IsRefused}
 use Rattle.hose_law.specs.Quotes.{with_number}
 use Rattle.hose_law.specs.Room.{room_of}
-use Rattle.hose_core.specs.steps.Bound.{HasNewest, TellsNewest, admission_of}
+use Rattle.hose_core.specs.steps.Bound.{HasNewest, TellsNewest, admission_command}
 use Rattle.hose_core.specs.steps.Holding.{IsMadeAt}
 use Rattle.hose_book.specs.declared.books.Books.{Ghosts}
 use Rattle.hose_core.specs.steps.Stepping.{AdmitsCheapest, HaveAnswered, StepsAtEach, TellsPlan}
@@ -60,7 +60,7 @@ pub record EntersPlan (customer : List ℕ) (hose : List Endpoint) (reply : Repl
 -- one they are as before.
 pub record AdmitsAtOnce {K R : Type 0} (books : Ghosts K R) (old new : K) (customer : List ℕ)
     (asked : Admission) (answer : Reply) (entry : Option Entry) : Type 0 where
-  pub step : StepsAtEach books old new customer (admission_of asked.known asked.hose) answer
+  pub step : StepsAtEach books old new customer (admission_command asked.known asked.hose) answer
   pub cheapest :
       AdmitsCheapest (books.ledger old).network (books.ledger old).book asked.hose answer
   pub answered : HaveAnswered books old new answer

@@ -25,8 +25,8 @@ module _ {C E : Type 0} (cabinet : Ghosts C E) where
   }
 
   -- the bytes of a text that is read, as far as they are told
-  abbrev pub text_at : TextState C → Option Stream
-  text_at text = text_stream cabinet text.cabinet.now text.name text.from
+  abbrev pub text_left : TextState C → Option Stream
+  text_left text = text_stream cabinet text.cabinet.now text.name text.from
 
   -- What a call does to the cabinet behind it: texts were asked for, of which none was absent.
   pub record HasAsked (was now : TextState C) : Type 0 where
@@ -37,4 +37,4 @@ module _ {C E : Type 0} (cabinet : Ghosts C E) where
 
   -- a text as a source
   abbrev pub text_source : SourceGhosts (TextState C)
-  text_source = record { frame = reading_frame; content = text_at; went = HasAsked }
+  text_source = record { frame = reading_frame; content = text_left; went = HasAsked }

@@ -89,7 +89,7 @@ pub record AreAnswered {K R : Type 0} (books : BooksGhosts K R) (network : Netwo
 
 -- A core answered lines from a history on, by books that were first so: its books fit the history
 -- that the replies lead to, on the same network.
-pub record HasAnswered {K R : Type 0} (books : BooksGhosts K R) (since : List Entry)
+pub record HasAnsweredLines {K R : Type 0} (books : BooksGhosts K R) (since : List Entry)
     (first core : State K) (lines : List ReadLine) (replies : List Reply) : Type 0 where
   pub answered : AreAnswered books (books.ledger first.books).network since first.books core.books
       lines replies

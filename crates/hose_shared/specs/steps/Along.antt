@@ -16,7 +16,7 @@ use Rattle.hose_law.specs.Quotes.{Held}
 use Rattle.hose_law.specs.Room.{room_of}
 use Rattle.hose_law.specs.Transcript.{IsPlacedStep}
 use Rattle.hose_book.specs.declared.books.Committed.TheVariants.{Disk}
-use Rattle.hose_core.specs.steps.Bound.{admission_of}
+use Rattle.hose_core.specs.steps.Bound.{admission_command}
 use Rattle.hose_core.specs.steps.Holding.{AreHeld}
 use Rattle.hose_core.specs.steps.Planning.{IsNotAdmitted}
 use Rattle.hose_core.specs.steps.Stepping.{committed_of}
@@ -74,6 +74,6 @@ IsNotTried network book customer known hose answer =
 abbrev pub IsTried : Network → List ℕ → Option ℕ → List Endpoint → Known → Known
     → Result Reply (List Endpoint) → Type 0
 IsTried network customer known hose old new (Ok answer) =
-    ((held : Held) → StepsAlong network customer held (admission_of known hose) answer old new)
+    ((held : Held) → StepsAlong network customer held (admission_command known hose) answer old new)
     × NamesPlaces network answer
 IsTried network customer known hose old new (Err same) = (same ≡ hose) × HasSeenMore old new

@@ -1,7 +1,7 @@
 use Rattle.std.proofs.Common.{◌<◌, ◌∙◌, ap, arith, refl, subst, sym}
 use Rattle.hose_graph.specs.declared.command.Reply.TheVariants.{Already, Spent}
 use Rattle.hose_graph.specs.steps.Naming.{NamesPlaces}
-use Rattle.hose_law.specs.History.{last_epoch}
+use Rattle.hose_graph.specs.Limits.{most_epoch}
 use Rattle.hose_law.specs.ReplyKind.{kind_of}
 use Rattle.hose_law.specs.Service.{is_out}
 use Rattle.hose_book.specs.Ledger.{Ledger}
@@ -29,7 +29,7 @@ pub returns-clause-step : goal.returns-clause-step
 returns-clause-step g c = λ epoch history held at.
     let old = c.args.books.now in
     let here = c.epoch-at.ensures.value ∙ ap (λ (l : Ledger). l.book.epoch) c.book.ensures in
-    let left : (g.K.Books.ledger old).book.epoch < last_epoch = omega (arith, c.if-at-eq-MOST_EPOCH.false, here, c.epoch-at.ensures.bound) in
+    let left : (g.K.Books.ledger old).book.epoch < most_epoch = omega (arith, c.if-at-eq-MOST_EPOCH.false, here, c.epoch-at.ensures.bound) in
     let out = ap (λ (l : Ledger). is_out l.book.out c.args.link) (sym c.book-2.ensures) ∙ sym c.is_out-out.ensures in
     service_step g.K.Books old c.enter.new.books c.args.down c.args.link c.args.entry c.requires.orders epoch history held c.enter.result at
     (done_answers g.K.Books old c.enter.new.books c.args.down c.args.link c.args.entry c.requires.orders c.epoch-at.result here left (c.requires.link, out ∙ other_truth _ _ c.if-out-down.false) c.done.result c.enter.result c.done.ensures c.enter.ensures.goes c.enter.ensures.told)

@@ -16,10 +16,10 @@ returns-in_err-table-clause-reads_on g c = ReadsOn-start g.S.Source c.args.lines
 pub returns-clause-talks : goal.returns-clause-talks
 returns-clause-talks g c =
     let book = c.in_ok-book.ensures.value in
-    let network = ap (λ (p : Plain). p.book.network) c.new-2.ensures.books ∙ ap (λ (l : Ledger). l.network) book in
-    let talks = c.answer_all.ensures.talks [] tt (c.new-2.ensures.fits 0 [] (ap (λ (l : Ledger). l.book) book)) in
+    let network = ap (λ (p : Plain). p.book.network) c.with_rows.ensures.books ∙ ap (λ (l : Ledger). l.network) book in
+    let talks = c.answer_all.ensures.talks [] tt (c.with_rows.ensures.fits 0 [] (ap (λ (l : Ledger). l.book) book)) in
     inr (
-      c.new-2.result.books,
+      c.with_rows.result.books,
       c.answer_all.new.clerk.core.books,
-      subst (λ (n : Network). Talks (talk_tellings g.S.Source g.O.Sink plain_books) n [] (talk c.args.lines.now c.args.output.now c.new-2.result.books) (talk c.answer_all.new.lines c.answer_all.new.output c.answer_all.new.clerk.core.books) c.answer_all.result) network talks,
+      subst (λ (n : Network). Talks (talk_tellings g.S.Source g.O.Sink plain_books) n [] (talk c.args.lines.now c.args.output.now c.with_rows.result.books) (talk c.answer_all.new.lines c.answer_all.new.output c.answer_all.new.clerk.core.books) c.answer_all.result) network talks,
     )

@@ -11,13 +11,13 @@ use Rattle.hose_offline.proofs.generating.tally_in_memory.Goals as goal
 
 pub tally_orders-requires-clause-asks : goal.tally_orders-requires-clause-asks
 tally_orders-requires-clause-asks c =
-    let network = ap (λ (p : Plain). p.book.network) c.new-core.ensures.books ∙ ap (λ (l : Ledger). l.network) c.in_ok-book.ensures.value in
+    let network = ap (λ (p : Plain). p.book.network) c.with_rows-core.ensures.books ∙ ap (λ (l : Ledger). l.network) c.in_ok-book.ensures.value in
     subst (λ (n : Network). All (λ (order : Order). AsksOf n order.1) c.args.made.script.items) (sym network) c.requires
 
 pub tally_orders-requires-clause-fits : goal.tally_orders-requires-clause-fits
-tally_orders-requires-clause-fits c = c.new-core.ensures.fits 0 [] (ap (λ (l : Ledger). l.book) c.in_ok-book.ensures.value)
+tally_orders-requires-clause-fits c = c.with_rows-core.ensures.fits 0 [] (ap (λ (l : Ledger). l.book) c.in_ok-book.ensures.value)
 
 pub returns-clause-tally : goal.returns-clause-tally
 returns-clause-tally c =
-    let network = ap (λ (p : Plain). p.book.network) c.new-core.ensures.books ∙ ap (λ (l : Ledger). l.network) c.in_ok-book.ensures.value in
+    let network = ap (λ (p : Plain). p.book.network) c.with_rows-core.ensures.books ∙ ap (λ (l : Ledger). l.network) c.in_ok-book.ensures.value in
     subst (λ (n : Network). IfOk c.tally_orders.result (IsTallyOf n c.args.made.script.items)) network c.tally_orders.ensures.tally

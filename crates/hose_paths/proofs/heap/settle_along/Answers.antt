@@ -32,5 +32,5 @@ loop-lowest-preserved c =
       found = c.loop-lowest.invariant.found;
       settled =
           taken_stale c.args.top.now c.requires.network c.args.links.now c.loop-lowest.dist c.in-Some.field-0 (heap_items c.loop-lowest.queue) (heap_items c.pop.new.self) c.in-Some.ensures.permutation c.loop-lowest.invariant.settled
-          (λ now. both_ways c.stands.result c.if-stands.false (c.stands.ensures.1 (ap (entry c.loop-lowest.dist) c.node_in-node.ensures ∙ now ∙ ap Some (sym c.distance_in.ensures))));
+          (λ now. both_ways c.stands.result c.if-stands.false (c.stands.ensures.1 (ap (entry c.loop-lowest.dist) c.node_in-node.ensures ∙ now ∙ ap Some (sym c.distance_in-near.ensures))));
     }

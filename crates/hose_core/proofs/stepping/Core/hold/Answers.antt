@@ -18,8 +18,8 @@ invariant_of-self g c =
     let was = c.self.inside.quotes in
     let customer = c.args.customer.now in
     let made = subst (λ (s : State _). let l = g.K.Books.ledger s.books in IsMadeAt l.network l.book c.args.quote) (sym c.self.view_is) c.requires.made in
-    let one = kept_told ledger (quotes_in was customer) c.hold.ensures.0 c.args.number c.args.quote c.hold.result c.requires.range.0 c.requires.range.1 (made_now ledger c.args.quote made) (c.self.invariant customer) c.hold.ensures.1 in
-    kept_now ledger was c.hold.new.self customer c.hold.ensures.0 c.hold.ensures.2 one c.self.invariant
+    let one = kept_told ledger (quotes_in was customer) c.hold.ensures.0 c.args.number c.args.quote c.hold.result c.requires.range.0 c.requires.range.1 (made_now ledger c.args.quote made) (c.self.invariant.0 customer) c.hold.ensures.1 in
+    (kept_now ledger was c.hold.new.self customer c.hold.ensures.0 c.hold.ensures.2 one c.self.invariant.0, c.self.invariant.1)
 
 pub returns-clause-step : goal.returns-clause-step
 returns-clause-step g c = λ epoch history holdings.
@@ -31,7 +31,7 @@ returns-clause-step g c = λ epoch history holdings.
     let quote = c.args.quote in
     let free : free_number (quotes_in c.self.inside.quotes customer) ≡ Some number = rw (← c.self.view_is) at c.requires.free in
     let made = subst (λ (s : State _). let l = books.ledger s.books in IsMadeAt l.network l.book quote) (sym c.self.view_is) c.requires.made in
-    let most : number ≤ length (quotes_in c.self.inside.quotes customer) = omega (arith, c.requires.range.1, (c.self.invariant customer).numbers) in
+    let most : number ≤ length (quotes_in c.self.inside.quotes customer) = omega (arith, c.requires.range.1, (c.self.invariant.0 customer).numbers) in
     of_fields books fields c.args.self.now new epoch history holdings customer (Quote quote.hose) c.hold.result c.self.view_is
     (λ fits. held_on books fields epoch history holdings customer fits new number quote c.hold.ensures.0 c.hold.result c.requires.range.0 most free made refl c.hold.ensures.1 c.hold.ensures.2)
 

@@ -6,7 +6,7 @@ use Rattle.hose_book.specs.Ledger.{Ledger}
 use Rattle.hose_core.specs.steps.Holding.{State}
 use Rattle.hose_core.specs.steps.Serving.{service_command}
 use Rattle.hose_core.specs.steps.Stepping.{StepsAtEach}
-use Rattle.hose_core.proofs.Earlier.{kept_on}
+use Rattle.hose_core.proofs.Earlier.{kept_on, table_on}
 use Rattle.hose_core.proofs.SteppedOn.{denied_on, keeps_answered, order_keeps, order_memory_on, stays_answered}
 use Rattle.hose_core.proofs.stepping.CoreProvider.operate.Goals as goal
 
@@ -26,7 +26,10 @@ returns-in_default g c =
     (λ epoch history holdings fits. order_memory_on g.K.Books c.args.self.now epoch history holdings customer fits c.args.down c.args.link mine) refl tt
 
 pub invariant_of-self : goal.invariant_of-self
-invariant_of-self g c = λ customer. kept_on (g.K.Books.ledger c.self.inside.books) _ c.service_now.ensures.answered.ledger _ (c.self.invariant customer)
+invariant_of-self g c =
+    let ledger = g.K.Books.ledger c.self.inside.books in
+    let goes = c.service_now.ensures.answered.ledger in
+    (λ customer. kept_on ledger _ goes _ (c.self.invariant.0 customer), table_on ledger _ goes c.self.inside.table c.self.invariant.1)
 
 pub returns : goal.returns
 returns g c =

@@ -7,7 +7,7 @@ use Rattle.hose_law.specs.Quotes.{at_number, with_number}
 use Rattle.hose_law.proofs.Numbers.{some_at}
 use Rattle.hose_core.specs.steps.Holding.{State, quotes_in}
 use Rattle.hose_core.specs.steps.Stepping.{HaveAnswered}
-use Rattle.hose_core.proofs.Earlier.{grounds_since, kept_on}
+use Rattle.hose_core.proofs.Earlier.{grounds_since, kept_on, table_on}
 use Rattle.hose_core.proofs.HeldQuotes.{kept_now, kept_with, some_alike}
 use Rattle.hose_core.proofs.SteppedOn.{no_quote_on, of_fields, stays_answered, take_memory_on, taken_on}
 use Rattle.hose_core.proofs.stepping.CoreProvider.take.Goals as goal
@@ -22,7 +22,7 @@ returns-in_default g c =
     (λ epoch history holdings fits. no_quote_on g.K.Books c.args.self.now epoch history holdings customer fits number c.epoch-at.result at none) refl tt
 
 pub claim_take-requires : goal.claim_take-requires
-claim_take-requires g c = ((c.self.invariant c.args.customer.now).made c.args.number c.in-Some.quote.now c.in-Some.ensures.some).made.ranges
+claim_take-requires g c = ((c.self.invariant.0 c.args.customer.now).made c.args.number c.in-Some.quote.now c.in-Some.ensures.some).made.ranges
 
 pub returns-in_default-claim_take : goal.returns-in_default-claim_take
 returns-in_default-claim_take g c =
@@ -34,19 +34,19 @@ returns-in_default-claim_take g c =
 
 pub take_now-reply-requires-clause-made : goal.take_now-reply-requires-clause-made
 take_now-reply-requires-clause-made g c =
-    let before = (c.self.invariant c.args.customer.now).made c.args.number c.in-Some.quote.now c.in-Some.ensures.some in
+    let before = (c.self.invariant.0 c.args.customer.now).made c.args.number c.in-Some.quote.now c.in-Some.ensures.some in
     (before.book, before.made)
 
 pub take_now-reply-requires-clause-since : goal.take_now-reply-requires-clause-since
 take_now-reply-requires-clause-since g c =
     let quote = c.in-Some.quote.now in
-    grounds_since (g.K.Books.ledger c.self.inside.books) quote ((c.self.invariant c.args.customer.now).made c.args.number quote c.in-Some.ensures.some)
+    grounds_since (g.K.Books.ledger c.self.inside.books) quote ((c.self.invariant.0 c.args.customer.now).made c.args.number quote c.in-Some.ensures.some)
 
 pub clear-requires : goal.clear-requires
 clear-requires g c =
     let quotes = quotes_in c.self.inside.quotes c.args.customer.now in
     let range = some_at quotes c.args.number c.in-Some.quote.now c.in-Some.ensures.some in
-    let most : c.args.number ≤ MOST_QUOTES = omega (arith, range.1, (c.self.invariant c.args.customer.now).numbers) in
+    let most : c.args.number ≤ MOST_QUOTES = omega (arith, range.1, (c.self.invariant.0 c.args.customer.now).numbers) in
     (range.0, most)
 
 pub invariant_of-self : goal.invariant_of-self
@@ -56,10 +56,11 @@ invariant_of-self g c =
     let customer = c.args.customer.now in
     let quotes = quotes_in was customer in
     let range = some_at quotes c.args.number c.in-Some.quote.now c.in-Some.ensures.some in
-    let most : c.args.number ≤ MOST_QUOTES = omega (arith, range.1, (c.self.invariant customer).numbers) in
-    let one = kept_with ledger quotes c.args.number None range.0 most tt (c.self.invariant customer) in
-    let kept = kept_now ledger was c.clear.new.self customer (with_number quotes c.args.number None) c.clear.ensures one c.self.invariant in
-    λ name. kept_on ledger _ c.take_now-reply.ensures.answered.ledger (quotes_in c.clear.new.self name) (kept name)
+    let most : c.args.number ≤ MOST_QUOTES = omega (arith, range.1, (c.self.invariant.0 customer).numbers) in
+    let one = kept_with ledger quotes c.args.number None range.0 most tt (c.self.invariant.0 customer) in
+    let kept = kept_now ledger was c.clear.new.self customer (with_number quotes c.args.number None) c.clear.ensures one c.self.invariant.0 in
+    let goes = c.take_now-reply.ensures.answered.ledger in
+    (λ name. kept_on ledger _ goes (quotes_in c.clear.new.self name) (kept name), table_on ledger _ goes c.self.inside.table c.self.invariant.1)
 
 pub returns : goal.returns
 returns g c =

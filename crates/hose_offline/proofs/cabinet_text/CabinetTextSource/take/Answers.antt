@@ -3,7 +3,7 @@ use Rattle.std.proofs.lemmas.List.{length-take}
 use Rattle.std.proofs.lemmas.Result.{err_from_is_err_and}
 use Rattle.hose_io.specs.Stream.{Gives, IsAtEnd}
 use Rattle.hose_offline.specs.CabinetText.{text_stream}
-use Rattle.hose_offline.specs.steps.CabinetText.{TextState, text_at}
+use Rattle.hose_offline.specs.steps.CabinetText.{TextState, text_left}
 use Rattle.hose_offline.proofs.Texts.{HasAsked-none, asked_once, at_end, at_limit, gives_text, read_before, same_stream, texts_read}
 use Rattle.hose_offline.proofs.cabinet_text.CabinetTextSource.take.Goals as goal
 
@@ -22,7 +22,7 @@ returns-in_err-count-clause-taken g c =
     let place = inside.cabinet.now in
     let only = texts_read g.C.Cabinet place c.text.new.self c.text.result c.text.ensures.texts c.text.ensures.disks c.text.ensures.call in
     let told = err_from_is_err_and c.from_residual.result c.from_residual.ensures.1 in
-    rw told.1 (subst (λ (r : TextState g.row.C.Denot). text_stream g.C.Cabinet c.text.new.self inside.name.now inside.from ≡ text_at g.C.Cabinet r) c.self.view_is (same_stream g.C.Cabinet place c.text.new.self inside.name.now inside.from only))
+    rw told.1 (subst (λ (r : TextState g.row.C.Denot). text_stream g.C.Cabinet c.text.new.self inside.name.now inside.from ≡ text_left g.C.Cabinet r) c.self.view_is (same_stream g.C.Cabinet place c.text.new.self inside.name.now inside.from only))
 
 pub returns-in_err-count-clause-went : goal.returns-in_err-count-clause-went
 returns-in_err-count-clause-went g c =
@@ -45,7 +45,7 @@ returns-clause-taken g c =
     let read = read_before inside.from count c.text.new.into (drop c.min-room.result c.args.into.now) tells found text.room text.read in
     let gives = gives_text inside.from count got tells found read (omega (arith, text.room, c.min-room.ensures, length-take c.min-room.result c.args.into.now)) in
     let only = texts_read g.C.Cabinet place c.text.new.self c.text.result c.text.ensures.texts c.text.ensures.disks c.text.ensures.call in
-    subst (λ (r : TextState g.row.C.Denot). Gives (text_at g.C.Cabinet r) (text_stream g.C.Cabinet c.text.new.self name (inside.from + count)) (take count got)) c.self.view_is
+    subst (λ (r : TextState g.row.C.Denot). Gives (text_left g.C.Cabinet r) (text_stream g.C.Cabinet c.text.new.self name (inside.from + count)) (take count got)) c.self.view_is
     (rw (same_stream g.C.Cabinet place c.text.new.self name (inside.from + count) only) gives)
 
 pub returns-clause-none_only_at_end : goal.returns-clause-none_only_at_end
@@ -58,4 +58,4 @@ returns-clause-none_only_at_end g c = λ none.
     let tells = (g.C.Cabinet.frame place).tells in
     let found = g.C.Cabinet.text place name in
     let none_read : count ≡ 0 = cc none in
-    subst (λ (r : TextState g.row.C.Denot). IsAtEnd (text_at g.C.Cabinet r)) c.self.view_is (at_end inside.from count c.text.new.into tells found text.read none_read)
+    subst (λ (r : TextState g.row.C.Denot). IsAtEnd (text_left g.C.Cabinet r)) c.self.view_is (at_end inside.from count c.text.new.into tells found text.read none_read)

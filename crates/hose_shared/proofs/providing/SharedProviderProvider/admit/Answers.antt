@@ -1,5 +1,5 @@
 use Rattle.std.proofs.Common.{◌≡◌, Some, refl, rules}
-use Rattle.hose_core.specs.steps.Bound.{admission_of}
+use Rattle.hose_core.specs.steps.Bound.{admission_command}
 use Rattle.hose_shared.proofs.Provided.{admission_keeps, keeps_holding}
 use Rattle.hose_shared.proofs.providing.SharedProviderProvider.admit.Goals as goal
 
@@ -13,6 +13,6 @@ returns g c =
       after = c.admit_bound-reply.result.1;
       was = was;
       is = refl;
-      steps = λ held are. keeps_holding network customer held (admission_of c.args.asked.known c.args.asked.hose) c.admit_bound-reply.result.0 c.in-Some.pass c.admit_bound-reply.result.1 c.args.self.now.quotes (admission_keeps c.args.asked.known c.args.asked.hose) (c.admit_bound-reply.ensures.steps held) are;
+      steps = λ held are. keeps_holding network customer held (admission_command c.args.asked.known c.args.asked.hose) c.admit_bound-reply.result.0 c.in-Some.pass c.admit_bound-reply.result.1 c.args.self.now.quotes (admission_keeps c.args.asked.known c.args.asked.hose) (c.admit_bound-reply.ensures.steps held) are;
       names = c.admit_bound-reply.ensures.names;
     }

@@ -1,7 +1,7 @@
 use Rattle.std.proofs.Common.{◌∙◌, ℕ, List, Option, Err, Ok, ap, subst}
 use Rattle.hose_graph.specs.Hose.{Endpoint}
 use Rattle.hose_law.specs.History.{book_of}
-use Rattle.hose_core.specs.steps.Bound.{admission_of}
+use Rattle.hose_core.specs.steps.Bound.{admission_command}
 use Rattle.hose_core.specs.steps.Planning.{IsPlannedFor}
 use Rattle.hose_core.specs.declared.admitting.Admission.{Admission}
 use Rattle.hose_shared.specs.steps.Along.{IsNotTried, IsTried, StepsAlong}
@@ -60,9 +60,9 @@ returns-in-Ok-tried-clause-steps g c = λ held.
     let reply = c.in-Ok-tried.reply in
     let planned : IsPlannedFor network (book_of 0 seen.seen) c.loop.asked.hose quote = rw c.in-Ok.is at c.plan-planned.ensures.planned in
     let tried : IsTried network customer known quote.hose seen later (Ok reply) = rw c.in-Ok-tried.is at c.take_planned-tried.ensures in
-    let along = along_on network customer held (admission_of known quote.hose) reply c.args.pass seen later (more_on c.args.pass c.loop.pass seen c.loop.invariant.1 c.plan-planned.ensures.more) (tried.0 held) in
-    let here = subst (λ (hose : List Endpoint). StepsAlong network customer held (admission_of known hose) reply c.args.pass later) planned.of along in
-    subst (λ (a : Admission). StepsAlong network customer held (admission_of a.known a.hose) reply c.args.pass later) c.loop.invariant.0 here
+    let along = along_on network customer held (admission_command known quote.hose) reply c.args.pass seen later (more_on c.args.pass c.loop.pass seen c.loop.invariant.1 c.plan-planned.ensures.more) (tried.0 held) in
+    let here = subst (λ (hose : List Endpoint). StepsAlong network customer held (admission_command known hose) reply c.args.pass later) planned.of along in
+    subst (λ (a : Admission). StepsAlong network customer held (admission_command a.known a.hose) reply c.args.pass later) c.loop.invariant.0 here
 
 pub returns-clause-steps : goal.returns-clause-steps
 returns-clause-steps g c = λ held.
@@ -71,5 +71,5 @@ returns-clause-steps g c = λ held.
     let asked = c.loop.asked in
     let answer = c.admit_in_turn.result.0 in
     let later = c.admit_in_turn.result.1 in
-    subst (λ (a : Admission). StepsAlong network customer held (admission_of a.known a.hose) answer c.args.pass later) c.loop.invariant.0
-    (along_on network customer held (admission_of asked.known asked.hose) answer c.args.pass c.loop.pass later c.loop.invariant.1 (c.admit_in_turn.ensures.steps held))
+    subst (λ (a : Admission). StepsAlong network customer held (admission_command a.known a.hose) answer c.args.pass later) c.loop.invariant.0
+    (along_on network customer held (admission_command asked.known asked.hose) answer c.args.pass c.loop.pass later c.loop.invariant.1 (c.admit_in_turn.ensures.steps held))

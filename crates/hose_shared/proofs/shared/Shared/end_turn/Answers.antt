@@ -20,11 +20,11 @@ pass_on-requires-clause-stands g c = let turn = c.requires.answers.4 in one_stan
 pub returns-in-None : goal.returns-in-None
 returns-in-None g c = λ customer held command answer turn.
     none_steps c.requires.begun turn c.args.self.now.network
-    (subst IsNetwork (ap (λ (s : SharedBook). s.network) c.self.view_is) c.self.invariant) c.requires.network c.unlock.result c.unlock.ensures.places
+    (subst IsNetwork (ap (λ (s : SharedBook). s.network) c.self.view_is) c.self.invariant.0) c.requires.network c.unlock.result c.unlock.ensures.places
     (ap (λ (e : _). option_map (λ (one : _). one.value) e) c.in-None.is) c.unlock.ensures.passed
 
 pub returns : goal.returns
 returns g c = λ customer held command answer turn.
     one_steps c.requires.begun turn c.args.self.now.network
-    (subst IsNetwork (ap (λ (s : SharedBook). s.network) c.self.view_is) c.self.invariant) c.requires.network c.pass_on.result c.pass_on.ensures.places
+    (subst IsNetwork (ap (λ (s : SharedBook). s.network) c.self.view_is) c.self.invariant.0) c.requires.network c.pass_on.result c.pass_on.ensures.places
     c.in-Some.entry.value (ap (λ (e : _). option_map (λ (one : _). one.value) e) c.in-Some.is) c.pass_on.ensures.passed

@@ -6,7 +6,7 @@ use Rattle.hose_graph.specs.declared.command.Reply.TheVariants.{Memory}
 use Rattle.hose_law.specs.History.{book_of}
 use Rattle.hose_law.specs.Quotes.{HeldQuote, none_held}
 use Rattle.hose_law.specs.Tracks.{Tracks}
-use Rattle.hose_core.specs.steps.Bound.{admission_of}
+use Rattle.hose_core.specs.steps.Bound.{admission_command}
 use Rattle.hose_core.specs.steps.Holding.{IsMadeAt}
 use Rattle.hose_core.specs.steps.Planning.{AdmitsAtOnce}
 use Rattle.hose_store.specs.steps.Commit.{store_books}
@@ -59,8 +59,8 @@ returns-in-Some g c =
     let reply = c.in-Some.reply in
     let entry = c.in-Ok.claim.entry in
     let admits : AdmitsAtOnce (store_books g.D.Disk) c.value_mut.result.now.store c.admit_claimed_now-settled.new.books customer (record { known = known; hose = hose }) reply (Some entry) = rw c.in-Some.is at c.admit_claimed_now-settled.ensures.admits in (
-      λ held. along_of network customer held (admission_of known hose) reply c.args.pass (holder c.begin_turn-held.result.0) c.end_turn-pass.result begun.more
-          (c.end_turn-pass.ensures customer held (admission_of known hose) reply (claimed_turn begun.begins same _ customer known hose entry (ap Some (c.of-entry.ensures ∙ c.entry.ensures)) held reply admits)),
+      λ held. along_of network customer held (admission_command known hose) reply c.args.pass (holder c.begin_turn-held.result.0) c.end_turn-pass.result begun.more
+          (c.end_turn-pass.ensures customer held (admission_command known hose) reply (claimed_turn begun.begins same _ customer known hose entry (ap Some (c.of-entry.ensures ∙ c.entry.ensures)) held reply admits)),
       subst (λ (n : Network). NamesPlaces n reply) (ap (λ (s : _). s.ledger.network) same ∙ begun.network) admits.answered.names,
     )
 

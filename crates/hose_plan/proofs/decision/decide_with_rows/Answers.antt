@@ -6,7 +6,7 @@ use Rattle.hose_law.proofs.CanonicalPlans.{planned_sound}
 use Rattle.hose_plan.specs.steps.Planning.{allowed_links, room_beside}
 use Rattle.hose_plan.proofs.Deciding.{lowest_is_first, none_allowed, planned, planned_cheapest, refused, reserved_within}
 use Rattle.hose_plan.proofs.EqualGrounds.{places_of}
-use Rattle.hose_plan.proofs.decision.decide.Goals as goal
+use Rattle.hose_plan.proofs.decision.decide_with_rows.Goals as goal
 
 pub allowed_plan-requires-clause-places : goal.allowed_plan-requires-clause-places
 allowed_plan-requires-clause-places g c =
@@ -23,17 +23,17 @@ reached-requires-clause-places g c =
 pub cost-requires-clause-links : goal.cost-requires-clause-links
 cost-requires-clause-links g c =
     let room = room_beside c.args.top.now c.args.service.now c.args.loads.now in
-    (reserved_within c.args.top.now c.plan.ensures.network _ c.args.hose.now c.in-Some.amounts c.plan.ensures.hose (rw c.in-Some.is at (c.in_ok-amounts.ensures room c.in_ok-grounds.ensures))).0
+    (reserved_within c.args.top.now c.first_plan.ensures.network _ c.args.hose.now c.in-Some.amounts c.first_plan.ensures.hose (rw c.in-Some.is at (c.in_ok-amounts.ensures room c.in_ok-grounds.ensures))).0
 
 pub cost-requires-clause-few : goal.cost-requires-clause-few
 cost-requires-clause-few g c =
     let room = room_beside c.args.top.now c.args.service.now c.args.loads.now in
-    (reserved_within c.args.top.now c.plan.ensures.network _ c.args.hose.now c.in-Some.amounts c.plan.ensures.hose (rw c.in-Some.is at (c.in_ok-amounts.ensures room c.in_ok-grounds.ensures))).1
+    (reserved_within c.args.top.now c.first_plan.ensures.network _ c.args.hose.now c.in-Some.amounts c.first_plan.ensures.hose (rw c.in-Some.is at (c.in_ok-amounts.ensures room c.in_ok-grounds.ensures))).1
 
 pub cost-requires-clause-amounts : goal.cost-requires-clause-amounts
 cost-requires-clause-amounts g c =
     let room = room_beside c.args.top.now c.args.service.now c.args.loads.now in
-    (reserved_within c.args.top.now c.plan.ensures.network _ c.args.hose.now c.in-Some.amounts c.plan.ensures.hose (rw c.in-Some.is at (c.in_ok-amounts.ensures room c.in_ok-grounds.ensures))).2
+    (reserved_within c.args.top.now c.first_plan.ensures.network _ c.args.hose.now c.in-Some.amounts c.first_plan.ensures.hose (rw c.in-Some.is at (c.in_ok-amounts.ensures room c.in_ok-grounds.ensures))).2
 
 pub returns-in_default-clause-decision : goal.returns-in_default-clause-decision
 returns-in_default-clause-decision g c =
@@ -62,11 +62,11 @@ pub returns-clause-sound : goal.returns-clause-sound
 returns-clause-sound g c =
     let network = c.args.top.now in
     let room = room_beside network c.args.service.now c.args.loads.now in
-    planned_sound network c.plan.ensures.network room c.args.hose.now (allowed_links room c.in_ok-grounds.grounds) c.in-Some.amounts c.plan.ensures.hose (returns-clause-decision g c).0
+    planned_sound network c.first_plan.ensures.network room c.args.hose.now (allowed_links room c.in_ok-grounds.grounds) c.in-Some.amounts c.first_plan.ensures.hose (returns-clause-decision g c).0
 
 pub returns-clause-cheapest : goal.returns-clause-cheapest
 returns-clause-cheapest g c =
     let network = c.args.top.now in
     let room = room_beside network c.args.service.now c.args.loads.now in
     let is = returns-clause-decision g c in
-    planned_cheapest network c.plan.ensures.network room c.args.hose.now (allowed_links room c.in_ok-grounds.grounds) c.in-Some.amounts c.cost.result is.0 is.1
+    planned_cheapest network c.first_plan.ensures.network room c.args.hose.now (allowed_links room c.in_ok-grounds.grounds) c.in-Some.amounts c.cost.result is.0 is.1

@@ -3,7 +3,7 @@ use Rattle.hose_book.specs.Ledger.{Ledger}
 use Rattle.hose_core.specs.steps.Bound.{HasNewest, TellsNewest}
 use Rattle.hose_core.specs.steps.Planning.{AdmitsAtOnce, IsNotPlanned, IsPlannedFor}
 use Rattle.hose_core.proofs.Decided.{newest_admits, unplanned_admits}
-use Rattle.hose_core.proofs.admitting.admit_now.Goals as goal
+use Rattle.hose_core.proofs.admitting.admit_with_rows.Goals as goal
 
 pub returns-in-Some : goal.returns-in-Some
 returns-in-Some g c =
