@@ -8,8 +8,9 @@ use Rattle.hose_offline.specs.Auditing.{PricedNames}
 use Rattle.hosed.specs.Offline.{Does, Offer, OfflineOutcome}
 use Rattle.hosed.specs.ServeOutcome.{ServeOutcome}
 use Rattle.hosed.specs.ServerDoor.{DoorSeen, DoorTask}
-use Rattle.hosed.specs.ProgramWords.{AreWords, AreWrongWords, IsFirstWrong, Task, Verb}
-use Rattle.hosed.specs.ProgramWords.Verb.{prove}
+use Rattle.hosed.specs.ProgramWords.{AreWords, AreWrongWords, IsFirstWrong, Task}
+use Rattle.hosed.specs.declared.verb.ProgramVerb.{ProgramVerb}
+use Rattle.hosed.specs.declared.verb.ProgramVerb.TheVariants as command
 use Rattle.hosed.proofs.Commands.{none_wrong, of_each}
 
 -- words of which one is the first that is not allowed are wrong
@@ -18,7 +19,7 @@ are_wrong names words number wrong = λ verb task are. none_wrong names words ve
 
 module _ {I O C E : Type 0} (tells : Tellings I O C E) (offer : Offer) (before after : Parts I O C) (status : ℕ) (words : List (List ℕ)) where
   -- the command did what its task says, and does not end with the status of wrong words
-  pub right_words : (verb : Verb) (task : Task verb) → AreWords offer.pricing.names words verb task → status ≢ 1 → Does tells offer before after status verb task → OfflineOutcome tells offer before after status words
+  pub right_words : (verb : ProgramVerb) (task : Task verb) → AreWords offer.pricing.names words verb task → status ≢ 1 → Does tells offer before after status verb task → OfflineOutcome tells offer before after status words
   right_words verb task are not_1 done = record {
     words_at_1 = λ none. ((λ one. absurd (not_1 one)), λ wrong. absurd (wrong verb task are));
     wrong_words = λ wrong. absurd (wrong verb task are);
@@ -26,11 +27,11 @@ module _ {I O C E : Type 0} (tells : Tellings I O C E) (offer : Offer) (before a
   }
 
   -- a proof may end with it
-  pub proof_words : (task : Task prove) → AreWords offer.pricing.names words prove task → Does tells offer before after status prove task → OfflineOutcome tells offer before after status words
+  pub proof_words : (task : Task command.Prove) → AreWords offer.pricing.names words command.Prove task → Does tells offer before after status command.Prove task → OfflineOutcome tells offer before after status words
   proof_words task are done = record {
     words_at_1 = λ none. absurd (none task are);
-    wrong_words = λ wrong. absurd (wrong prove task are);
-    does = of_each offer.pricing.names words (Does tells offer before after status) prove task are done;
+    wrong_words = λ wrong. absurd (wrong command.Prove task are);
+    does = of_each offer.pricing.names words (Does tells offer before after status) command.Prove task are done;
   }
 
   -- and wrong words do, and take nothing

@@ -20,7 +20,7 @@ use Rattle.hose_offline.specs.declared.fault.Fault.TheVariants.{Cabinet, Door, M
 use Rattle.hose_offline.proofs.Audited.{named_not_1, named_not_read, named_read, no_store, no_topology, told_status}
 use Rattle.hose_offline.proofs.Outcomes.{clash}
 use Rattle.hosed.specs.ServeOutcome.{EndsServed, IsServed, ServeOutcome, first_failed}
-use Rattle.hosed.specs.ServerDoor.{DoorTask, IsServedAlong, OutputDoor, OutsideDoor, ServesByJournal, Speaks, spoken}
+use Rattle.hosed.specs.ServerDoor.{DoorTask, AreServedAlongPass, OutputDoor, OutsideDoor, ServesByJournal, Speaks, spoken}
 use Rattle.hosed.specs.steps.ServerDoor.{ServesConnections}
 use Rattle.hosed.specs.declared.server.ServerEnd.{ServerEnd}
 use Rattle.hosed.proofs.Connections.{served_before}
@@ -72,7 +72,7 @@ module _ {I O C E : Type 0} (tells : Tellings I O C E) (names : PricedNames) (ta
     middle = record (spoken after) { output = mid }
 
     abbrev Serves : Result ServerEnd Fault → Type 0
-    Serves one = ServesByJournal tells names.journal before.others.cabinet after.others.cabinet network (IsServedAlong task.connections before.door after.door) one
+    Serves one = ServesByJournal tells names.journal before.others.cabinet after.others.cabinet network (AreServedAlongPass task.connections before.door after.door) one
 
     -- no store was opened
     not_opened : (why : Fault) → IsNotServed tells.cabinet tells.disk names.journal read after.others.cabinet network (Err why) → middle ≡ spoken before → EndsServed tells.sink mid after.others.output status (Err why) → ServeOutcome tells names task before after status
@@ -86,7 +86,7 @@ module _ {I O C E : Type 0} (tells : Tellings I O C E) (names : PricedNames) (ta
         at another is out = out
 
     -- one was
-    opened : (came : Result ServerEnd Fault) → ServesByJournal tells names.journal read after.others.cabinet network (IsServedAlong task.connections before.door after.door) came → Speaks tells.sink task.port (spoken before) middle came → EndsServed tells.sink mid after.others.output status came
+    opened : (came : Result ServerEnd Fault) → ServesByJournal tells names.journal read after.others.cabinet network (AreServedAlongPass task.connections before.door after.door) came → Speaks tells.sink task.port (spoken before) middle came → EndsServed tells.sink mid after.others.output status came
         → ServeOutcome tells names task before after status
     opened came after_read speaks ends =
         named_read tells names before.others after.others purpose read network status reads same_absent same_input (record { mid = mid; came = came; serves = serves; speaks = speaks; ends = ends })

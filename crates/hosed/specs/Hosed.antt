@@ -6,10 +6,18 @@ use Rattle.hose_offline.specs.Fault.{last_line}
 use Rattle.hose_offline.specs.Parts.{Tellings}
 use Rattle.hosed.specs.Offline.{Offer, OfflineOutcome}
 use Rattle.hosed.specs.ProgramWords.{AreWords, AreWrongWords, AsksToServe, IsFirstWrong, Task}
-use Rattle.hosed.specs.ProgramWords.Verb.{serve}
+use Rattle.hosed.specs.declared.verb.ProgramVerb.TheVariants as command
 use Rattle.hosed.specs.ServeOutcome.{ServeOutcome}
 use Rattle.hosed.specs.ServerDoor.{OutsideDoor}
 use Rattle.hose_offline.specs.declared.fault.Fault.TheVariants.{Words}
+
+-- A server did what its task says, at the prices of the tariff that is chosen.
+abbrev pub Serves : {I O C E : Type 0} → Tellings I O C E → Offer → OutsideDoor I O C
+    → OutsideDoor I O C → ℕ → Task command.Serve → Type 0
+Serves tells offer before after status
+    (tariff, topology, (journal, (port, (connections, (workers, _))))) =
+    ServeOutcome tells (priced_names (offer.prices tariff) topology journal)
+    (record { port = port; connections = connections }) before after status
 
 -- Words that do not begin with `serve` come to what they come to for every command that waits for
 -- nobody, and nothing is done to the door. Of those that do, wrong ones end with the status 1 and
@@ -26,6 +34,6 @@ pub record HosedOutcome {I O C E : Type 0} (tells : Tellings I O C E) (offer : O
       × (after.others.cabinet ≡ before.others.cabinet) × (after.door ≡ before.door)
       × ((word : ℕ) × IsFirstWrong offer.pricing.names words word
       × IsOut tells.sink before.others.output after.others.output (last_line (Words word)))
-  pub serves : (task : Task serve) → AreWords offer.pricing.names words serve task
-      → ServeOutcome tells (priced_names (offer.prices task.tariff) task.topology task.journal)
-      (record { port = task.port; connections = task.connections }) before after status
+  pub serves : (task : Task command.Serve)
+      → AreWords offer.pricing.names words command.Serve task
+      → Serves tells offer before after status task

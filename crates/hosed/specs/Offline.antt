@@ -1,5 +1,5 @@
 -- What the program's words come to, for every command that waits for nobody.
-use Rattle.std.specs.Prelude.{◌≡◌, ◌↔◌, ℕ, List, Option, ⊤}
+use Rattle.std.specs.Prelude.{◌≡◌, ◌↔◌, ℕ, List, Bool, Option, ⊤}
 use Rattle.hose_graph.specs.Network.{Network}
 use Rattle.hose_offline.specs.AuditOutcome.{AuditOutcome}
 use Rattle.hose_offline.specs.Auditing.{priced_names}
@@ -16,8 +16,9 @@ use Rattle.hose_offline.specs.ProveOutcome.{ProveOutcome, ends_from}
 use Rattle.hose_offline.specs.RunOutcome.{RunOutcome}
 use Rattle.hose_offline.specs.ShipOutcome.{ShipOutcome}
 use Rattle.hose_offline.specs.declared.fault.Fault.TheVariants.{Words}
-use Rattle.hosed.specs.ProgramWords.{AreWords, AreWrongWords, IsFirstWrong, MoveTask, Task, Verb, costs_at, first_end}
-use Rattle.hosed.specs.ProgramWords.Verb.{audit, check, follow, generate, move, price, prove, run, serve, ship}
+use Rattle.hosed.specs.ProgramWords.{AreWords, AreWrongWords, IsFirstWrong, Task, costs_at, first_end}
+use Rattle.hosed.specs.declared.verb.ProgramVerb.{ProgramVerb}
+use Rattle.hosed.specs.declared.verb.ProgramVerb.TheVariants as command
 
 -- ---- the program's tariffs
 
@@ -35,17 +36,15 @@ offer_of prices name base per tariffs = record {
   pricing = pricing_of prices name base per tariffs;
 }
 
--- what a move names, at such prices
-abbrev pub moved_by : (Network → Network → Type 0) → MoveTask → MoveNames
-moved_by prices task = record {
+-- what a move names, at such prices: whether the live VPNs alone are moved, a topology and a
+-- journal of it, and a new topology and a new journal
+abbrev pub moved_by : (Network → Network → Type 0) → Bool → List ℕ → List ℕ → List ℕ → List ℕ
+    → MoveNames
+moved_by prices live topology journal new_topology new_journal = record {
   prices = prices;
-  journals = record {
-    scope = scope_of task.live;
-    old = task.journal;
-    new = task.new_journal;
-  };
-  topology = task.topology;
-  new_topology = task.new_topology;
+  journals = record { scope = scope_of live; old = journal; new = new_journal };
+  topology = topology;
+  new_topology = new_topology;
 }
 
 -- ---- what comes of a command
@@ -55,32 +54,39 @@ module _ {I O C E : Type 0} (tells : Tellings I O C E) (offer : Offer)
   -- The command did what its task says, at the prices of the tariff that is chosen; sheets of
   -- prices are made of a network under all tariffs. Nothing is taken of the input but by a run, a
   -- check, a following and a sheet of prices. A server is none of these commands.
-  abbrev pub Does : (verb : Verb) → Task verb → Type 0
-  Does run task = RunOutcome tells (offer.prices task.tariff) task.journal before after status
-  Does audit task = AuditOutcome tells (priced_names (offer.prices task.tariff) task.topology
-      task.journal) before after status
-  Does generate task = GenOutcome tells task before after status
-  Does prove task = ProveOutcome tells (offer.prices task.tariff) task.topology
-      (ends_from task.ends (first_end task.tariff)) before after status
-  Does check task = CheckOutcome tells (offer.prices task.tariff) task.topology before after status
-  Does price task = PriceOutcome tells offer.pricing task.topology before after status
-  Does ship task = ShipOutcome tells (priced_names (offer.prices task.tariff) task.topology
-      task.journal) task.from before after status
-  Does follow task = FollowOutcome tells (priced_names (offer.prices task.tariff) task.topology
-      task.journal) before after status
-  Does move task =
-      MoveOutcome tells (moved_by (offer.prices task.tariff) task) before after status
-  Does serve task = ⊤
+  abbrev pub Does : (verb : ProgramVerb) → Task verb → Type 0
+  Does command.Run (tariff, journal) =
+      RunOutcome tells (offer.prices tariff) journal before after status
+  Does command.Audit (tariff, topology, (journal, _)) =
+      AuditOutcome tells (priced_names (offer.prices tariff) topology journal) before after status
+  Does command.Generate (seed, (nodes, (links, (hoses, _)))) = GenOutcome tells
+      (record { seed = seed; nodes = nodes; links = links; hoses = hoses }) before after status
+  Does command.Prove (tariff, topology, ends) = ProveOutcome tells (offer.prices tariff) topology
+      (ends_from ends (first_end tariff)) before after status
+  Does command.Check (tariff, topology, _) =
+      CheckOutcome tells (offer.prices tariff) topology before after status
+  Does command.Price (_, topology, _) =
+      PriceOutcome tells offer.pricing topology before after status
+  Does command.Ship (tariff, topology, (journal, (from, _))) = ShipOutcome tells
+      (priced_names (offer.prices tariff) topology journal) from before after status
+  Does command.Follow (tariff, topology, (journal, _)) =
+      FollowOutcome tells (priced_names (offer.prices tariff) topology journal) before after status
+  Does command.Move ((tariff, live), topology, (journal, (new_topology, (new_journal, _)))) =
+      MoveOutcome tells
+      (moved_by (offer.prices tariff) live topology journal new_topology new_journal)
+      before after status
+  Does command.Serve task = ⊤
 
   -- Words that are wrong end with the status 1 and take nothing of the input and of the cabinet;
   -- the last line tells the first of them that is not allowed. Other words do what their command
   -- says. Of the other commands `prove` alone can end with the status 1, and says itself where.
   pub record OfflineOutcome (words : List (List ℕ)) : Type 0 where
-    pub words_at_1 : ((task : Task prove) → ¬ AreWords offer.pricing.names words prove task)
+    pub words_at_1 : ((task : Task command.Prove)
+        → ¬ AreWords offer.pricing.names words command.Prove task)
         → (status ≡ 1) ↔ AreWrongWords offer.pricing.names words
     pub wrong_words : AreWrongWords offer.pricing.names words → (after.input ≡ before.input)
         × (after.cabinet ≡ before.cabinet)
         × ((word : ℕ) × IsFirstWrong offer.pricing.names words word
         × IsOut tells.sink before.output after.output (last_line (Words word)))
-    pub does : (verb : Verb) (task : Task verb) → AreWords offer.pricing.names words verb task
-        → Does verb task
+    pub does : (verb : ProgramVerb) (task : Task verb)
+        → AreWords offer.pricing.names words verb task → Does verb task

@@ -1,16 +1,18 @@
 -- The words that the program is run with.
-use Rattle.std.specs.Prelude.{◌≡◌, ◌≢◌, ℕ, ◌-◌, ◌<◌, ◌≤◌, List, [], ◌∷◌, ◌++◌, codes, decimal, get_or, length, Bool, true, false, Option, MatchOption, None, Some, suc, zero, ⊤}
-use Rattle.hose_words.specs.Form.{Fits64, Form, IsWithin, TellsNumber, branch, finish, grammar_of, maybe, number, place}
+use Rattle.std.specs.Prelude.{◌≡◌, ◌≢◌, ◌⊎◌, ℕ, ◌-◌, ◌^◌, ◌<◌, ◌≤◌, List, [], ◌∷◌, ◌++◌, codes, decimal, get_or, length, Bool, true, false, Option, MatchOption, None, Some, suc, zero, ⊤}
+use Rattle.std.specs.Str.{bytes_eq}
+use Rattle.hose_words.specs.Form.{Fits64, Form, IsWithin, branch, finish, grammar_of, maybe, place}
 use Rattle.hose_words.specs.Grammar.{IsFirst, IsFirstNotAllowed}
 use Rattle.hose_gen.specs.Limits.{least_nodes, most_hoses}
 use Rattle.hose_graph.specs.Network.{Network}
 use Rattle.hose_graph.specs.Limits.{most_epoch, most_links, most_nodes}
 use Rattle.hose_offline.specs.TopologyTold.{own_costs}
-use Rattle.hose_offline.specs.declared.generating.Sizes.{Sizes}
 use Rattle.hose_proto.specs.EndWords.{AreEndWords, end_words_form}
 use Rattle.hose_pool.specs.Limits.{most_workers}
 use Rattle.hose_price.specs.Limits.{most_tariffs}
 use Rattle.hosed.specs.Limits.{most_connections}
+use Rattle.hosed.specs.declared.verb.ProgramVerb.{ProgramVerb}
+use Rattle.hosed.specs.declared.verb.ProgramVerb.TheVariants as command
 
 -- ---- files and tariffs
 
@@ -66,235 +68,229 @@ abbrev pub costs_at : {T : Type 0} → (T → Network → Network → Type 0) �
     → Network → Type 0
 costs_at prices tariffs tariff = prices_of prices (chosen_of tariffs tariff)
 
--- the words by which it is
+-- ---- the table
+
+-- what one word tells: the name of a file; that of another file than this one; or a number from the
+-- least to the most
+pub data Operand : Type 0 where
+  file_name : Operand
+  other_name : List ℕ → Operand
+  number_within : ℕ → ℕ → Operand
+
+-- what a word tells is a name or a number
+abbrev pub OperandValue : Operand → Type 0
+OperandValue file_name = List ℕ
+OperandValue (other_name name) = List ℕ
+OperandValue (number_within least most) = ℕ
+
+-- What words tell, one after the other, to the last one. What a word tells may bear on those after
+-- it.
+pub data Operands : Type 0 where
+  no_more : Operands
+  -- the endpoints of a hose
+  end_words : Operands
+  next_word : (operand : Operand) → (OperandValue operand → Operands) → Operands
+
+-- the options that may stand before the name of a file: none, the choice of a tariff, or that and
+-- then the choice of live VPNs
+pub data Options : Type 0 where
+  without : Options
+  by_tariff : Options
+  by_tariff_and_live : Options
+
+-- what stands after a command's own word
+pub data Arguments : Type 0 where
+  -- no option and no file
+  only_operands : Operands → Arguments
+  -- options, the name of a file, and what that makes of the words after it
+  options_and_file : Options → (List ℕ → Operands) → Arguments
+  -- the choice of a tariff or none, and then the name of a file or nothing
+  tariff_and_any_file : Arguments
+
+-- the name of a file, and what that makes of the words after it
+abbrev pub name_and : (List ℕ → Operands) → Operands
+name_and more = next_word file_name more
+
+-- a number from the least to the most, and what that makes of the words after it
+abbrev pub number_and : ℕ → ℕ → (ℕ → Operands) → Operands
+number_and least most more = next_word (number_within least most) more
+
+-- after a topology: a journal, and these
+abbrev pub journal_and : Operands → List ℕ → Operands
+journal_and more topology = name_and (λ journal. more)
+
+-- after the topology of a move: its journal, a new topology, and a journal of another name
+abbrev pub moved_names : List ℕ → Operands
+moved_names topology = name_and (λ journal. name_and (λ new_topology.
+    next_word (other_name journal) (λ new_journal. no_more)))
+
+-- the numbers of a server: a port, which 16 bits hold and which is not 0, how many connections it
+-- accepts, and how many workers answer them
+abbrev pub server_numbers : Operands
+server_numbers = number_and 1 65535 (λ port. number_and 1 most_connections (λ connections.
+    number_and 1 most_workers (λ workers. no_more)))
+
+-- the numbers by which a network and a script are generated: a seed of 64 bits, so many nodes, so
+-- many links, which are enough to join them, and so many hoses
+abbrev pub generated_numbers : Operands
+generated_numbers = number_and 0 (2 ^ 64 - 1) (λ seed. number_and least_nodes most_nodes (λ nodes.
+    number_and (nodes - 1) most_links (λ links. number_and 0 most_hoses (λ hoses. no_more))))
+
+-- The word that each command begins with, and what stands after it. Entries are shipped from an
+-- epoch on; the first one's is 1.
+abbrev pub program_line : ProgramVerb → List ℕ × Arguments
+program_line command.Run = (codes "run", tariff_and_any_file)
+program_line command.Audit = (codes "audit", options_and_file by_tariff (journal_and no_more))
+program_line command.Generate = (codes "gen", only_operands generated_numbers)
+program_line command.Prove = (codes "prove", options_and_file by_tariff (λ topology. end_words))
+program_line command.Check = (codes "check", options_and_file by_tariff (λ topology. no_more))
+program_line command.Price = (codes "price", options_and_file without (λ topology. no_more))
+program_line command.Ship = (
+  codes "ship",
+  options_and_file by_tariff
+      (journal_and (number_and 1 most_epoch (λ from. no_more))),
+)
+program_line command.Follow = (codes "follow", options_and_file by_tariff (journal_and no_more))
+program_line command.Move = (codes "move", options_and_file by_tariff_and_live moved_names)
+program_line command.Serve =
+    (codes "serve", options_and_file by_tariff (journal_and server_numbers))
+
+-- the word that a command begins with
+abbrev pub program_word : ProgramVerb → List ℕ
+program_word verb = (program_line verb).0
+
+-- what stands after a command's own word
+abbrev pub verb_arguments : ProgramVerb → Arguments
+verb_arguments verb = (program_line verb).1
+
+-- ---- what a command is to do
+
+-- what the words tell, one after the other
+abbrev pub OperandValues : Operands → Type 0
+OperandValues no_more = ⊤
+OperandValues end_words = List (List ℕ)
+OperandValues (next_word operand more) =
+    (value : OperandValue operand) × OperandValues (more value)
+
+-- what options tell: the tariff that is chosen, if one is, and whether the live VPNs alone are
+abbrev pub OptionValues : Options → Type 0
+OptionValues without = ⊤
+OptionValues by_tariff = Option ℕ
+OptionValues by_tariff_and_live = Option ℕ × Bool
+
+-- what all words after a command's own tell
+abbrev pub ArgumentValues : Arguments → Type 0
+ArgumentValues (only_operands these) = OperandValues these
+ArgumentValues (options_and_file options more) =
+    OptionValues options × (name : List ℕ) × OperandValues (more name)
+ArgumentValues tariff_and_any_file = Option ℕ × Option (List ℕ)
+
+-- what a command is to do
+abbrev pub Task : ProgramVerb → Type 0
+Task verb = ArgumentValues (verb_arguments verb)
+
+-- ---- the words of a task
+
+-- the word that tells this
+abbrev pub operand_word : (operand : Operand) → OperandValue operand → List ℕ
+operand_word file_name name = name
+operand_word (other_name name) other = other
+operand_word (number_within least most) number = decimal number
+
+-- the words that tell these, one after the other
+abbrev pub operand_words : (these : Operands) → OperandValues these → List (List ℕ)
+operand_words no_more values = []
+operand_words end_words words = words
+operand_words (next_word operand more) (value, values) =
+    operand_word operand value ∷ operand_words (more value) values
+
+-- the words by which a tariff is chosen, if one is
 abbrev pub tariff_words : List (List ℕ) → Option ℕ → List (List ℕ)
 tariff_words names None = []
 tariff_words names (Some which) = tariff_option ∷ get_or names which [] ∷ []
-
--- ---- commands and what they are to do
-
--- the commands, by their first word
-pub data Verb : Type 0 where
-  run : Verb
-  audit : Verb
-  generate : Verb
-  prove : Verb
-  check : Verb
-  price : Verb
-  ship : Verb
-  follow : Verb
-  move : Verb
-  serve : Verb
-
--- the word that a command begins with
-abbrev pub program_word : Verb → List ℕ
-program_word run = codes "run"
-program_word audit = codes "audit"
-program_word generate = codes "gen"
-program_word prove = codes "prove"
-program_word check = codes "check"
-program_word price = codes "price"
-program_word ship = codes "ship"
-program_word follow = codes "follow"
-program_word move = codes "move"
-program_word serve = codes "serve"
-
--- a tariff, if one is chosen, and a journal, if the book is to be kept in one
-pub record RunTask : Type 0 where
-  pub tariff : Option ℕ
-  pub journal : Option (List ℕ)
-
--- a tariff, if one is chosen, the text of a topology, and a journal
-pub record JournalTask : Type 0 where
-  pub tariff : Option ℕ
-  pub topology : List ℕ
-  pub journal : List ℕ
-
--- a tariff, if one is chosen, the text of a topology, and the endpoints of a hose
-pub record ProveTask : Type 0 where
-  pub tariff : Option ℕ
-  pub topology : List ℕ
-  pub ends : List (List ℕ)
-
--- a tariff, if one is chosen, and the text of a topology
-pub record CheckTask : Type 0 where
-  pub tariff : Option ℕ
-  pub topology : List ℕ
-
--- the text of a topology
-pub record PriceTask : Type 0 where
-  pub topology : List ℕ
-
--- a tariff, if one is chosen, the text of a topology, a journal, and the epoch of the first entry
-pub record ShipTask : Type 0 where
-  pub tariff : Option ℕ
-  pub topology : List ℕ
-  pub journal : List ℕ
-  pub from : ℕ
-
--- a tariff, if one is chosen, whether the live VPNs alone are moved, the text of a topology and a
--- journal of it, and the same of the network that the journal is moved to
-pub record MoveTask : Type 0 where
-  pub tariff : Option ℕ
-  pub live : Bool
-  pub topology : List ℕ
-  pub journal : List ℕ
-  pub new_topology : List ℕ
-  pub new_journal : List ℕ
-
--- a tariff, if one is chosen, the text of a topology, a journal, the port of a door, how many
--- connections it accepts, and how many workers answer them
-pub record ServeTask : Type 0 where
-  pub tariff : Option ℕ
-  pub topology : List ℕ
-  pub journal : List ℕ
-  pub port : ℕ
-  pub connections : ℕ
-  pub workers : ℕ
-
--- what a command is to do
-abbrev pub Task : Verb → Type 0
-Task run = RunTask
-Task audit = JournalTask
-Task generate = Sizes
-Task prove = ProveTask
-Task check = CheckTask
-Task price = PriceTask
-Task ship = ShipTask
-Task follow = JournalTask
-Task move = MoveTask
-Task serve = ServeTask
-
--- ---- the words of each command
-
--- the words of a name, if there is one
-abbrev pub name_words : Option (List ℕ) → List (List ℕ)
-name_words None = []
-name_words (Some name) = name ∷ []
 
 -- the words by which the live VPNs alone are chosen, or all entries
 abbrev pub live_words : Bool → List (List ℕ)
 live_words true = live_option ∷ []
 live_words false = []
 
--- the words that tell what a command is to do: after its own word those of a tariff, if one is
--- chosen, that of the choice of live VPNs, if they are, and then names, endpoints and numbers
-abbrev pub task_words : List (List ℕ) → (verb : Verb) → Task verb → List (List ℕ)
-task_words names run task = tariff_words names task.tariff ++ name_words task.journal
-task_words names audit task =
-    tariff_words names task.tariff ++ task.topology ∷ task.journal ∷ []
-task_words names generate task =
-    decimal task.seed ∷ decimal task.nodes ∷ decimal task.links ∷ decimal task.hoses ∷ []
-task_words names prove task = tariff_words names task.tariff ++ task.topology ∷ task.ends
-task_words names check task = tariff_words names task.tariff ++ task.topology ∷ []
-task_words names price task = task.topology ∷ []
-task_words names ship task =
-    tariff_words names task.tariff ++ task.topology ∷ task.journal ∷ decimal task.from ∷ []
-task_words names follow task =
-    tariff_words names task.tariff ++ task.topology ∷ task.journal ∷ []
-task_words names move task = tariff_words names task.tariff ++ (live_words task.live
-    ++ task.topology ∷ task.journal ∷ task.new_topology ∷ task.new_journal ∷ [])
-task_words names serve task = tariff_words names task.tariff
-    ++ task.topology ∷ task.journal ∷ decimal task.port ∷ decimal task.connections
-    ∷ decimal task.workers ∷ []
+-- the words of options
+abbrev pub option_words : List (List ℕ) → (options : Options) → OptionValues options
+    → List (List ℕ)
+option_words names without values = []
+option_words names by_tariff tariff = tariff_words names tariff
+option_words names by_tariff_and_live (tariff, live) = tariff_words names tariff ++ live_words live
 
--- a generated network may have so many nodes
-abbrev pub IsNodeCount : ℕ → Type 0
-IsNodeCount = IsWithin least_nodes most_nodes
+-- the words of a name, if there is one
+abbrev pub name_words : Option (List ℕ) → List (List ℕ)
+name_words None = []
+name_words (Some name) = name ∷ []
 
--- a generated network of so many nodes may have so many links: enough to join them
-abbrev pub IsLinkCount : ℕ → ℕ → Type 0
-IsLinkCount nodes = IsWithin (nodes - 1) most_links
+-- all words after a command's own, of what they tell
+abbrev pub argument_words : List (List ℕ) → (arguments : Arguments) → ArgumentValues arguments
+    → List (List ℕ)
+argument_words names (only_operands these) values = operand_words these values
+argument_words names (options_and_file options more) (chosen, name, values) =
+    option_words names options chosen ++ name ∷ operand_words (more name) values
+argument_words names tariff_and_any_file (tariff, name) =
+    tariff_words names tariff ++ name_words name
 
--- a generated script may ask for so many hoses
-abbrev pub IsHoseCount : ℕ → Type 0
-IsHoseCount = IsWithin 0 most_hoses
+-- a word may tell this; a number has to be one that 64 bits hold
+abbrev pub MayTell : (operand : Operand) → OperandValue operand → Type 0
+MayTell file_name name = IsFileName name
+MayTell (other_name name) other = IsOtherFile name other
+MayTell (number_within least most) number = IsWithin least most number × Fits64 number
+
+-- words may tell these, one after the other
+abbrev pub MayTellAll : (these : Operands) → OperandValues these → Type 0
+MayTellAll no_more values = ⊤
+MayTellAll end_words words = AreEndWords words
+MayTellAll (next_word operand more) (value, values) =
+    MayTell operand value × MayTellAll (more value) values
+
+-- options may tell this
+abbrev pub MayChoose : List (List ℕ) → (options : Options) → OptionValues options → Type 0
+MayChoose names without values = ⊤
+MayChoose names by_tariff tariff = IsChosen names tariff
+MayChoose names by_tariff_and_live (tariff, live) = IsChosen names tariff
+
+-- the words after a command's own may tell this
+abbrev pub MayBeTold : List (List ℕ) → (arguments : Arguments) → ArgumentValues arguments → Type 0
+MayBeTold names (only_operands these) values = MayTellAll these values
+MayBeTold names (options_and_file options more) (chosen, name, values) =
+    MayChoose names options chosen × IsFileName name × MayTellAll (more name) values
+MayBeTold names tariff_and_any_file (tariff, name) =
+    IsChosen names tariff × MatchOption name ⊤ IsFileName
 
 -- there are tariffs with these names to price under, and no more than there may be
 abbrev pub ArePriceable : List (List ℕ) → Type 0
 ArePriceable names = IsWithin 1 most_tariffs (length names)
 
--- entries may be shipped from this epoch on: the first one's is 1
-abbrev pub IsFromEpoch : ℕ → Type 0
-IsFromEpoch = IsWithin 1 most_epoch
+-- the command is one of a program that has tariffs with these names
+abbrev pub IsAvailable : List (List ℕ) → ProgramVerb → Type 0
+IsAvailable names command.Run = ⊤
+IsAvailable names command.Audit = ⊤
+IsAvailable names command.Generate = ⊤
+IsAvailable names command.Prove = ⊤
+IsAvailable names command.Check = ⊤
+IsAvailable names command.Price = ArePriceable names
+IsAvailable names command.Ship = ⊤
+IsAvailable names command.Follow = ⊤
+IsAvailable names command.Move = ⊤
+IsAvailable names command.Serve = ⊤
 
--- a number may be that of a port: 16 bits hold it, and it is not 0
-abbrev pub IsPort : ℕ → Type 0
-IsPort = IsWithin 1 65535
-
--- the parts of a run may be so
-pub record IsRunTask (names : List (List ℕ)) (task : RunTask) : Type 0 where
-  pub is_tariff : IsChosen names task.tariff
-  pub is_journal : MatchOption task.journal ⊤ IsFileName
-
--- those that name a topology, after a tariff or none
-pub record IsOfTopology (names : List (List ℕ)) (tariff : Option ℕ) (topology : List ℕ) :
+-- The words are that of the command, which there is, and then those of its task, which it may be
+-- given.
+pub record AreWords (names words : List (List ℕ)) (verb : ProgramVerb) (task : Task verb) :
     Type 0 where
-  pub is_tariff : IsChosen names tariff
-  pub is_topology : IsFileName topology
-
--- those that name a journal too
-pub record IsOfJournal (names : List (List ℕ)) (tariff : Option ℕ) (topology journal : List ℕ) :
-    Type 0 where
-  pub of : IsOfTopology names tariff topology
-  pub is_journal : IsFileName journal
-
--- those of a network and a script that are generated
-pub record IsGenerateTask (task : Sizes) : Type 0 where
-  pub is_seed : Fits64 task.seed
-  pub nodes_within : IsNodeCount task.nodes
-  pub links_within : IsLinkCount task.nodes task.links
-  pub hoses_within : IsHoseCount task.hoses
-
--- those of a certificate that is to be written
-pub record IsProveTask (names : List (List ℕ)) (task : ProveTask) : Type 0 where
-  pub of : IsOfTopology names task.tariff task.topology
-  pub are_ends : AreEndWords task.ends
-
--- those of a sheet of prices, for which there have to be tariffs
-pub record IsPriceTask (names : List (List ℕ)) (task : PriceTask) : Type 0 where
-  pub tariffs : ArePriceable names
-  pub is_topology : IsFileName task.topology
-
--- those of a shipping
-pub record IsShipTask (names : List (List ℕ)) (task : ShipTask) : Type 0 where
-  pub of : IsOfJournal names task.tariff task.topology task.journal
-  pub is_from : IsFromEpoch task.from
-
--- those of a move: the new journal has another name
-pub record IsMoveTask (names : List (List ℕ)) (task : MoveTask) : Type 0 where
-  pub of : IsOfJournal names task.tariff task.topology task.journal
-  pub is_new_topology : IsFileName task.new_topology
-  pub is_new_journal : IsOtherFile task.journal task.new_journal
-
--- those of a server
-pub record IsServeTask (names : List (List ℕ)) (task : ServeTask) : Type 0 where
-  pub of : IsOfJournal names task.tariff task.topology task.journal
-  pub is_port : IsPort task.port
-  pub connections_within : IsWithin 1 most_connections task.connections
-  pub workers_within : IsWithin 1 most_workers task.workers
-
--- a program that has tariffs with these names may be given such a task
-abbrev pub MayDo : List (List ℕ) → (verb : Verb) → Task verb → Type 0
-MayDo names run task = IsRunTask names task
-MayDo names audit task = IsOfJournal names task.tariff task.topology task.journal
-MayDo names generate task = IsGenerateTask task
-MayDo names prove task = IsProveTask names task
-MayDo names check task = IsOfTopology names task.tariff task.topology
-MayDo names price task = IsPriceTask names task
-MayDo names ship task = IsShipTask names task
-MayDo names follow task = IsOfJournal names task.tariff task.topology task.journal
-MayDo names move task = IsMoveTask names task
-MayDo names serve task = IsServeTask names task
-
--- the words are that of the command, and then those of its task, which it may be given
-pub record AreWords (names words : List (List ℕ)) (verb : Verb) (task : Task verb) : Type 0 where
-  pub are : words ≡ program_word verb ∷ task_words names verb task
-  pub may : MayDo names verb task
+  pub are : words ≡ program_word verb ∷ argument_words names (verb_arguments verb) task
+  pub may : MayBeTold names (verb_arguments verb) task
+  pub available : IsAvailable names verb
 
 -- the words are those of no command
 abbrev pub AreWrongWords : List (List ℕ) → List (List ℕ) → Type 0
-AreWrongWords names words = (verb : Verb) (task : Task verb) → ¬ AreWords names words verb task
+AreWrongWords names words =
+    (verb : ProgramVerb) (task : Task verb) → ¬ AreWords names words verb task
 
 -- the number of the first of the endpoints of a certificate among the words
 abbrev pub first_end : Option ℕ → ℕ
@@ -303,117 +299,76 @@ first_end (Some which) = 5
 
 -- ---- which words are wrong
 
--- the command is one of a program that has tariffs with these names
-abbrev pub IsAvailable : List (List ℕ) → Verb → Type 0
-IsAvailable names price = ArePriceable names
-IsAvailable names _ = ⊤
-
 -- the first word is that of the command, whatever follows it
-abbrev pub AsksFor : Verb → List (List ℕ) → Type 0
+abbrev pub AsksFor : ProgramVerb → List (List ℕ) → Type 0
 AsksFor verb words = IsFirst (λ word. word ≡ program_word verb) words
 
 -- the first word is `serve`
 abbrev pub AsksToServe : List (List ℕ) → Type 0
-AsksToServe words = AsksFor serve words
+AsksToServe words = AsksFor command.Serve words
 
--- what may stand first after a command's word: an option, or the name of a file
-pub data Start : Type 0 where
-  option : Start
-  named : List ℕ → Start
+-- what may stand where words tell these
+abbrev pub operands_form : Operands → Form
+operands_form no_more = finish
+operands_form end_words = end_words_form
+operands_form (next_word operand more) =
+    branch (MayTell operand) (operand_word operand) (λ value. operands_form (more value))
 
--- an option may stand first after a command's word, and so may each name of a file
-abbrev pub IsStart : Start → Type 0
-IsStart option = ⊤
-IsStart (named name) = IsFileName name
+-- which word may stand first, and what may stand after each
+pub record FirstWord : Type 1 where
+  pub may : List ℕ → Type 0
+  pub after : List ℕ → Form
 
--- the word of what may stand first after a command's word, where this is the option
-abbrev pub start_word : List ℕ → Start → List ℕ
-start_word word option = word
-start_word word (named name) = name
+-- a word that may stand first, and what may stand after it
+abbrev pub first_form : FirstWord → Form
+first_form first = branch first.may (λ word. word) first.after
 
--- what may stand after that: one form after the option, and another one after the name of a file
-abbrev pub start_form : Form → Form → Start → Form
-start_form then after option = then
-start_form then after (named name) = after
+-- the first of two forms where this is so, else the second
+abbrev pub form_if : Bool → Form → Form → Form
+form_if true form other = form
+form_if false form other = other
 
--- this option and a form after it, or the name of a file and another form
-abbrev pub with_option : List ℕ → Form → Form → Form
-with_option word then after = branch IsStart (start_word word) (start_form then after)
+-- this option and a form after it, or what may stand first without it
+abbrev pub with_option : List ℕ → Form → FirstWord → FirstWord
+with_option option form first = record {
+  may = λ word. (word ≡ option) ⊎ first.may word;
+  after = λ word. form_if (bytes_eq word option) form (first.after word);
+}
 
--- A form that begins with the name of a file, and before it a tariff if one is chosen. The first
--- form is the whole of it, and the second what stands after the file.
-abbrev pub with_tariff : List (List ℕ) → Form → Form → Form
-with_tariff names form after = with_option tariff_option (place (IsTariffName names) form) after
+-- the choice of a tariff and a form after it, or what may stand first without it
+abbrev pub with_tariff : List (List ℕ) → Form → FirstWord → FirstWord
+with_tariff names form first = with_option tariff_option (place (IsTariffName names) form) first
 
--- a name and this
-abbrev pub named_form : Form → Form
-named_form form = place IsFileName form
+-- what may stand first, and before it the choice of live VPNs or none
+abbrev pub with_live : FirstWord → FirstWord
+with_live first = with_option live_option (first_form first) first
 
--- a tariff or none, the name of a topology, and this
-abbrev pub topology_form : List (List ℕ) → Form → Form
-topology_form names form = with_tariff names (named_form form) form
+-- what may stand first, and before it such options
+abbrev pub with_options : List (List ℕ) → Options → FirstWord → FirstWord
+with_options names without first = first
+with_options names by_tariff first = with_tariff names (first_form first) first
+with_options names by_tariff_and_live first =
+    with_tariff names (first_form (with_live first)) (with_live first)
 
--- the numbers of a server
-abbrev pub server_form : Form
-server_form = place (TellsNumber IsPort) (place (TellsNumber (IsWithin 1 most_connections))
-    (place (TellsNumber (IsWithin 1 most_workers)) finish))
+-- the name of a file, and what may stand after it
+abbrev pub file_first : (List ℕ → Operands) → FirstWord
+file_first more = record { may = IsFileName; after = λ name. operands_form (more name) }
 
--- the epoch from which on a journal is shipped
-abbrev pub from_form : Form
-from_form = place (TellsNumber IsFromEpoch) finish
+-- the name of a file and nothing more
+abbrev pub last_file : FirstWord
+last_file = file_first (λ name. no_more)
 
--- the numbers of links and of hoses, after that of nodes
-abbrev pub sizes_form : ℕ → Form
-sizes_form nodes =
-    place (TellsNumber (IsLinkCount nodes)) (place (TellsNumber IsHoseCount) finish)
+-- what may stand after a command's own word
+abbrev pub arguments_form : List (List ℕ) → Arguments → Form
+arguments_form names (only_operands these) = operands_form these
+arguments_form names (options_and_file options more) =
+    first_form (with_options names options (file_first more))
+arguments_form names tariff_and_any_file =
+    maybe (first_form (with_tariff names (maybe (first_form last_file)) last_file))
 
--- the names of a new topology, and of a journal that is not this one
-abbrev pub new_form : List ℕ → Form
-new_form journal = named_form (place (IsOtherFile journal) finish)
-
--- the name of a journal, and those of a new topology and a new journal
-abbrev pub moved_form : Form
-moved_form = branch IsFileName (λ name. name) new_form
-
--- the choice of live VPNs alone, or of all entries, and the names of a move
-abbrev pub live_form : Form
-live_form = with_option live_option (named_form moved_form) moved_form
-
--- what may stand first after the word of a move: a tariff, or what may stand after one
-pub data MoveStart : Type 0 where
-  by_tariff : MoveStart
-  without : Start → MoveStart
-
--- a tariff may stand first after the word of a move, and so may what may stand after one
-abbrev pub IsMoveStart : MoveStart → Type 0
-IsMoveStart by_tariff = ⊤
-IsMoveStart (without start) = IsStart start
-
--- the word of what may stand first after the word of a move
-abbrev pub move_word : MoveStart → List ℕ
-move_word by_tariff = tariff_option
-move_word (without start) = start_word live_option start
-
--- what may stand after that
-abbrev pub move_form : List (List ℕ) → MoveStart → Form
-move_form names by_tariff = place (IsTariffName names) live_form
-move_form names (without start) = start_form (named_form moved_form) moved_form start
-
--- What may stand after the word of a command: a tariff or none, and then a journal or none; the
--- names of a topology and of a journal; four numbers; the name of a topology and endpoints, after a
--- tariff or none; the name of a topology, after a tariff or none, or alone; those of a topology and
--- of a journal, and an epoch, nothing more, or the numbers of a server; or those of a move.
-abbrev pub program_form : List (List ℕ) → Verb → Form
-program_form names run = maybe (with_tariff names (maybe (named_form finish)) finish)
-program_form names audit = topology_form names (named_form finish)
-program_form names generate = number (branch IsNodeCount decimal sizes_form)
-program_form names prove = topology_form names end_words_form
-program_form names check = topology_form names finish
-program_form names price = named_form finish
-program_form names ship = topology_form names (named_form from_form)
-program_form names follow = topology_form names (named_form finish)
-program_form names move = branch IsMoveStart move_word (move_form names)
-program_form names serve = topology_form names (named_form server_form)
+-- what may stand after the word of a command
+abbrev pub program_form : List (List ℕ) → ProgramVerb → Form
+program_form names verb = arguments_form names (verb_arguments verb)
 
 -- what the words may be
 abbrev pub words_form : List (List ℕ) → Form

@@ -12,7 +12,7 @@ use Rattle.hose_offline.specs.Fault.{last_line, status_of}
 use Rattle.hose_offline.specs.Parts.{Tellings}
 use Rattle.hose_offline.specs.declared.fault.Fault.{Fault}
 use Rattle.hose_offline.specs.declared.fault.Fault.TheVariants.{Cabinet, Door, Write}
-use Rattle.hosed.specs.ServerDoor.{DoorTask, IsServedAlong, OutsideDoor, ServesByJournal, Speaks, spoken}
+use Rattle.hosed.specs.ServerDoor.{DoorTask, AreServedAlongPass, OutsideDoor, ServesByJournal, Speaks, spoken}
 use Rattle.hosed.specs.declared.server.ServerEnd.{ServerEnd}
 
 -- what came of accepting and then closing: the first fault
@@ -40,7 +40,7 @@ pub record IsServed {I O C E : Type 0} (tells : Tellings I O C E) (name : List â
   pub mid : O
   pub came : Result ServerEnd Fault
   pub serves : ServesByJournal tells name before.others.cabinet after.others.cabinet network
-      (IsServedAlong task.connections before.door after.door) came
+      (AreServedAlongPass task.connections before.door after.door) came
   pub speaks : Speaks tells.sink task.port (spoken before) (record (spoken after) { output = mid })
       came
   pub ends : EndsServed tells.sink mid after.others.output status came

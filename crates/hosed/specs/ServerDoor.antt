@@ -105,8 +105,8 @@ Speaks sink port before after (Err Memory) = after ≡ before
 Speaks sink port before after (Err why) = IsAnnounced {T = ⊤} sink port before after (Err why)
 
 -- connections of a door were served along a pass, so many at most, and accepting came to this
-abbrev pub IsServedAlong : ℕ → DoorSeen → DoorSeen → Known → Result ⊤ Failed → Type 0
-IsServedAlong count was now pass accepting = AreServed was.told now.told count pass accepting
+abbrev pub AreServedAlongPass : ℕ → DoorSeen → DoorSeen → Known → Result ⊤ Failed → Type 0
+AreServedAlongPass count was now pass accepting = AreServed was.told now.told count pass accepting
 
 -- ---- the book that is kept
 

@@ -40,6 +40,7 @@ mod chosen;
 mod end_words;
 mod naming;
 mod server;
+mod verb;
 mod words;
 
 use chosen::costs_of;
@@ -57,8 +58,9 @@ use server::serve;
 use std::alloc::Global;
 use std::sync::Wait;
 use std::thread::Threads;
+use verb::asks_to_serve;
 pub use words::MOST_CONNECTIONS;
-use words::{Request, asks_to_serve, request_of, serve_of};
+use words::{Request, request_of, serve_of};
 
 /// Does what the words say, and gives the exit status. The words are those after the program's
 /// name: `run`, and the name of a journal in the cabinet if the book is to be kept in one; `audit`,

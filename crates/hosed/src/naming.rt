@@ -5,7 +5,8 @@ ghost use Rattle.hosed.specs.steps.Naming.{AreNamed};
 ghost use Rattle.hosed.specs.ProgramWords.{IsFirstWrong};
 ghost use Rattle.hosed.specs.steps.ProgramWords.{AreWordsOf};
 
-use crate::words::{OfJournal, Request, asks_to_serve, request_of, serve_of};
+use crate::verb::asks_to_serve;
+use crate::words::{Request, request_of, serve_of};
 use hose_offline::Move;
 use hose_tariff::Tariff;
 

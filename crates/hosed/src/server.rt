@@ -11,7 +11,7 @@ ghost use Rattle.hose_offline.specs.steps.Journal.{IsJustOpened};
 ghost use Rattle.hose_offline.specs.Parts.{tellings};
 ghost use Rattle.hose_offline.specs.steps.Parts.{KeepsAll};
 ghost use Rattle.hosed.specs.ServeOutcome.{EndsServed, ServeOutcome, first_failed};
-ghost use Rattle.hosed.specs.ServerDoor.{IsAnnounced, IsServedAlong, Speaks, output_door, seen_of};
+ghost use Rattle.hosed.specs.ServerDoor.{IsAnnounced, AreServedAlongPass, Speaks, output_door, seen_of};
 ghost use Rattle.hosed.specs.steps.ServerDoor.{BothStay, IsClosedOn, ServesByStore, ServesConnections, door_beside, door_task};
 
 use crate::words::ServeRequest;
@@ -96,7 +96,7 @@ pub struct OpenedStore<D: Disk> {
     pub blank: Blank,
 }
 
-/// Workers, and the rows of all nodes that they plan with.
+/// Workers, and the rows of all nodes, by which the book that they share is to plan.
 #[derive(Drop)]
 pub struct Staff<L: Door, N: DoorStart> {
     pub crew: Crew<L, N>,
@@ -180,7 +180,7 @@ fn serve_store<
     requires opened { IsJustOpened D.Disk IsDecidedAt opening.was.value
         opening.store.ledger.network opening.store }
     ensures serves { ServesByStore D.Disk opening.was.value result.disk
-        opening.store.ledger.network (IsServedAlong request.entry.connections
+        opening.store.ledger.network (AreServedAlongPass request.entry.connections
         (seen_of (L.frame door) (L.told door) (L.opened_at door))
         (seen_of (L.frame result.door) (L.told result.door) (L.opened_at result.door)))
         result.came }
@@ -202,7 +202,11 @@ fn serve_store<
     let Ok(Staff { crew, table }) = begin::<R, L, N>(context.rt, context.alloc, top, request) else {
         return give_up(store, Fault::Memory, door);
     };
-    let (shared, pass) = match Shared::<D, JustOpened<N>>::share(context.alloc, store) {
+    let (shared, pass) = match Shared::<D, JustOpened<N>>::share(
+        context.alloc,
+        store,
+        Some(table),
+    ) {
         Ok(made) => made,
         Err(store) => return give_up(store, Fault::Memory, door),
     };
@@ -213,7 +217,6 @@ fn serve_store<
     let work = Work {
         context,
         shared: &shared,
-        table: &table,
     };
     let CrewEnd {
         accepting,
@@ -237,8 +240,9 @@ fn begin<R: Threads + Sync, L: Door + Send, N: DoorStart + Send + Sync>(
     request: ServeRequest,
 ) -> Result<Staff<L, N>, AllocError>
     requires workers { (1 ≤ request.workers) × (request.workers ≤ MOST_WORKERS) }
-    ensures { IfOk result (λ staff. staff.crew
+    ensures crew { IfOk result (λ staff. staff.crew
         ≡ record { workers = request.entry.workers; connections = request.entry.connections }) }
+    ensures table { IfOk result (λ staff. staff.table.network ≡ network.now) }
 {
     let crew = Crew::new(alloc, request.workers, request.connections)?;
     let table = table_of_all(rt, alloc, network, request.workers)?;

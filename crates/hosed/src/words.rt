@@ -4,12 +4,13 @@ ghost use Rattle.std.specs.String.{string_bytes};
 ghost use Rattle.hose_words.specs.steps.Cursor.{IsWrong, Misses, Took};
 ghost use Rattle.hose_words.specs.Form.{Fits64, IsWithin, TellsNumber, finish};
 ghost use Rattle.hose_words.specs.Grammar.{IsFirst};
-ghost use Rattle.hosed.specs.ProgramWords.{ArePriceable, AsksFor, AsksToServe, IsFileName, IsFirstNamed, IsFirstWrong, IsOtherFile, IsTariffName, moved_form, named_form, program_form};
-ghost use Rattle.hosed.specs.steps.ProgramWords.{AreServeWords, at_word, journal_task, topology_task};
-ghost use Rattle.hosed.specs.steps.Reading.{AreJournalWords, Chooses, ChoosesLive, NamesFile, NamesJournal, NamesMove, NamesNoJournal, NamesNoTariff, NamesNoTopology, NamesTopology, Reads};
-ghost use Rattle.hosed.specs.ProgramWords.Verb.{audit, check, generate, move, price, prove, run, ship};
+ghost use Rattle.hosed.specs.ProgramWords.{ArePriceable, AsksFor, AsksToServe, IsFileName, IsFirstNamed, IsFirstWrong, IsOtherFile, IsTariffName, file_first, first_form, moved_names, program_form};
+ghost use Rattle.hosed.specs.steps.ProgramWords.{AreServeWords, at_word};
+ghost use Rattle.hosed.specs.steps.Reading.{AreJournalWords, Chooses, ChoosesLive, NamesJournal, NamesMove, NamesNoJournal, NamesNoTariff, NamesNoTopology, NamesTopology, ReadsRequest};
+ghost use Rattle.hosed.specs.declared.verb.ProgramVerb.TheVariants as command;
 
 use crate::end_words::ends_at;
+use crate::verb::{ProgramVerb, verb_of};
 use hose_gen::{LEAST_NODES, MOST_HOSES};
 use hose_graph::{MOST_EPOCH, MOST_LINKS, MOST_NODES};
 use hose_offline::{Move, Names, Sizes};
@@ -90,57 +91,33 @@ pub struct ServeRequest<'w> {
     pub workers: u32,
 }
 
-/// Whether the first word is `serve`.
-pub fn asks_to_serve(words: &[String]) -> bool
-    ensures { IsTrue result ↔ AsksToServe (map string_bytes words.now) }
-{
-    begin_with(words, "serve")
-}
-
 /// The request of words that do not ask to serve, or the first of them that is not allowed, counted
 /// from 1. A word that is missing counts as one that is not allowed.
 pub fn request_of<'w>(words: &'w [String], tariffs: &[Tariff]) -> Result<Request<'w>, u64>
     requires { ¬ AsksToServe (map string_bytes words.now) }
-    ensures { Reads (map (λ tariff. tariff.name) tariffs.now) (map string_bytes words.now) result }
+    ensures { ReadsRequest (map (λ tariff. tariff.name) tariffs.now)
+        (map string_bytes words.now) result }
 {
-    if begin_with(words, "run") {
-        run_of(words, tariffs)
-    } else if begin_with(words, "audit") {
-        Ok(Request::Audit(journal_of(words, tariffs)?))
-    } else if begin_with(words, "gen") {
-        generate_of(words)
-    } else if begin_with(words, "prove") {
-        prove_of(words, tariffs)
-    } else if begin_with(words, "check") {
-        check_of(words, tariffs)
-    } else if begin_with(words, "price") {
-        price_of(words, tariffs)
-    } else if begin_with(words, "ship") {
-        ship_of(words, tariffs)
-    } else if begin_with(words, "follow") {
-        Ok(Request::Follow(journal_of(words, tariffs)?))
-    } else if begin_with(words, "move") {
-        move_of(words, tariffs)
-    } else {
-        Err(1)
-    }
-}
-
-// Whether this is the first of the words.
-fn begin_with(words: &[String], word: &str) -> bool
-    ensures { IsTrue result
-        ↔ IsFirst (λ first. first ≡ word.now) (map string_bytes words.now) }
-{
-    match words {
-        [first, ..] => first.as_str() == word,
-        [] => false,
+    match verb_of(words) {
+        Some(ProgramVerb::Run) => run_of(words, tariffs),
+        Some(ProgramVerb::Audit) => Ok(Request::Audit(journal_of(words, tariffs)?)),
+        Some(ProgramVerb::Generate) => generate_of(words),
+        Some(ProgramVerb::Prove) => prove_of(words, tariffs),
+        Some(ProgramVerb::Check) => check_of(words, tariffs),
+        Some(ProgramVerb::Price) => price_of(words, tariffs),
+        Some(ProgramVerb::Ship) => ship_of(words, tariffs),
+        Some(ProgramVerb::Follow) => Ok(Request::Follow(journal_of(words, tariffs)?)),
+        Some(ProgramVerb::Move) => move_of(words, tariffs),
+        Some(ProgramVerb::Serve) => Err(1),
+        None => Err(1),
     }
 }
 
 // The run that the words ask for: a tariff and the name of a journal may follow, and nothing else.
 fn run_of<'w>(words: &'w [String], tariffs: &[Tariff]) -> Result<Request<'w>, u64>
-    requires { AsksFor run (map string_bytes words.now) }
-    ensures { Reads (map (λ tariff. tariff.name) tariffs.now) (map string_bytes words.now) result }
+    requires { AsksFor command.Run (map string_bytes words.now) }
+    ensures { ReadsRequest (map (λ tariff. tariff.name) tariffs.now)
+        (map string_bytes words.now) result }
 {
     let (tariff, at) = tariff_at(words, tariffs)?;
     if (words.len() as u64) < at {
@@ -160,10 +137,10 @@ fn run_of<'w>(words: &'w [String], tariffs: &[Tariff]) -> Result<Request<'w>, u6
 // The tariff that the words choose, and the names of a topology and of a journal, after which
 // nothing follows.
 fn journal_of<'w>(words: &'w [String], tariffs: &[Tariff]) -> Result<OfJournal<'w>, u64>
-    ensures ok { IfOk result (λ of. AreJournalWords (map (λ tariff. tariff.name) tariffs.now)
-        (map string_bytes words.now) (journal_task of)) }
+    ensures ok { IfOk result (AreJournalWords (map (λ tariff. tariff.name) tariffs.now)
+        (map string_bytes words.now)) }
     ensures wrong { IfErr result (IsWrong
-        (program_form (map (λ tariff. tariff.name) tariffs.now) audit)
+        (program_form (map (λ tariff. tariff.name) tariffs.now) command.Audit)
         (at_word 2 (map string_bytes words.now))) }
 {
     let (of, at) = journal_at(words, tariffs)?;
@@ -173,8 +150,8 @@ fn journal_of<'w>(words: &'w [String], tariffs: &[Tariff]) -> Result<OfJournal<'
 
 // The four numbers that the words tell, and nothing else.
 fn generate_of(words: &[String]) -> Result<Request<'_>, u64>
-    requires { AsksFor generate (map string_bytes words.now) }
-    ensures { (names : List (List ℕ)) → Reads names (map string_bytes words.now) result }
+    requires { AsksFor command.Generate (map string_bytes words.now) }
+    ensures { (names : List (List ℕ)) → ReadsRequest names (map string_bytes words.now) result }
 {
     let seed = seed_at(words, 2)?;
     let nodes = number_at(words, 3, LEAST_NODES, MOST_NODES)?;
@@ -192,8 +169,9 @@ fn generate_of(words: &[String]) -> Result<Request<'_>, u64>
 // The certificate that the words ask for: the endpoints of a hose follow the name of the topology,
 // and nothing else.
 fn prove_of<'w>(words: &'w [String], tariffs: &[Tariff]) -> Result<Request<'w>, u64>
-    requires { AsksFor prove (map string_bytes words.now) }
-    ensures { Reads (map (λ tariff. tariff.name) tariffs.now) (map string_bytes words.now) result }
+    requires { AsksFor command.Prove (map string_bytes words.now) }
+    ensures { ReadsRequest (map (λ tariff. tariff.name) tariffs.now)
+        (map string_bytes words.now) result }
 {
     let (of, at) = topology_at(words, tariffs)?;
     let ends = ends_at(words, at)?;
@@ -206,8 +184,9 @@ fn prove_of<'w>(words: &'w [String], tariffs: &[Tariff]) -> Result<Request<'w>, 
 
 // The judgement that the words ask for: nothing follows the name of the topology.
 fn check_of<'w>(words: &'w [String], tariffs: &[Tariff]) -> Result<Request<'w>, u64>
-    requires { AsksFor check (map string_bytes words.now) }
-    ensures { Reads (map (λ tariff. tariff.name) tariffs.now) (map string_bytes words.now) result }
+    requires { AsksFor command.Check (map string_bytes words.now) }
+    ensures { ReadsRequest (map (λ tariff. tariff.name) tariffs.now)
+        (map string_bytes words.now) result }
 {
     let (of, at) = topology_at(words, tariffs)?;
     none_at(words, at)?;
@@ -217,8 +196,9 @@ fn check_of<'w>(words: &'w [String], tariffs: &[Tariff]) -> Result<Request<'w>, 
 // The sheet of prices that the words ask for, where there are tariffs to price under: the name of a
 // topology has to follow, and nothing else.
 fn price_of<'w>(words: &'w [String], tariffs: &[Tariff]) -> Result<Request<'w>, u64>
-    requires { AsksFor price (map string_bytes words.now) }
-    ensures { Reads (map (λ tariff. tariff.name) tariffs.now) (map string_bytes words.now) result }
+    requires { AsksFor command.Price (map string_bytes words.now) }
+    ensures { ReadsRequest (map (λ tariff. tariff.name) tariffs.now)
+        (map string_bytes words.now) result }
 {
     if !are_priceable(tariffs) {
         return Err(1);
@@ -237,8 +217,9 @@ fn are_priceable(tariffs: &[Tariff]) -> bool
 
 // The shipping that the words ask for: an epoch follows the name of the journal, and nothing else.
 fn ship_of<'w>(words: &'w [String], tariffs: &[Tariff]) -> Result<Request<'w>, u64>
-    requires { AsksFor ship (map string_bytes words.now) }
-    ensures { Reads (map (λ tariff. tariff.name) tariffs.now) (map string_bytes words.now) result }
+    requires { AsksFor command.Ship (map string_bytes words.now) }
+    ensures { ReadsRequest (map (λ tariff. tariff.name) tariffs.now)
+        (map string_bytes words.now) result }
 {
     let (of, at) = journal_at(words, tariffs)?;
     let from = number_at(words, at, 1, MOST_EPOCH as u32)?;
@@ -252,8 +233,9 @@ fn ship_of<'w>(words: &'w [String], tariffs: &[Tariff]) -> Result<Request<'w>, u
 // The move that the words ask for: after a tariff, if one is chosen, the choice of live VPNs alone
 // or of all entries, then the names of a topology and of a journal, twice, and nothing else.
 fn move_of<'w>(words: &'w [String], tariffs: &[Tariff]) -> Result<Request<'w>, u64>
-    requires { AsksFor move (map string_bytes words.now) }
-    ensures { Reads (map (λ tariff. tariff.name) tariffs.now) (map string_bytes words.now) result }
+    requires { AsksFor command.Move (map string_bytes words.now) }
+    ensures { ReadsRequest (map (λ tariff. tariff.name) tariffs.now)
+        (map string_bytes words.now) result }
 {
     let (tariff, from) = tariff_at(words, tariffs)?;
     let (live, at) = live_at(words, from);
@@ -286,7 +268,7 @@ fn moved_at(words: &[String], at: u64) -> Result<(Names<'_>, Names<'_>), u64>
     requires few { at ≤ 5 }
     ensures ok { IfOk result (λ found. NamesMove (map string_bytes words.now) at
         (at + 4) found.0 found.1) }
-    ensures wrong { IfErr result (IsWrong (named_form moved_form)
+    ensures wrong { IfErr result (IsWrong (first_form (file_first moved_names))
         (at_word at (map string_bytes words.now))) }
 {
     let topology = name_at(words, at)?;
@@ -351,7 +333,7 @@ pub fn serve_of<'w>(words: &'w [String], tariffs: &[Tariff]) -> Result<ServeRequ
 // and the number of the word after them.
 fn journal_at<'w>(words: &'w [String], tariffs: &[Tariff]) -> Result<(OfJournal<'w>, u64), u64>
     ensures ok { IfOk result (λ found. NamesJournal (map (λ tariff. tariff.name) tariffs.now)
-        (map string_bytes words.now) (journal_task found.0) found.1) }
+        (map string_bytes words.now) found.0 found.1) }
     ensures at { IfOk result (λ found. (4 ≤ found.1) × (found.1 ≤ 6)) }
     ensures wrong { IfErr result (NamesNoJournal (map (λ tariff. tariff.name) tariffs.now)
         (map string_bytes words.now)) }
@@ -370,7 +352,7 @@ fn journal_at<'w>(words: &'w [String], tariffs: &[Tariff]) -> Result<(OfJournal<
 // the word after it.
 fn topology_at<'w>(words: &'w [String], tariffs: &[Tariff]) -> Result<(OfTopology<'w>, u64), u64>
     ensures ok { IfOk result (λ found. NamesTopology (map (λ tariff. tariff.name) tariffs.now)
-        (map string_bytes words.now) (topology_task found.0) found.1) }
+        (map string_bytes words.now) found.0 found.1) }
     ensures at { IfOk result (λ found. (3 ≤ found.1) × (found.1 ≤ 5)) }
     ensures wrong { IfErr result (NamesNoTopology (map (λ tariff. tariff.name) tariffs.now)
         (map string_bytes words.now)) }

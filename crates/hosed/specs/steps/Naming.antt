@@ -1,7 +1,8 @@
 -- What the words of a command name.
 use Rattle.std.specs.Prelude.{◌≡◌, ℕ, List, Option, None, Some, option_map}
-use Rattle.hosed.specs.ProgramWords.{AreWords, Task, Verb}
-use Rattle.hosed.specs.ProgramWords.Verb.{run, audit, generate, prove, check, price, ship, follow, move, serve}
+use Rattle.hosed.specs.ProgramWords.{AreWords, Task}
+use Rattle.hosed.specs.declared.verb.ProgramVerb.{ProgramVerb}
+use Rattle.hosed.specs.declared.verb.ProgramVerb.TheVariants as command
 use Rattle.hosed.specs.declared.naming.Named.{Named}
 
 -- the files and the port that a task names, each where it names one
@@ -23,21 +24,25 @@ files_named topology journal = record {
 }
 
 -- what a task names
-abbrev pub task_names : (verb : Verb) → Task verb → TaskNames
-task_names run task = files_named None task.journal
-task_names audit task = files_named (Some task.topology) (Some task.journal)
-task_names generate task = files_named None None
-task_names prove task = files_named (Some task.topology) None
-task_names check task = files_named (Some task.topology) None
-task_names price task = files_named (Some task.topology) None
-task_names ship task = files_named (Some task.topology) (Some task.journal)
-task_names follow task = files_named (Some task.topology) (Some task.journal)
-task_names move task = record (files_named (Some task.topology) (Some task.journal)) {
-  new_topology = Some task.new_topology;
-  new_journal = Some task.new_journal;
-}
-task_names serve task =
-    record (files_named (Some task.topology) (Some task.journal)) { port = Some task.port }
+abbrev pub task_names : (verb : ProgramVerb) → Task verb → TaskNames
+task_names command.Run (tariff, journal) = files_named None journal
+task_names command.Audit (tariff, topology, (journal, _)) =
+    files_named (Some topology) (Some journal)
+task_names command.Generate numbers = files_named None None
+task_names command.Prove (tariff, topology, ends) = files_named (Some topology) None
+task_names command.Check (tariff, topology, _) = files_named (Some topology) None
+task_names command.Price (_, topology, _) = files_named (Some topology) None
+task_names command.Ship (tariff, topology, (journal, (from, _))) =
+    files_named (Some topology) (Some journal)
+task_names command.Follow (tariff, topology, (journal, _)) =
+    files_named (Some topology) (Some journal)
+task_names command.Move ((tariff, live), topology, (journal, (new_topology, (new_journal, _)))) =
+    record (files_named (Some topology) (Some journal)) {
+      new_topology = Some new_topology;
+      new_journal = Some new_journal;
+    }
+task_names command.Serve (tariff, topology, (journal, (port, (connections, (workers, _))))) =
+    record (files_named (Some topology) (Some journal)) { port = Some port }
 
 -- what is named, by the bytes of each name
 abbrev pub named_bytes : Named → TaskNames
@@ -51,7 +56,7 @@ named_bytes named = record {
 
 -- The words are those of a command and a task, which names these files and this port.
 pub record AreNamed (names words : List (List ℕ)) (named : Named) : Type 0 where
-  pub verb : Verb
+  pub verb : ProgramVerb
   pub task : Task verb
   pub are : AreWords names words verb task
   pub same : named_bytes named ≡ task_names verb task

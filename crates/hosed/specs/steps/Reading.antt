@@ -2,15 +2,19 @@
 use Rattle.std.specs.Prelude.{◌≡◌, ◌⊎◌, ℕ, ◌+◌, List, [], ◌∷◌, get_or, Bool, true, false, Option, None, Some, MatchResult, Result}
 use Rattle.hose_words.specs.steps.Cursor.{Misses, Took}
 use Rattle.hose_words.specs.Grammar.{IsFirst}
-use Rattle.hosed.specs.ProgramWords.{AsksFor, CheckTask, IsFileName, IsFirstNamed, IsFirstWrong, IsTariffName, JournalTask, IsOtherFile, MayDo, Verb, live_option, program_word, tariff_option, task_words}
-use Rattle.hosed.specs.steps.ProgramWords.{AreWordsOf, at_word}
-use Rattle.hosed.specs.ProgramWords.Verb.{audit}
+use Rattle.hosed.specs.ProgramWords.{AsksFor, IsFileName, IsFirstNamed, IsFirstWrong, IsTariffName, IsOtherFile, MayBeTold, argument_words, live_option, program_word, tariff_option, verb_arguments}
+use Rattle.hosed.specs.steps.ProgramWords.{AreWordsOf, at_word, journal_task}
+use Rattle.hosed.specs.declared.verb.ProgramVerb.{ProgramVerb}
+use Rattle.hosed.specs.declared.verb.ProgramVerb.TheVariants as command
+use Rattle.hosed.specs.declared.words.OfJournal.{OfJournal}
+use Rattle.hosed.specs.declared.words.OfTopology.{OfTopology}
 use Rattle.hose_offline.specs.declared.auditing.Names.{Names}
 use Rattle.hosed.specs.declared.words.Request.{Request}
 
 -- the request of the words, or the first of them that is not allowed
-abbrev pub Reads : List (List ℕ) → List (List ℕ) → Result Request ℕ → Type 0
-Reads names words result = MatchResult result (AreWordsOf names words) (IsFirstWrong names words)
+abbrev pub ReadsRequest : List (List ℕ) → List (List ℕ) → Result Request ℕ → Type 0
+ReadsRequest names words result =
+    MatchResult result (AreWordsOf names words) (IsFirstWrong names words)
 
 -- the second word is not the option, and the others follow from it on
 pub record HasNoTariff (words : List (List ℕ)) (at : ℕ) : Type 0 where
@@ -31,21 +35,21 @@ Chooses names words (Some which) at = HasTariff names words which at
 
 -- a tariff was chosen, or none, and the name of a topology came; the words from this number on
 -- follow
-pub record NamesTopology (names words : List (List ℕ)) (task : CheckTask) (at : ℕ) : Type 0 where
+pub record NamesTopology (names words : List (List ℕ)) (of : OfTopology) (at : ℕ) : Type 0 where
   pub from : ℕ
   pub next : at ≡ from + 1
-  pub chosen : Chooses names words task.tariff from
-  pub took : Took (at_word from words) (at_word (from + 1) words) task.topology
-  pub is : IsFileName task.topology
+  pub chosen : Chooses names words of.tariff from
+  pub took : Took (at_word from words) (at_word (from + 1) words) of.topology.now
+  pub is : IsFileName of.topology.now
 
 -- the name of a journal came after them
-pub record NamesJournal (names words : List (List ℕ)) (task : JournalTask) (at : ℕ) : Type 0 where
+pub record NamesJournal (names words : List (List ℕ)) (of : OfJournal) (at : ℕ) : Type 0 where
   pub from : ℕ
   pub next : at ≡ from + 1
   pub topology : NamesTopology names words
-      (record { tariff = task.tariff; topology = task.topology }) from
-  pub took : Took (at_word from words) (at_word (from + 1) words) task.journal
-  pub is : IsFileName task.journal
+      (record { tariff = of.tariff; topology = of.names.topology }) from
+  pub took : Took (at_word from words) (at_word (from + 1) words) of.names.journal.now
+  pub is : IsFileName of.names.journal.now
 
 -- the option came, and the word after it, of this number, is the name of no tariff
 pub record NamesNoTariff (names words : List (List ℕ)) (number : ℕ) : Type 0 where
@@ -61,7 +65,7 @@ NamesNoTopology names words number = NamesNoTariff names words number
 -- no journal is: there is no topology, or the word after its name names no file
 abbrev pub NamesNoJournal : List (List ℕ) → List (List ℕ) → ℕ → Type 0
 NamesNoJournal names words number = NamesNoTopology names words number
-    ⊎ ((task : CheckTask) × (from : ℕ) × NamesTopology names words task from
+    ⊎ ((of : OfTopology) × (from : ℕ) × NamesTopology names words of from
     × Misses IsFileName (at_word from words) number)
 
 -- the word of this number is the name of this file
@@ -87,8 +91,8 @@ pub record NamesMove (words : List (List ℕ)) (at next : ℕ) (of to : Names) :
   pub new_journal : Took (at_word (at + 3) words) (at_word (at + 3 + 1) words) to.journal.now
   pub is_other : IsOtherFile of.journal.now to.journal.now
 
--- the words are that of such a command and those of this task, and no more
-pub record AreJournalWords (names words : List (List ℕ)) (task : JournalTask) : Type 0 where
-  pub are : (verb : Verb) → AsksFor verb words
-      → words ≡ program_word verb ∷ task_words names audit task
-  pub may : MayDo names audit task
+-- the words are that of such a command and those of what it names, and no more
+pub record AreJournalWords (names words : List (List ℕ)) (of : OfJournal) : Type 0 where
+  pub are : (verb : ProgramVerb) → AsksFor verb words → words ≡ program_word verb
+      ∷ argument_words names (verb_arguments command.Audit) (journal_task of)
+  pub may : MayBeTold names (verb_arguments command.Audit) (journal_task of)

@@ -22,7 +22,7 @@ use Rattle.hose_offline.specs.declared.fault.Fault.{Fault}
 use Rattle.hose_offline.specs.declared.outside.Outside.{Outside}
 use Rattle.hosed.specs.declared.server.ServerEnd.{ServerEnd}
 use Rattle.hosed.specs.declared.words.ServeRequest.{ServeRequest}
-use Rattle.hosed.specs.ServerDoor.{DoorSeen, DoorTask, IsServedAlong, OutsideDoor, ServerProgress, ServesBook, ServesByJournal, Speaks, spoken}
+use Rattle.hosed.specs.ServerDoor.{DoorSeen, DoorTask, AreServedAlongPass, OutsideDoor, ServerProgress, ServesBook, ServesByJournal, Speaks, spoken}
 
 -- ---- what a server says
 
@@ -99,5 +99,5 @@ ServesConnections tells name task before after network came =
     ((why : Fault) × (came ≡ Err why) × IsNotServed tells.cabinet tells.disk name
     before.others.cabinet after.others.cabinet network (Err why) × (spoken after ≡ spoken before))
     ⊎ (ServesByJournal tells name before.others.cabinet after.others.cabinet network
-    (IsServedAlong task.connections before.door after.door) came
+    (AreServedAlongPass task.connections before.door after.door) came
     × Speaks tells.sink task.port (spoken before) (spoken after) came)

@@ -1,6 +1,6 @@
 use Rattle.std.proofs.Common.{ap, refl, subst, sym, rules}
 use Rattle.hose_turn.specs.declared.view.Origin.{Origin}
-use Rattle.hosed.specs.ServerDoor.{IsServedAlong, output_door, seen_of}
+use Rattle.hosed.specs.ServerDoor.{AreServedAlongPass, output_door, seen_of}
 use Rattle.hosed.specs.steps.ServerDoor.{OpensAt}
 use Rattle.hosed.proofs.Sharing.{closed_at_once, gave_up, given_up, is_opening, just_opened, opens_at, serves_shared, stays_shared}
 use Rattle.hosed.proofs.server.serve_store.Goals as goal
@@ -56,11 +56,11 @@ returns-clause-serves g c =
     serves_shared g.D.Disk was closed.result.1 network closed.result.0
     _ (λ since store opens. is_opening g.D.Disk was _ _ _ _ network c.requires.had c.requires.content c.requires.moment c.requires.network since store opens) served.result.pass made.stands.first c.close-2.result (search rules)
     (subst (λ (origin : Origin). OpensAt g.D.Disk g.N.AtOpening.had g.N.AtOpening.content g.N.AtOpening.moment g.N.AtOpening.network origin.since made.stands.first) (sym served.ensures.same.origin) made.stands.begins) c.close-2.ensures.history c.close-2.ensures.faults closed.ensures.closed
-    (IsServedAlong c.args.request.connections (seen_of (g.L.Door.frame c.args.door) (g.L.Door.told c.args.door) (g.L.Door.opened_at c.args.door)) (seen_of (g.L.Door.frame served.result.door) (g.L.Door.told served.result.door) (g.L.Door.opened_at served.result.door))) closed.result.2 served.result.accepting (search rules)
-    (rw c.in-Ok.ensures at (rw c.announce.ensures.told at served.ensures.served))
+    (AreServedAlongPass c.args.request.connections (seen_of (g.L.Door.frame c.args.door) (g.L.Door.told c.args.door) (g.L.Door.opened_at c.args.door)) (seen_of (g.L.Door.frame served.result.door) (g.L.Door.told served.result.door) (g.L.Door.opened_at served.result.door))) closed.result.2 served.result.accepting (search rules)
+    (rw c.in-Ok.ensures.crew at (rw c.announce.ensures.told at served.ensures.served))
 
-pub share-requires : goal.share-requires
-share-requires g c =
+pub share-requires-clause-stands : goal.share-requires-clause-stands
+share-requires-clause-stands g c =
     let asked = c.requires in
     let was = c.args.opening.was.value in
     let store = c.args.opening.store in

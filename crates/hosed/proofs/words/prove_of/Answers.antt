@@ -1,16 +1,16 @@
 use Rattle.std.proofs.Common.{◌≡◌, Err, map, rules}
 use Rattle.std.specs.String.{string_bytes}
-use Rattle.hose_proto.specs.EndWords.{end_words_form}
-use Rattle.hosed.specs.ProgramWords.Verb.{prove}
+use Rattle.hosed.specs.declared.verb.ProgramVerb.TheVariants as command
+use Rattle.hosed.specs.ProgramWords.Operands.{end_words}
 use Rattle.hosed.proofs.Commands.{no_topology, topology_then, verb_wrong}
 use Rattle.hosed.proofs.words.prove_of.Goals as goal
 
 pub returns-in_err-of : goal.returns-in_err-of
 returns-in_err-of g c =
     let is : c.from_residual.result ≡ Err c.in_err-of.field-0.0 = search rules in
-    rw is (verb_wrong _ prove (map string_bytes c.args.words.now) _ tt c.requires (no_topology _ _ _ end_words_form c.in_err-of.ensures.wrong))
+    rw is (verb_wrong _ command.Prove (map string_bytes c.args.words.now) _ tt c.requires (no_topology _ _ _ (λ topology. end_words) c.in_err-of.ensures.wrong))
 
 pub returns-in_err-ends : goal.returns-in_err-ends
 returns-in_err-ends g c =
     let is : c.from_residual-in_err-ends.result ≡ Err c.in_err-ends.field-0.0 = search rules in
-    rw is (verb_wrong _ prove (map string_bytes c.args.words.now) _ tt c.requires (topology_then _ _ _ c.in_ok-of.at _ end_words_form c.in_ok-of.ensures.ok c.in_err-ends.ensures.wrong))
+    rw is (verb_wrong _ command.Prove (map string_bytes c.args.words.now) _ tt c.requires (topology_then _ _ _ c.in_ok-of.at _ (λ topology. end_words) c.in_ok-of.ensures.ok c.in_err-ends.ensures.wrong))
