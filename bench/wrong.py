@@ -8,9 +8,12 @@ refused, cannot be tried, or is refused for a name alone and not listed in wrong
 
 A caller's proof rests on the callee's contract alone, so bodies of different functions are tried in
 one check. So are values of different constants that a function without a body pins, with a clause
-for each (`ensures most_links { MOST_LINKS ≡ most_links }`). Any other edit, and one of which that
-check does not tell for sure that a clause refuses it, is tried alone. What an edit comes to is
-judged by the kit's rules, those of `rt must-fail`.
+for each (`ensures most_links { MOST_LINKS ≡ most_links }`). Where a check of several tells nothing,
+as where one meets a limit of the prover, each half is tried. Any other constant, and a ghost member
+of an `impl`, is tried by itself, in a check of the functions that name the constant or the type.
+Any other edit, and one of which such a check does not tell for sure that a clause refuses it, is
+tried alone in a check of the whole crate. What an edit comes to is judged by the kit's rules, those
+of `rt must-fail`.
 
 usage: bench/wrong.py [CRATE ..]     (leave the crates' files as they are while it runs)
 """
@@ -41,6 +44,7 @@ KINDS = {
 ROW = "{:<16}" + "{:>12}" * (len(KINDS) + 1)
 CONSTANT = re.compile(r"(?:pub(?:\(\w+\))? )?const (\w+): ")
 PIN = re.compile(r"ensures (\w+) \{ (\w+)(?:\.now)? ≡ ")
+BLOCK = re.compile(rb"(?m)^(?:impl\b(?:.* for)?|(?:pub(?:\(\w+\))? )?trait)(?:<[^{]*?>)? (\w+)")
 PLACE = re.compile(r"(?:note: )?(?:\./)?((?:src|proofs)/[^:\s]+):(\d+):\d+:")
 # As the kit has it: a proof that names what the edit took away, and what cites that proof.
 NAME = re.compile(r"(note: )?(\./)?proofs/.*(has no (field|`)|is not in scope|was not admitted)")
@@ -84,6 +88,7 @@ class Tries:
         self.edits = {}
         for edit in sorted((WRONG / crate.name).glob("*.edit")):
             self.edits[edit] = self.functions(edit) or self.clauses(edit)
+        self.named = {it: self.users(it) for it in self.edits if not self.edits[it]}
 
     def places(self, edit):
         """The files and the places there of what it looks for."""
@@ -112,6 +117,24 @@ class Tries:
             constant = CONSTANT.match(line.decode("utf-8"))
             found.add(self.pins.get(constant[1]) if constant else None)
         return set() if None in found else found
+
+    def users(self, edit):
+        """Those that name the constants, or the types of the blocks, in which it changes something;
+        none where it changes anything else."""
+        found = set()
+        for file, at, _ in self.places(edit):
+            data = self.source.data.get(file, b"")
+            line = data[data.rfind(b"\n", 0, at) + 1 :].split(b"\n", 1)[0].decode("utf-8")
+            constant, above = CONSTANT.match(line), [*BLOCK.finditer(data, 0, at)]
+            is_inside = line.startswith(" ") and above
+            name = constant[1].encode() if constant else above[-1][1] if is_inside else None
+            texts = {it: self.source.data[it.file][it.start : it.end] for it in self.names}
+            word = re.compile(rb"\b%s\b" % name) if name else None
+            users = {(it, "") for it in texts if word and word.search(texts[it])}
+            if not users:
+                return set()
+            found |= users
+        return found
 
     def applied(self, edits):
         """The files with these edits, if they can be applied."""
@@ -154,6 +177,13 @@ class Tries:
             RT.linked(f"{self.crate.folder}/out/incremental", f"{room}/kept")
             return call(self.crate, *given, f"{room}/kept")
 
+    def told(self, batch):
+        """As `together`, of each half where nothing is told of the whole."""
+        found, half = self.together(batch), len(batch) // 2
+        if found or not half:
+            return found
+        return {**self.told(batch[:half]), **self.told(batch[half:])}
+
     def together(self, batch):
         """The edits of a batch that a clause refuses for sure, and the first line that says so."""
         texts, found = self.applied(batch), {}
@@ -191,7 +221,10 @@ def tried(crate):
     were, said = RT.touched(crate), stands(crate)
     began, tries, found = os.times(), Tries(crate, said), {}
     for batch in tries.batches() if said else []:
-        found.update(tries.together(batch))
+        found.update(tries.told(batch))
+    for edit in (it for it in tries.named if said and tries.named[it]):
+        tries.edits[edit] = tries.named[edit]
+        found.update(tries.together([edit]))
     for edit in tries.edits:
         without = "the crate as it stands is not proved"
         found[edit] = found.get(edit) or (tries.alone(edit) if said else without)
