@@ -15,8 +15,8 @@ if [ "${1-}" = -l ]; then
     logs=$2
     shift 2
 fi
-all=(admits book codec commands decisions journal json long_lines maintenance moves orders puts
-    quotes serve standby store takes topology)
+all=(admits book codec commands decisions journal json long_lines maintenance moves orders quotes
+    serve standby store takes topology)
 scripts=("$@")
 if (($# == 0)); then scripts=("${all[@]/%/.sh}"); fi
 mkdir -p "$logs"
@@ -56,6 +56,11 @@ HEAD = "| Figure | Reference in the same run | Ratio | Script |\n|---|---|---|--
 IDLE = 0.3  # processors at work, at most
 LEFT_OUT = re.compile(r"^files: |^load: ")  # where files lie, and lines of a table of their own
 BESIDE = re.compile(r"; (?:reference: |(?=echo |loop ))")
+# Rows that show no more than those beside them: a second reference, the cheap places of a book, few
+# and many sessions, and comparisons between the rows that stay, of which one is the dearest.
+SAME = re.compile(r"^the same$|release of the (?:youngest|oldest) |^(?:1|16) workers .*: sessions|"
+                  r"^comparing .*(?: 512 | 1,024 |\b(?:10|500) entries on one|,\d+ entries of three)")
+SAID = re.compile(r", the last(?: reply)?: .*$|, ratio [\d.]+")  # replies, and what a column has
 
 
 def named(lines):
@@ -110,8 +115,11 @@ def rows():
         with open(os.path.join(LOGS, script), encoding="utf-8", errors="replace") as log:
             lines = [line.rstrip() for line in log if line.strip() and not LEFT_OUT.search(line)]
         for figures, reference in groups(lines):
+            if SAME.search(figures[0]):
+                continue
             reference, ratio = ratio_of(reference, figures)
-            cells = ("; ".join(figures), reference, ratio, f"`{script}`")
+            told = "; ".join(SAID.sub("", figure) for figure in figures)
+            cells = (told, reference, ratio, f"`{script}`")
             yield "| " + " | ".join(cell.replace("|", "\\|") for cell in cells) + " |\n"
 
 

@@ -2,8 +2,8 @@
 """Prints the figures of the house: how large definitions, calls and crates are, and how often a
 thing is said.
 
-Product crates are those of crates.txt but the two runners of case files and the tests of threads.
-What is counted, by the name that --list takes:
+Product crates are those of crates.txt but those of cases and of tests. What is counted, by the name
+that --list takes:
 
   parameters   definitions with 8 or more parameters, and with 12 or more: of each record, data,
                abbreviation and function of specs/ the explicit ones, those of the modules around it
