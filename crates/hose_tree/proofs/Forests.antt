@@ -19,7 +19,7 @@ use Rattle.hose_law.specs.Walk.{Joins}
 use Rattle.hose_law.proofs.Joined.{joins_nodes}
 use Rattle.hose_law.proofs.Trees.{amount_on-le, moved, moved_node, moved_total, step_amounts-le}
 use Rattle.hose_law.proofs.Walks.{joins_turned}
-use Rattle.hose_tree.specs.steps.Peeling.{AreLeavesStill, HasRoom, IsForestOf, IsLinked, IsInSums, IsPossible, IsYes, AreSumsOf, Question, StandsForQuestion, at_ends, sum_at}
+use Rattle.hose_tree.specs.steps.Peeling.{AreLeavesStill, HasRoom, HasSmallRoom, IsForestOf, IsLinked, IsInSums, IsPossible, IsYes, AreSumsOf, Question, StandsForQuestion, at_ends, sum_at}
 use Rattle.hose_tree.specs.steps.Rates.{AreRatesOf}
 use Rattle.hose_tree.specs.declared.judge.Forest.{Forest}
 use Rattle.hose_tree.proofs.Moving.{rates_moved}
@@ -53,6 +53,19 @@ room network number pairs i n sums most few small are v =
     All-weaker (λ (pair : ℕ × ℕ). number pair ≤ MOST) (λ (pair : ℕ × ℕ). count pair ≤ 2 * MOST)
     (λ pair within. omega (arith, within, at_ends-le (slice_get network.links pair.0) v (number pair))) (take i pairs) (All-take (λ (pair : ℕ × ℕ). number pair ≤ MOST) i pairs most) in
     omega (arith, sum_by-le count (2 * MOST) (take i pairs) each, length-take i pairs, are v, few, small)
+
+-- Links' numbers, and links, leave room among small ones.
+abbrev pub MOST_SMALL : ℕ
+MOST_SMALL = 2048
+
+pub small_room : (network : Network) (number : ℕ × ℕ → ℕ) (pairs : List (ℕ × ℕ)) (i n : ℕ) (sums : List ℕ) → All (λ (pair : ℕ × ℕ). number pair ≤ MOST_SMALL) pairs → length pairs ≤ MOST_TREE_LINKS
+    → n ≤ MOST_SMALL → AreSumsOf network number (take i pairs) sums → HasSmallRoom n sums
+small_room network number pairs i n sums most few small are v =
+    let count : ℕ × ℕ → ℕ = λ pair. at_ends (slice_get network.links pair.0) v (number pair) in
+    let each : All (λ (pair : ℕ × ℕ). count pair ≤ 2 * MOST_SMALL) (take i pairs) =
+    All-weaker (λ (pair : ℕ × ℕ). number pair ≤ MOST_SMALL) (λ (pair : ℕ × ℕ). count pair ≤ 2 * MOST_SMALL)
+    (λ pair within. omega (arith, within, at_ends-le (slice_get network.links pair.0) v (number pair))) (take i pairs) (All-take (λ (pair : ℕ × ℕ). number pair ≤ MOST_SMALL) i pairs most) in
+    omega (arith, sum_by-le count (2 * MOST_SMALL) (take i pairs) each, length-take i pairs, are v, few, small)
 
 -- One pair more, in whichever place.
 pub record IsMore (network : Network) (pairs : List (ℕ × ℕ)) (pair : ℕ × ℕ) (more : List (ℕ × ℕ)) : Type 0 where

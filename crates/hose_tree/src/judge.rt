@@ -4,7 +4,7 @@ ghost use Rattle.std.specs.Prelude.{◌≡◌, ◌↔◌, ℕ, ◌+◌, ◌*◌,
 ghost use Rattle.hose_graph.specs.Network.{IsNetwork};
 ghost use Rattle.hose_law.specs.Tree.{IsTreeReservation};
 ghost use Rattle.hose_law.specs.Walk.{all_links};
-ghost use Rattle.hose_tree.specs.steps.Peeling.{AreLeavesStill, HasNoLeafBelow, HasNodePlaces, HasRoom, IsAddedAt, IsForestOf, IsLinked, IsNo, IsInSums, IsPossible, IsYes, KeepsQuestions, Question, StandsForQuestion, StandsForSome};
+ghost use Rattle.hose_tree.specs.steps.Peeling.{AreLeavesStill, HasNoLeafBelow, HasNodePlaces, HasRoom, HasSmallRoom, IsAddedAt, IsForestOf, IsLinked, IsNo, IsInSums, IsPossible, IsYes, KeepsQuestions, Question, StandsForQuestion, StandsForSome};
 
 use crate::canonical::other_end;
 use crate::reserve::{add_rates, move_rate};
@@ -47,14 +47,20 @@ fn is_possible(links: u32, total: u64, pair: &ReservedLink) -> bool
 // A number for each node.
 type Sums = [u64; MOST_NODES as usize];
 
+// A small number for each node: links, or the sum of their numbers.
+type SmallSums = [u32; MOST_NODES as usize];
+
 // The links that are left, as sums at each node over the links that end there: how many they are,
 // their numbers, and their amounts; the rates at each node; and how many links are left. At a node
 // with one link these sums are that link's number and its amount.
+//
+// They stand in an order in which no two places of a node but the first are 4,096 bytes apart: such
+// places are one to a processor at first, which waits where one is read after a write to the other.
 #[derive(Drop)]
 struct Forest {
-    degrees: Sums,
-    links: Sums,
+    degrees: SmallSums,
     amounts: Sums,
+    links: SmallSums,
     rates: Sums,
     left: u64,
 }
@@ -65,8 +71,8 @@ impl Forest {
     {
         Forest {
             degrees: [0; MOST_NODES as usize],
-            links: [0; MOST_NODES as usize],
             amounts: [0; MOST_NODES as usize],
+            links: [0; MOST_NODES as usize],
             rates: [0; MOST_NODES as usize],
             left: 0,
         }
@@ -89,14 +95,14 @@ impl Forest {
     // Adds a link with its number and its amount.
     fn add_link(&mut self, link: &Link, number: u32, amount: u64)
         requires places { HasNodePlaces link.now }
-        requires degrees { HasRoom 1 self.old.degrees }
-        requires links { HasRoom number self.old.links }
+        requires degrees { HasSmallRoom 1 self.old.degrees }
+        requires links { HasSmallRoom number self.old.links }
         requires amounts { HasRoom amount self.old.amounts }
         requires left { self.old.left < MOST_TREE_LINKS }
         ensures { IsLinked link.now number amount self.old self.new }
     {
-        add_at_ends(&mut self.degrees, link, 1);
-        add_at_ends(&mut self.links, link, number as u64);
+        add_small_at_ends(&mut self.degrees, link, 1);
+        add_small_at_ends(&mut self.links, link, number);
         add_at_ends(&mut self.amounts, link, amount);
         self.left += 1;
     }
@@ -110,8 +116,8 @@ impl Forest {
         requires left { 0 < self.old.left }
         ensures { IsLinked link.now number amount self.new self.old }
     {
-        take_at_ends(&mut self.degrees, link, 1);
-        take_at_ends(&mut self.links, link, number as u64);
+        take_small_at_ends(&mut self.degrees, link, 1);
+        take_small_at_ends(&mut self.links, link, number);
         take_at_ends(&mut self.amounts, link, amount);
         self.left -= 1;
     }
@@ -173,7 +179,7 @@ impl Forest {
         ensures fewer { OnSome result (self.new.left < self.old.left) }
         ensures no { IsNone result → IsNo top.now total self.old }
     {
-        let number = self.links[leaf as usize] as u32;
+        let number = self.links[leaf as usize];
         let amount = self.amounts[leaf as usize];
         let rate = self.rates[leaf as usize];
         if amount != rate.min(total - rate) {
@@ -220,6 +226,26 @@ fn add_at_ends(sums: &mut Sums, link: &Link, number: u64)
 
 // Takes a number away at both nodes of a link.
 fn take_at_ends(sums: &mut Sums, link: &Link, number: u64)
+    requires places { HasNodePlaces link.now }
+    requires part { IsInSums link.now number sums.old }
+    ensures { IsAddedAt link.now number sums.new sums.old }
+{
+    sums[link.a as usize] -= number;
+    sums[link.b as usize] -= number;
+}
+
+// Adds a small number at both nodes of a link.
+fn add_small_at_ends(sums: &mut SmallSums, link: &Link, number: u32)
+    requires places { HasNodePlaces link.now }
+    requires room { HasSmallRoom number sums.old }
+    ensures { IsAddedAt link.now number sums.old sums.new }
+{
+    sums[link.a as usize] += number;
+    sums[link.b as usize] += number;
+}
+
+// Takes a small number away at both nodes of a link.
+fn take_small_at_ends(sums: &mut SmallSums, link: &Link, number: u32)
     requires places { HasNodePlaces link.now }
     requires part { IsInSums link.now number sums.old }
     ensures { IsAddedAt link.now number sums.new sums.old }

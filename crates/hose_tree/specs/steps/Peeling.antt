@@ -124,6 +124,10 @@ pub record HasNodePlaces (link : Link) : Type 0 where
 abbrev pub HasRoom : ℕ → List ℕ → Type 0
 HasRoom number sums = (v : ℕ) → slice_index sums v + 2 * number < 2 ^ 64
 
+-- a small number can
+abbrev pub HasSmallRoom : ℕ → List ℕ → Type 0
+HasSmallRoom number sums = (v : ℕ) → slice_index sums v + 2 * number < 2 ^ 32
+
 -- it is part of the sums there
 abbrev pub IsInSums : Link → ℕ → List ℕ → Type 0
 IsInSums link number sums = (v : ℕ) → at_ends (Some link) v number ≤ slice_index sums v

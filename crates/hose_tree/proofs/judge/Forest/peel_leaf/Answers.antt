@@ -2,10 +2,6 @@ use Rattle.std.proofs.Common.{◌∙◌, arith, sym}
 use Rattle.hose_tree.proofs.Forests.{amount_part, degree_part, leaf_joins, leaf_left, leaf_possible, leaves_still, link_part, other-lt, rate-le, rates_fit, stands_less, wrong_amount}
 use Rattle.hose_tree.proofs.judge.Forest.peel_leaf.Goals as goal
 
-pub overflow_cast-number-2 : goal.overflow_cast-number-2
-overflow_cast-number-2 c =
-    omega (arith, (leaf_possible c.args.top.now c.args.total c.requires.stands.0 c.args.self.now c.requires.stands.1 c.args.leaf c.requires.leaf).link, c.requires.stands.1.network.few_links)
-
 pub overflow_sub-total : goal.overflow_sub-total
 overflow_sub-total c =
     rate-le c.args.top.now c.args.total c.requires.stands.0 c.args.self.now c.requires.stands.1 c.args.leaf c.requires.leaf (omega arith)
