@@ -10,11 +10,11 @@ use Rattle.std.proofs.lemmas.List.Quantifiers.{all_pairs_push}
 use Rattle.std.proofs.lemmas.Map.Made.{IsDistinct-from_AllPairs}
 use Rattle.std.proofs.lemmas.Map.Steps.{length-le_from_distinct_below}
 use Rattle.hose_graph.specs.Network.{Network}
-use Rattle.hose_law.specs.Service.{is_out, put_back, taken_out}
+use Rattle.hose_law.specs.Service.{is_out, links_in_service, put_back, taken_out}
 use Rattle.hose_law.specs.Tree.{IsTreeReservation, links_of}
 use Rattle.hose_law.specs.Walk.{IsIn, all_links}
 use Rattle.hose_law.proofs.Reservations.{pair_there, tree_in_reserved}
-use Rattle.hose_law.proofs.Serving.{back_other, back_same, out_other, out_same}
+use Rattle.hose_law.proofs.Serving.{back_other, back_same, links_in_service-at, out_other, out_same}
 use Rattle.hose_book.specs.steps.Refusal.{AreInService}
 use Rattle.hose_book.specs.steps.Serving.{IsSetInService, Served}
 
@@ -144,3 +144,9 @@ module _ (network : Network) (set : List Bool) (hose amounts : List (ℕ × ℕ)
   over_served other served = over_other other (λ l there.
       let found = pair_there amounts l (tree_in_reserved reserved.tree hose amounts reserved.reserves l there) in
       All-contains (λ (pair : ℕ × ℕ). IsIn other pair.0) amounts (l, found.0) served found.1)
+
+-- where no link is out, all links of amounts are in service
+pub all_served : (network : Network) (out : List ℕ) (amounts : List (ℕ × ℕ)) → out ≡ [] → All (λ (pair : ℕ × ℕ). pair.0 < length network.links) amounts → AreInService (links_in_service network out) amounts
+all_served network out amounts none on =
+    All-weaker (λ (pair : ℕ × ℕ). pair.0 < length network.links) (λ (pair : ℕ × ℕ). IsIn (links_in_service network out) pair.0)
+    (λ pair below. links_in_service-at network out pair.0 false below ∙ ap (λ (them : List ℕ). not (is_out them pair.0)) none) amounts on

@@ -7,11 +7,12 @@ use Rattle.std.proofs.lemmas.List.Elements.{Contains-append_cases, All-get_or, A
 use Rattle.std.proofs.lemmas.List.Quantifiers.{all_pairs_push}
 use Rattle.hose_graph.specs.declared.entry.Entry.{Entry}
 use Rattle.hose_law.specs.Book.{Book}
-use Rattle.hose_law.specs.History.{book_of, touched_links}
+use Rattle.hose_law.specs.History.{book_of, opening_book, touched_links}
 use Rattle.hose_law.specs.Tracks.{Change, Recent, Tracks, changes_of}
+use Rattle.hose_law.proofs.Epochs.{epoch_after}
 use Rattle.hose_law.proofs.Tracked.{tracks_anew, tracks_more}
 use Rattle.std.specs.List.Sorted.{IsStrictlyIncreasing}
-use Rattle.hose_book.specs.steps.Changes.{AreInOrder, AreUpTo, AscendByLinks, with_changes}
+use Rattle.hose_book.specs.steps.Changes.{AreInOrder, AreUpTo, AscendByLinks, opening_recent, with_changes}
 use Rattle.hose_book.specs.Ledger.{HasBookOf, Ledger}
 use Rattle.hose_book.specs.steps.Ledger.{TracksOn, next_ledger}
 use Rattle.hose_book.specs.declared.recent.TheConstants.{MOST_CHANGES}
@@ -139,3 +140,13 @@ contains_since changes seen from epoch link inside before above there =
           absurd (omega (arith, below, above, ap (λ (change : Change). change.0) early.2)))
       | inr late ↦ late
     ]
+
+-- no changes, above the epoch of the book, track the history whose book it is
+pub tracks_none : (epoch : ℕ) (history : List Entry) (ledger : Ledger) → HasBookOf epoch history ledger → Tracks epoch history (opening_recent ledger.book.epoch)
+tracks_none epoch history ledger same = record {
+  before = history;
+  since = [];
+  whole = sym (append-nil history);
+  floor = ap (λ (b : Book). b.epoch) same ∙ epoch_after (opening_book epoch) history;
+  changes = refl;
+}

@@ -1,10 +1,14 @@
 // What an entry does to the book.
-ghost use Rattle.std.specs.Prelude.{◌≡◌, ◌+◌, ◌<◌, ◌≤◌, ◌^◌, ℕ, length, slice_index, slice_get, All, IsSomeAnd};
+ghost use Rattle.std.specs.Prelude.{◌≡◌, ◌+◌, ◌<◌, ◌≤◌, ◌^◌, ℕ, List, length, slice_index, slice_get, All, IsSomeAnd};
 ghost use Rattle.hose_graph.specs.Amounts.{link_of};
 ghost use Rattle.hose_graph.specs.Hose.{IsHose};
 ghost use Rattle.hose_law.specs.Book.{IsLiveVpn, amount_on};
 ghost use Rattle.hose_law.specs.History.{IsSoundAt};
 ghost use Rattle.hose_graph.specs.Limits.{most_epoch};
+ghost use Rattle.hose_graph.specs.declared.entry.Entry.{Entry};
+ghost use Rattle.hose_law.specs.Tracks.{Tracks};
+ghost use Rattle.hose_book.specs.Ledger.{HasBookOf};
+ghost use Rattle.hose_book.specs.steps.Changes.{opening_recent};
 ghost use Rattle.hose_book.specs.steps.Ledger.{TracksOn, next_ledger};
 
 use crate::Book;
@@ -30,6 +34,19 @@ impl Book {
             Entry::Down { link } => self.take_out(link),
             Entry::Up { link } => self.put_back(link),
         }
+    }
+
+    /// Forgets which links the entries touched so far: from now on it keeps the changes of later
+    /// epochs alone.
+    pub fn forget_changes(&mut self)
+        ensures ledger { self.new ≡ record self.old {
+          recent = opening_recent self.old.book.epoch;
+        } }
+        // Whatever history it is the book of, it tracks from now on.
+        ensures tracks { (epoch : ℕ) (history : List Entry) → HasBookOf epoch history self.old
+            → Tracks epoch history self.new.recent }
+    {
+        self.recent.restart(self.epoch);
     }
 
     fn take_out(&mut self, link: u32)

@@ -4,7 +4,7 @@ ghost use Rattle.hose_graph.specs.Amounts.{link_of};
 ghost use Rattle.hose_graph.specs.Ascending.{IsAscending};
 ghost use Rattle.hose_law.specs.Decision.{Fits};
 ghost use Rattle.hose_law.specs.History.{IsSoundAt};
-ghost use Rattle.hose_law.specs.Room.{free_rates};
+ghost use Rattle.hose_law.specs.Room.{first_links, free_rates};
 ghost use Rattle.hose_law.specs.steps.Service.{service_entry};
 ghost use Rattle.hose_tree.specs.steps.Amounts.{AreWithinCapacities, AreOnLinks};
 ghost use Rattle.hose_book.specs.steps.Refusal.{AreInService, IsLowestFull, IsLowestOut, IsRefusedFor, Judges};
@@ -66,13 +66,28 @@ impl Book {
         if !is_reservation(&self.topology, hose, amounts) {
             return Err(BookRefusal::NotATree);
         }
-        if let Some(link) = first_link_out(self.service(), amounts) {
+        if let Some(link) = self.first_out(amounts) {
             return Err(BookRefusal::OutOfService { link });
         }
         match first_full_link(&self.topology, self.loads(), amounts) {
             Some(link) => Err(BookRefusal::NoRoom { link }),
             None => Ok(()),
         }
+    }
+
+    // The lowest link of the amounts that is out of service. Where none is out, the amounts are not
+    // looked at.
+    fn first_out(&self, amounts: &Amounts) -> Option<u32>
+        requires { AreOnLinks self.now.network amounts.now }
+        ensures some { IfSome result
+            (IsLowestOut (first_links self.now.network self.now.book) amounts.now) }
+        ensures none { IfNone result
+            (AreInService (first_links self.now.network self.now.book) amounts.now) }
+    {
+        if self.served.are_all() {
+            return None;
+        }
+        first_link_out(self.service(), amounts)
     }
 
     fn check_release(&self, customer: &Name, id: u64) -> Result<(), BookRefusal>

@@ -92,6 +92,14 @@ impl RecentChanges {
         push_changes(&mut self.changes, epoch, amounts);
     }
 
+    // Forgets all changes, and keeps those above an epoch from now on.
+    pub(crate) fn restart(&mut self, epoch: u64)
+        ensures { self.new ≡ opening_recent epoch }
+    {
+        self.changes.clear();
+        self.floor = epoch;
+    }
+
     // Adds the one link that an entry touched, as `add` adds those of amounts.
     pub(crate) fn add_link(&mut self, epoch: u64, link: u32)
         requires epochs { AreUpTo epoch self.old.changes }

@@ -1,5 +1,5 @@
 // The links in service, and those that are out.
-ghost use Rattle.std.specs.Prelude.{◌≡◌, ◌<◌, ◌≤◌, [], true, false, IfOk, length, replicate, slice_index_or, slice_set};
+ghost use Rattle.std.specs.Prelude.{◌≡◌, ◌<◌, ◌≤◌, [], true, false, IfOk, IsTrue, length, replicate, slice_index_or, slice_set};
 ghost use Rattle.hose_graph.specs.declared.limits.TheConstants.{MOST_LINKS};
 ghost use Rattle.hose_law.specs.Service.{put_back, taken_out};
 
@@ -42,6 +42,13 @@ impl ServedLinks {
         links.fill_where(|_| true);
         let out = Vec::with_capacity(alloc, MOST_LINKS as usize)?;
         Ok(ServedLinks { links, out })
+    }
+
+    // Where it is true, every link is in service.
+    pub(crate) fn are_all(&self) -> bool
+        ensures { IsTrue result → self.now.out ≡ [] }
+    {
+        self.out.is_empty()
     }
 
     // Takes a link in service out of it.

@@ -9,7 +9,7 @@ use Rattle.hose_law.specs.Book.{Book}
 use Rattle.hose_law.specs.History.{opening_book, next_book, IsSoundAt}
 use Rattle.hose_law.proofs.Scripts.{book_after_push}
 use Rattle.hose_law.specs.Tracks.{Tracks}
-use Rattle.hose_book.specs.Ledger.{Ledger}
+use Rattle.hose_book.specs.Ledger.{HasBookOf, Ledger}
 use Rattle.hose_book.specs.steps.Ledger.{TracksOn, opening_ledger}
 use Rattle.hose_disk.specs.Disk.{object_frame}
 use Rattle.hose_disk.specs.declared.disk.Disk.{Ghosts}
@@ -75,6 +75,17 @@ module _ {D : Type 0} (disk : Ghosts D) where
         tracks = tracks 0 entries given.book given.tracks;
         fault = has.2;
       }
+
+  -- what is read leads to a book whatever changes it keeps, as long as these track the entries
+  pub given_forgotten : (old new : Ledger) (reading : Reading D) (entries : List Entry) → HasGiven disk old reading entries → new.network ≡ old.network → new.book ≡ old.book
+      → (HasBookOf 0 entries old → Tracks 0 entries new.recent) → HasGiven disk new reading entries
+  given_forgotten old new reading entries given is_network is_book tracks = record {
+    reads = subst (λ (network : Network). Reads disk reading (digest_of network) entries) (sym is_network) given.reads;
+    sound = subst (λ (network : Network). AreAllowed (IsSoundAfter network) [] entries) (sym is_network) given.sound;
+    book = is_book ∙ given.book;
+    tracks = tracks given.book;
+    fault = given.fault;
+  }
 
   pub given_none : (ledger : Ledger) (before after : Reading D) (entries : List Entry) → HasGiven disk ledger before entries → HasRead disk before after (digest_of ledger.network) entries (Ok None) → after.fault ≡ None → HasGiven disk ledger after entries
   given_none ledger before after entries given has fault = record {

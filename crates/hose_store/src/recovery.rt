@@ -45,6 +45,8 @@ fn recover_next<D: Disk>(book: &mut Book, reading: &mut Reading<D>) -> Result<bo
         return Ok(false);
     };
     book.apply(entry);
+    // No one has looked at the book, so no change so far will be asked for.
+    book.forget_changes();
     Ok(true)
 }
 

@@ -1,4 +1,4 @@
-use Rattle.std.proofs.Common.{◌≡◌, ◌<◌, ℕ, Bool, List, length, subst, ap, arith}
+use Rattle.std.proofs.Common.{◌≡◌, ◌<◌, ℕ, List, length, subst, ap, arith}
 use Rattle.hose_graph.specs.Network.{Network}
 use Rattle.hose_law.specs.Decision.{Fits}
 use Rattle.hose_graph.specs.Limits.{most_live, most_epoch}
@@ -16,11 +16,11 @@ first_full_link-requires-clause-links c =
     let network = c.self.inside.topology in
     reserved_links network c.self.invariant.0 (all_links network) c.args.hose.now c.args.amounts.now (c.is_reservation.ensures.0 c.if-not-is_reservation.false)
 
-pub first_link_out-requires : goal.first_link_out-requires
-first_link_out-requires c = λ k d inside.
+pub first_out-requires : goal.first_out-requires
+first_out-requires c = λ k d inside.
     let network = c.self.inside.topology in
     let on = reserved_links network c.self.invariant.0 (all_links network) c.args.hose.now c.args.amounts.now (c.is_reservation.ensures.0 c.if-not-is_reservation.false) in
-    omega (arith, on k d inside, c.service.ensures.places, ap (λ (s : Ledger). length s.network.links) c.self.view_is)
+    omega (arith, on k d inside, ap (λ (s : Ledger). length s.network.links) c.self.view_is)
 
 pub returns-in-None : goal.returns-in-None
 returns-in-None c customer =
@@ -30,7 +30,7 @@ returns-in-None c customer =
     let inside : IsTreeReservation c.self.inside.topology (all_links c.self.inside.topology) hose amounts = c.is_reservation.ensures.0 c.if-not-is_reservation.false in
     let on_tree : IsTreeReservation ledger.network (all_links ledger.network) hose amounts =
     subst (λ (s : Ledger). IsTreeReservation s.network (all_links s.network) hose amounts) c.self.view_is inside in
-    let served : AreInService (first_links ledger.network ledger.book) amounts = subst (λ (set : List Bool). AreInService set amounts) c.service.ensures.value c.in_default.ensures.none in
+    let served : AreInService (first_links ledger.network ledger.book) amounts = c.in_default.ensures.none in
     let fits_here : Fits (free_rates c.self.inside.topology c.loads.result.now) amounts = c.in-None.ensures.none in
     let network : c.self.inside.topology ≡ ledger.network = ap (λ (s : Ledger). s.network) c.self.view_is in
     let fits : Fits (room_of ledger.network ledger.book).free amounts =
