@@ -391,10 +391,7 @@ class Repository(unittest.TestCase):
     def test_the_statement_stands_apart(self):
         """What a top call's clauses reach stands in specs/, and what is of proofs alone in
         specs/steps/."""
-        # A form that no command's words have any more. It goes with the next change of hose_words,
-        # after which nearly all crates are proved anew.
-        waits = "crates/hose_words/specs/Form.antt:103: number is of proofs alone"
-        self.assertEqual(statement.misplaced(self.made), [waits])
+        self.assertEqual(statement.misplaced(self.made), [])
 
     def test_each_outcome_is_in_the_statement(self):
         for name in statement.OUTCOMES.values():

@@ -97,10 +97,6 @@ map_back word_of back (x ∷ xs) all =
     let rest = map_back word_of back xs (λ k d below. all (suc k) d (omega (arith, below))) in
     λ i. first i ∷ rest i
 
--- the number that a word of this place tells
-abbrev pub told : List (List ℕ) → ℕ → ℕ
-told words place = number_spelled (get_or words place [])
-
 -- endpoints of a network
 pub ends_back : (network : Network) → IsNetwork network → (ends : List (ℕ × ℕ)) → All (IsEndOf network) ends → map (end_spelled network) (map (end_word network) ends) ≡ ends
 ends_back network is ends all =

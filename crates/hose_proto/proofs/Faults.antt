@@ -5,40 +5,19 @@ use Rattle.std.proofs.lemmas.Result.{IfErr-weaker, err_from_is_err_and}
 use Rattle.hose_words.specs.steps.Cursor.{Position, Took, IsWrong}
 use Rattle.hose_words.specs.Form.{Form, branch}
 use Rattle.hose_words.proofs.Forms.{AreApart, wrong_chosen}
-use Rattle.hose_proto.specs.Fields.{Fields}
 use Rattle.hose_proto.specs.steps.Reading.{IsFaultOf}
 use Rattle.hose_proto.specs.declared.fault.ReadFault.{ReadFault}
 use Rattle.hose_proto.specs.declared.fault.ReadFault.TheVariants.{Bad}
 
--- a fault that is handed on as it is
-pub handed_on : {T : Type 0} {form : Form} {old : Position} {fault : ReadFault} (result : Result T ReadFault) → IsErrAnd result (λ other. other ≡ fault) → IsFaultOf form old fault
-    → IfErr result (IsFaultOf form old)
-handed_on {T} {form} {old} {fault} result gives is =
+-- what is so of a fault is so at the exit that hands it on
+pub handed : {T : Type 0} (P : ReadFault → Type 0) {fault : ReadFault} (result : Result T ReadFault) → IsErrAnd result (λ other. other ≡ fault) → P fault → IfErr result P
+handed {T} P {fault} result gives is =
     let gave = err_from_is_err_and result gives in
     rw (gave.1, gave.2) is
 
 -- a word that is wrong, told as a fault
-pub told_wrong : {T : Type 0} {form : Form} {old : Position} {number : ℕ} (result : Result T ReadFault) → IsErrAnd result (λ fault. fault ≡ Bad number) → IsWrong form old number
-    → IfErr result (IsFaultOf form old)
-told_wrong {T} {form} {old} {number} result gives is =
-    let gave = err_from_is_err_and result gives in
-    let told : IsFaultOf form old (Bad number) = record { word = λ other same. subst (IsWrong form old) (cc same) is } in
-    rw (gave.1, gave.2) told
-
--- so it is whatever fields may follow
-pub told_each : {T : Type 0} {forms : Fields → Form} {old : Position} {number : ℕ} (result : Result T ReadFault) → IsErrAnd result (λ fault. fault ≡ Bad number) → ((rest : Fields) → IsWrong (forms rest) old number)
-    → IfErr result (λ fault. (rest : Fields) → IsFaultOf (forms rest) old fault)
-told_each {T} {forms} {old} {number} result gives is =
-    let gave = err_from_is_err_and result gives in
-    let told : (rest : Fields) → IsFaultOf (forms rest) old (Bad number) = λ rest. record { word = λ other same. subst (IsWrong (forms rest) old) (cc same) (is rest) } in
-    rw (gave.1, gave.2) told
-
--- and so is a fault that is handed on
-pub handed_each : {T : Type 0} {forms : Fields → Form} {old : Position} {fault : ReadFault} (result : Result T ReadFault) → IsErrAnd result (λ other. other ≡ fault) → ((rest : Fields) → IsFaultOf (forms rest) old fault)
-    → IfErr result (λ other. (rest : Fields) → IsFaultOf (forms rest) old other)
-handed_each {T} {forms} {old} {fault} result gives is =
-    let gave = err_from_is_err_and result gives in
-    rw (gave.1, gave.2) is
+pub is_told : {form : Form} {old : Position} {number : ℕ} → IsWrong form old number → IsFaultOf form old (Bad number)
+is_told {form} {old} {number} is = record { word = λ other same. subst (IsWrong form old) (cc same) is }
 
 -- what a fault tells of the words to come it tells of those before them
 pub later_fault : {form rest : Form} {old new : Position} {fault : ReadFault} → ((number : ℕ) → IsWrong rest new number → IsWrong form old number) → IsFaultOf rest new fault → IsFaultOf form old fault

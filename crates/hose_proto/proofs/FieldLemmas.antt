@@ -107,8 +107,8 @@ module _ (network : Network) (is : IsNetwork network) where
   values_back (a_missing fields) (kind, values) sound = λ i. (missing_of-word kind i, values_back fields values sound i)
   values_back (a_service fields) (true, values) sound = λ i. (true, values_back fields values sound i)
   values_back (a_service fields) (false, values) sound = λ i. (false, values_back fields values sound i)
-  values_back the_amounts amounts are = amounts_back amounts are
-  values_back the_nodes side are = map_back (name_of network) (node_named network) side (λ k d below. node_back network (get_or side k d) is (are.nodes k d below))
+  values_back the_amounts amounts (some, are) = amounts_back amounts are
+  values_back the_nodes side (some, are) = map_back (name_of network) (node_named network) side (λ k d below. node_back network (get_or side k d) is (are.nodes k d below))
   values_back (the_ends fields) (hose, values) (are, sound) =
       let found = until_found (end_spelled network) (codes "links") (map (end_word network) hose) hose (words_told network fields values) (ends_no_links network hose) (hose_back hose are) in
       let rest = ap (values_in network fields) found.1 ∙ values_back fields values sound in
@@ -132,8 +132,8 @@ module _ (network : Network) (is : IsNetwork network) where
   values_pass (a_missing fields) (kind, values) sound = pass_branch kind tt missing_apart (values_pass fields values sound)
   values_pass (a_service fields) (true, values) sound = pass_branch service.Out tt services_apart (pass_place refl (values_pass fields values sound))
   values_pass (a_service fields) (false, values) sound = pass_branch service.At tt services_apart (values_pass fields values sound)
-  values_pass the_amounts amounts are = pass_list (amounts_closed network) are.some are
-  values_pass the_nodes side are = pass_list (side_closed network) are.some are
+  values_pass the_amounts amounts (some, are) = pass_list (amounts_closed network) some are
+  values_pass the_nodes side (some, are) = pass_list (side_closed network) some are
   values_pass (the_ends fields) (hose, values) (are, sound) =
       pass_until (end_word network) (AreEnds network) LEAST_ENDS (codes "links") (form_of network fields) (words_told network fields values) (ends_closed network) (values_pass fields values sound)
       hose (ends_no_links network hose) are.is_hose.counted.enough (record { few = are.is_hose.counted.few; within = are.is_hose.within; ascending = are.is_hose.ascending; nodes = are.nodes })
@@ -182,8 +182,8 @@ module _ (network : Network) (is : IsNetwork network) where
   values_words (a_service fields) (true, values) known sound =
       (IsWord-known (codes "out") refl (omega arith), (IsWord-known (codes "at") refl (omega arith), values_words fields values known sound))
   values_words (a_service fields) (false, values) known sound = (IsWord-known (codes "at") refl (omega arith), values_words fields values known sound)
-  values_words the_amounts amounts known are = AreWords-map pair_word amounts IsWord-pair (λ k d below. (are.links k d below, are.numbers k d below))
-  values_words the_nodes side known are = AreWords-map (name_of network) side IsWord-node are.nodes
+  values_words the_amounts amounts known (some, are) = AreWords-map pair_word amounts IsWord-pair (λ k d below. (are.links k d below, are.numbers k d below))
+  values_words the_nodes side known (some, are) = AreWords-map (name_of network) side IsWord-node are.nodes
   values_words (the_ends fields) (hose, values) known (are, sound) =
       AreWords-append (map (end_word network) hose) (codes "links" ∷ words_told network fields values)
       (AreWords-map (end_word network) hose IsWord-end (λ k d below. (are.nodes k d below, are.is_hose.within k d below)))

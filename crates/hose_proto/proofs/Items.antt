@@ -1,5 +1,5 @@
 -- The items of lists: amounts, nodes and endpoints. Each is told by its own word, and lists grow item by item.
-use Rattle.std.proofs.Common.{◌≡◌, ◌≢◌, ◌∙◌, ℕ, ◌^◌, ◌<◌, List, [], ◌∷◌, ◌++◌, Some, decimal, length, get_or, sym, ap, subst, inl, inr, arith, length-append}
+use Rattle.std.proofs.Common.{◌≡◌, ◌≢◌, ◌∙◌, ℕ, ◌^◌, ◌<◌, List, [], ◌∷◌, ◌++◌, Some, decimal, length, get_or, sym, ap, subst, arith, length-append}
 use Rattle.std.specs.List.{All, Any}
 use Rattle.std.specs.List.Sorted.{IsStrictlyIncreasing}
 use Rattle.std.proofs.Math.ListN.{get_or-append}
@@ -11,9 +11,7 @@ use Rattle.std.proofs.lemmas.List.Quantifiers.{all_pairs_push}
 use Rattle.std.proofs.lemmas.Option.{slice_get-get_or}
 use Rattle.hose_words.specs.Form.{Fits64}
 use Rattle.hose_words.proofs.Forms.{AreApart}
-use Rattle.hose_words.proofs.Listing.{MakesList}
 use Rattle.hose_words.proofs.Passing.{All-front, IsClosed}
-use Rattle.hose_graph.specs.Ascending.{firsts}
 use Rattle.hose_graph.specs.Hose.{IsEnd}
 use Rattle.hose_graph.specs.Network.{Network, IsNetwork, IsLinkOf, IsNodeOf, name_of}
 use Rattle.hose_graph.proofs.NodesByName.{same_node}
@@ -21,8 +19,9 @@ use Rattle.hose_proto.specs.Command.{AreNewEnds}
 use Rattle.hose_proto.specs.Fields.{pair_word}
 use Rattle.hose_proto.specs.steps.Fields.{AreAmounts, AreEnds, AreNumbers, IsSide}
 use Rattle.hose_proto.specs.Places.{end_word}
-use Rattle.hose_proto.specs.steps.Reading.{AreSoFar, IsEndOf, IsNewEnd, IsNextEnd, IsNextNode, IsNextNumber, IsNextPair}
+use Rattle.hose_proto.specs.steps.Reading.{GoesOn, IsEndOf, IsNewEnd, IsNextEnd, IsNextNode, IsNextNumber, IsNextPair}
 use Rattle.hose_proto.proofs.Colons.{end_cut, no_colon, no_colon_decimal, pair_cut, same_parts}
+use Rattle.hose_proto.proofs.ItemByItem.{goes_on}
 use Rattle.hose_proto.proofs.Rising.{All-last, firsts_front, rising_front}
 
 -- ---- amounts
@@ -43,23 +42,16 @@ pairs_spelled network is = record {
       λ i. (link i, amount i);
 }
 
--- the amounts that were read so far
-pub record ArePairs (network : Network) (pairs : List (ℕ × ℕ)) : Type 0 where
-  pub ascending : IsStrictlyIncreasing (firsts pairs)
-  pub all : All (IsPair network) pairs
-
--- so are those of a list, and none
-pub pairs_so_far : (network : Network) (pairs : List (ℕ × ℕ)) → AreSoFar (AreAmounts network) pairs → ArePairs network pairs
-pairs_so_far network pairs (inl none) = subst (ArePairs network) (sym none) (record { ascending = λ k below. absurd (omega (arith, below)); all = All-nil (IsPair network) })
-pairs_so_far network pairs (inr are) = record { ascending = are.ascending; all = λ k d below. record { link = are.links k d below; amount = are.numbers k d below } }
+-- no amount yet
+pub no_amounts : (network : Network) → AreAmounts network []
+no_amounts network = record { ascending = λ k below. absurd (omega (arith, below)); links = All-nil (λ (p : ℕ × ℕ). IsLinkOf network p.0); numbers = All-nil (λ (p : ℕ × ℕ). Fits64 p.1) }
 
 -- one amount more
-pub amounts_more : (network : Network) (pairs : List (ℕ × ℕ)) (pair : ℕ × ℕ) → ArePairs network pairs → IsNextPair network pairs pair → AreAmounts network (pairs ++ pair ∷ [])
+amounts_more : (network : Network) (pairs : List (ℕ × ℕ)) (pair : ℕ × ℕ) → AreAmounts network pairs → IsNextPair network pairs pair → AreAmounts network (pairs ++ pair ∷ [])
 amounts_more network pairs pair are next = record {
-  some = omega (arith, length-append pairs (pair ∷ []));
   ascending = subst IsStrictlyIncreasing (sym (map-append (λ (p : ℕ × ℕ). p.0) pairs (pair ∷ []))) next.ascending;
-  links = All-push (λ (p : ℕ × ℕ). IsLinkOf network p.0) pairs pair (λ k d below. (are.all k d below).link) next.link;
-  numbers = All-push (λ (p : ℕ × ℕ). Fits64 p.1) pairs pair (λ k d below. (are.all k d below).amount) next.amount;
+  links = All-push (λ (p : ℕ × ℕ). IsLinkOf network p.0) pairs pair are.links next.link;
+  numbers = All-push (λ (p : ℕ × ℕ). Fits64 p.1) pairs pair are.numbers next.amount;
 }
 
 pair_may_come : (network : Network) (pairs : List (ℕ × ℕ)) (pair : ℕ × ℕ) → AreAmounts network (pairs ++ pair ∷ []) → IsNextPair network pairs pair
@@ -69,18 +61,14 @@ pair_may_come network pairs pair are = record {
   ascending = subst IsStrictlyIncreasing (map-append (λ (p : ℕ × ℕ). p.0) pairs (pair ∷ [])) are.ascending;
 }
 
-pub makes_amounts : (network : Network) (pairs : List (ℕ × ℕ)) → IsNetwork network → ArePairs network pairs → MakesList (IsPair network) pair_word (AreAmounts network) pairs (IsNextPair network pairs)
-makes_amounts network pairs is are = record {
-  apart = pairs_spelled network is;
-  each = λ others fine k d below. record { link = fine.links k d below; amount = fine.numbers k d below };
-  all = are.all;
-  may_come = pair_may_come network pairs;
-}
+pub amounts_go_on : (network : Network) → IsNetwork network → (pairs : List (ℕ × ℕ)) → AreAmounts network pairs → GoesOn pair_word (AreAmounts network) (IsNextPair network pairs) pairs
+amounts_go_on network is pairs are =
+    goes_on (IsPair network) (pairs_spelled network is) (λ others fine k d below. record { link = fine.links k d below; amount = fine.numbers k d below }) are
+    (λ pair. amounts_more network pairs pair are) (pair_may_come network pairs)
 
 pub amounts_closed : (network : Network) → IsClosed (AreAmounts network)
 amounts_closed network = record {
   front = λ xs ys some are. record {
-    some = some;
     ascending = firsts_front xs ys are.ascending;
     links = All-front (λ (pair : ℕ × ℕ). IsLinkOf network pair.0) xs ys are.links;
     numbers = All-front (λ (pair : ℕ × ℕ). Fits64 pair.1) xs ys are.numbers;
@@ -96,36 +84,19 @@ nodes_spelled network is = record {
       (slice_get-get_or network.nodes other [] below' ∙ ap Some (sym same));
 }
 
--- the nodes that were read so far
-pub record AreNodes (network : Network) (nodes : List ℕ) : Type 0 where
-  pub ascending : IsStrictlyIncreasing nodes
-  pub all : All (IsNodeOf network) nodes
+-- no node yet
+pub no_side : (network : Network) → IsSide network []
+no_side network = record { ascending = λ k below. absurd (omega (arith, below)); nodes = All-nil (IsNodeOf network) }
 
--- so are those of a list, and none
-pub nodes_so_far : (network : Network) (nodes : List ℕ) → AreSoFar (IsSide network) nodes → AreNodes network nodes
-nodes_so_far network nodes (inl none) = subst (AreNodes network) (sym none) (record { ascending = λ k below. absurd (omega (arith, below)); all = All-nil (IsNodeOf network) })
-nodes_so_far network nodes (inr side) = record { ascending = side.ascending; all = side.nodes }
-
--- one node more
-pub side_more : (network : Network) (nodes : List ℕ) (node : ℕ) → AreNodes network nodes → IsNextNode network nodes node → IsSide network (nodes ++ node ∷ [])
-side_more network nodes node are next = record {
-  some = omega (arith, length-append nodes (node ∷ []));
-  ascending = next.ascending;
-  nodes = All-push (IsNodeOf network) nodes node are.all next.is_node;
-}
-
-pub makes_side : (network : Network) (nodes : List ℕ) → IsNetwork network → AreNodes network nodes → MakesList (IsNodeOf network) (name_of network) (IsSide network) nodes (IsNextNode network nodes)
-makes_side network nodes is are = record {
-  apart = nodes_spelled network is;
-  each = λ others side. side.nodes;
-  all = are.all;
-  may_come = λ node side. record { is_node = All-last (IsNodeOf network) nodes node side.nodes; ascending = side.ascending };
-}
+pub sides_go_on : (network : Network) → IsNetwork network → (nodes : List ℕ) → IsSide network nodes → GoesOn (name_of network) (IsSide network) (IsNextNode network nodes) nodes
+sides_go_on network is nodes are =
+    goes_on (IsNodeOf network) (nodes_spelled network is) (λ others side. side.nodes) are
+    (λ node next. record { ascending = next.ascending; nodes = All-push (IsNodeOf network) nodes node are.nodes next.is_node })
+    (λ node side. record { is_node = All-last (IsNodeOf network) nodes node side.nodes; ascending = side.ascending })
 
 pub side_closed : (network : Network) → IsClosed (IsSide network)
 side_closed network = record {
   front = λ xs ys some is. record {
-    some = some;
     ascending = rising_front xs ys is.ascending;
     nodes = All-front (IsNodeOf network) xs ys is.nodes;
   };
@@ -133,22 +104,15 @@ side_closed network = record {
 
 -- ---- numbers
 
--- the numbers that were read so far are those of a list, and none
-pub numbers_so_far : (numbers : List ℕ) → AreSoFar AreNumbers numbers → AreNumbers numbers
-numbers_so_far numbers (inl none) = subst AreNumbers (sym none) (record { ascending = λ k below. absurd (omega (arith, below)); fit = All-nil Fits64 })
-numbers_so_far numbers (inr are) = are
+-- no number yet
+pub no_numbers : AreNumbers []
+no_numbers = record { ascending = λ k below. absurd (omega (arith, below)); fit = All-nil Fits64 }
 
--- one number more
-pub numbers_more : (numbers : List ℕ) (number : ℕ) → AreNumbers numbers → IsNextNumber numbers number → AreNumbers (numbers ++ number ∷ [])
-numbers_more numbers number are next = record { ascending = next.ascending; fit = All-push Fits64 numbers number are.fit next.fits }
-
-pub makes_numbers : (numbers : List ℕ) → AreNumbers numbers → MakesList Fits64 decimal AreNumbers numbers (IsNextNumber numbers)
-makes_numbers numbers are = record {
-  apart = record { apart = decimal_injective };
-  each = λ others fine. fine.fit;
-  all = are.fit;
-  may_come = λ number fine. record { fits = All-last Fits64 numbers number fine.fit; ascending = fine.ascending };
-}
+pub numbers_go_on : (numbers : List ℕ) → AreNumbers numbers → GoesOn decimal AreNumbers (IsNextNumber numbers) numbers
+numbers_go_on numbers are =
+    goes_on Fits64 (record { apart = decimal_injective }) (λ others fine. fine.fit) are
+    (λ number next. record { ascending = next.ascending; fit = All-push Fits64 numbers number are.fit next.fits })
+    (λ number fine. record { fits = All-last Fits64 numbers number fine.fit; ascending = fine.ascending })
 
 pub numbers_closed : IsClosed AreNumbers
 numbers_closed = record {
@@ -170,16 +134,14 @@ ends_spelled network is = record {
 
 -- ---- in order
 
-pub ends_each : (network : Network) (ends : List (ℕ × ℕ)) → AreEnds network ends → All (IsEndOf network) ends
+ends_each : (network : Network) (ends : List (ℕ × ℕ)) → AreEnds network ends → All (IsEndOf network) ends
 ends_each network ends are = λ k d below. record { is_end = are.within k d below; is_node = are.nodes k d below }
 
--- so are those that were read so far
-pub ends_so_far : (network : Network) (ends : List (ℕ × ℕ)) → AreSoFar (AreEnds network) ends → AreEnds network ends
-ends_so_far network ends (inl none) =
-    subst (AreEnds network) (sym none) (record { few = omega arith; within = All-nil IsEnd; ascending = λ k below. absurd (omega (arith, below)); nodes = All-nil (λ (e : ℕ × ℕ). IsNodeOf network e.0) })
-ends_so_far network ends (inr are) = are
+-- no endpoint yet
+pub no_ends : (network : Network) → AreEnds network []
+no_ends network = record { few = omega arith; within = All-nil IsEnd; ascending = λ k below. absurd (omega (arith, below)); nodes = All-nil (λ (e : ℕ × ℕ). IsNodeOf network e.0) }
 
-pub ends_more : (network : Network) (ends : List (ℕ × ℕ)) (end : ℕ × ℕ) → AreEnds network ends → IsNextEnd network ends end → AreEnds network (ends ++ end ∷ [])
+ends_more : (network : Network) (ends : List (ℕ × ℕ)) (end : ℕ × ℕ) → AreEnds network ends → IsNextEnd network ends end → AreEnds network (ends ++ end ∷ [])
 ends_more network ends end are next = record {
   few = omega (arith, next.room, length-append ends (end ∷ []));
   within = All-push IsEnd ends end are.within next.is_end.is_end;
@@ -187,20 +149,15 @@ ends_more network ends end are next = record {
   nodes = All-push (λ (e : ℕ × ℕ). IsNodeOf network e.0) ends end are.nodes next.is_end.is_node;
 }
 
-pub end_may_come : (network : Network) (ends : List (ℕ × ℕ)) (end : ℕ × ℕ) → AreEnds network (ends ++ end ∷ []) → IsNextEnd network ends end
+end_may_come : (network : Network) (ends : List (ℕ × ℕ)) (end : ℕ × ℕ) → AreEnds network (ends ++ end ∷ []) → IsNextEnd network ends end
 end_may_come network ends end are = record {
   is_end = record { is_end = All-last IsEnd ends end are.within; is_node = All-last (λ (e : ℕ × ℕ). IsNodeOf network e.0) ends end are.nodes };
   ascending = subst IsStrictlyIncreasing (map-append (λ (p : ℕ × ℕ). p.0) ends (end ∷ [])) are.ascending;
   room = omega (arith, are.few, length-append ends (end ∷ []));
 }
 
-pub makes_in_order : (network : Network) (ends : List (ℕ × ℕ)) → IsNetwork network → AreEnds network ends → MakesList (IsEndOf network) (end_word network) (AreEnds network) ends (IsNextEnd network ends)
-makes_in_order network ends is are = record {
-  apart = ends_spelled network is;
-  each = ends_each network;
-  all = ends_each network ends are;
-  may_come = end_may_come network ends;
-}
+pub ends_go_on : (network : Network) → IsNetwork network → (ends : List (ℕ × ℕ)) → AreEnds network ends → GoesOn (end_word network) (AreEnds network) (IsNextEnd network ends) ends
+ends_go_on network is ends are = goes_on (IsEndOf network) (ends_spelled network is) (ends_each network) are (λ end. ends_more network ends end are) (end_may_come network ends)
 
 pub ends_closed : (network : Network) → IsClosed (AreEnds network)
 ends_closed network = record {
@@ -215,19 +172,15 @@ ends_closed network = record {
 -- ---- in any order
 
 -- no node yet
-pub no_ends : (network : Network) → AreNewEnds network []
-no_ends network = record {
+pub no_new_ends : (network : Network) → AreNewEnds network []
+no_new_ends network = record {
   few = omega arith;
   within = All-nil IsEnd;
   distinct = λ i j d order below. absurd (omega (arith, below));
   nodes = All-nil (λ (e : ℕ × ℕ). IsNodeOf network e.0);
 }
 
-pub new_ends_so_far : (network : Network) (ends : List (ℕ × ℕ)) → AreSoFar (AreNewEnds network) ends → AreNewEnds network ends
-new_ends_so_far network ends (inl none) = subst (AreNewEnds network) (sym none) (no_ends network)
-new_ends_so_far network ends (inr are) = are
-
-pub new_ends_more : (network : Network) (ends : List (ℕ × ℕ)) (end : ℕ × ℕ) → AreNewEnds network ends → IsNewEnd network ends end → AreNewEnds network (ends ++ end ∷ [])
+new_ends_more : (network : Network) (ends : List (ℕ × ℕ)) (end : ℕ × ℕ) → AreNewEnds network ends → IsNewEnd network ends end → AreNewEnds network (ends ++ end ∷ [])
 new_ends_more network ends end are new = record {
   few = omega (arith, new.room, length-append ends (end ∷ []));
   within = All-push IsEnd ends end are.within new.is_end.is_end;
@@ -250,13 +203,10 @@ new_end_may_come network ends end are = record {
         are.distinct k (length ends) x below (omega (arith, length-append ends (end ∷ [])))
         (ap (λ (e : ℕ × ℕ). e.0) here ∙ same ∙ sym (ap (λ (e : ℕ × ℕ). e.0) there))
 
-pub makes_ends : (network : Network) (ends : List (ℕ × ℕ)) → IsNetwork network → AreNewEnds network ends → MakesList (IsEndOf network) (end_word network) (AreNewEnds network) ends (IsNewEnd network ends)
-makes_ends network ends is are = record {
-  apart = ends_spelled network is;
-  each = λ others fine k d below. record { is_end = fine.within k d below; is_node = fine.nodes k d below };
-  all = λ k d below. record { is_end = are.within k d below; is_node = are.nodes k d below };
-  may_come = new_end_may_come network ends;
-}
+pub new_ends_go_on : (network : Network) → IsNetwork network → (ends : List (ℕ × ℕ)) → AreNewEnds network ends → GoesOn (end_word network) (AreNewEnds network) (IsNewEnd network ends) ends
+new_ends_go_on network is ends are =
+    goes_on (IsEndOf network) (ends_spelled network is) (λ others fine k d below. record { is_end = fine.within k d below; is_node = fine.nodes k d below }) are
+    (λ end. new_ends_more network ends end are) (new_end_may_come network ends)
 
 pub new_ends_closed : (network : Network) → IsClosed (AreNewEnds network)
 new_ends_closed network = record {

@@ -1,12 +1,12 @@
 pub mod Back
 pub mod Colons
-pub mod Costs
 pub mod EndWords
 pub mod Faults
 pub mod FieldLemmas
 pub mod Hoses
 pub mod ItemByItem
 pub mod Items
+pub mod Lines
 pub mod ListsUntil
 pub mod NodeNames
 pub mod OneCommand

@@ -12,14 +12,8 @@ use Rattle.hose_words.proofs.Listing.{Listing, listing_more, wrong_after}
 use Rattle.hose_words.proofs.Until.{HasNoLast, no_whole_list, until_more, until_only}
 use Rattle.hose_graph.specs.Network.{Network, name_of}
 use Rattle.hose_proto.specs.Places.{end_word}
-use Rattle.hose_proto.specs.steps.Reading.{AreSoFar, MissesUntil}
+use Rattle.hose_proto.specs.steps.Reading.{GoesOn, IfFirst, MissesUntil, TellsNone}
 use Rattle.hose_proto.proofs.Colons.{end_cut}
-
--- where no item of a list ends it, none that was read does
-pub none_ends : {A : Type 0} {word_of : A → List ℕ} {fine : List A → Type 0} {last : List ℕ} {items : List A} → ((others : List A) → fine others → HasNoLast last (map word_of others)) → AreSoFar fine items
-    → HasNoLast last (map word_of items)
-none_ends {A} {word_of} {fine} {last} {items} apart (inl none) = subst (λ (xs : List A). HasNoLast last (map word_of xs)) (sym none) (All-nil (λ word. word ≢ last))
-none_ends {A} {word_of} {fine} {last} {items} apart (inr are) = apart items are
 
 module _ {A : Type 0} {word_of : A → List ℕ} {fine : List A → Type 0} {least : ℕ} {last : List ℕ} {rest : Form} {items : List A} {old mid : Position} (free : HasNoLast last (map word_of items)) (listing : Listing word_of (until word_of fine least last rest) items old mid) where
   -- one item more
@@ -29,16 +23,16 @@ module _ {A : Type 0} {word_of : A → List ℕ} {fine : List A → Type 0} {lea
       (until_more (TellsItems word_of fine) least last (Follows rest) [] (map word_of items) (word_of item) free (inl (items ++ item ∷ [], sym (map-append word_of items (item ∷ [])), are)))
 
   -- the next word tells no item more, and is not the end of the list
-  pub wrong_until : {number : ℕ} → MissesUntil word_of fine least last items mid number → IsWrong (until word_of fine least last rest) old number
-  wrong_until {number} misses =
+  pub wrong_until : {may : A → Type 0} {number : ℕ} → GoesOn word_of fine may items → MissesUntil word_of may least last items mid number → IsWrong (until word_of fine least last rest) old number
+  wrong_until {may} {number} goes misses =
       wrong_after word_of (until word_of fine least last rest) items old mid number listing misses.at (here mid.left misses.none misses.no_last)
     where
-      neither : (word : List ℕ) → ¬ TellsItems word_of fine (map word_of items ++ word ∷ []) → ¬ ((word ≡ last) × (least ≤ length items))
+      neither : (word : List ℕ) → TellsNone word_of may word → ¬ ((word ≡ last) × (least ≤ length items))
           → TellsItems word_of fine (map word_of items ++ word ∷ []) ⊎ ((least ≤ 0 + length (map word_of items)) × (word ≡ last)) → ⊥
-      neither word none no_last (inl told) = none told
+      neither word none no_last (inl told) = goes.only word told none
       neither word none no_last (inr (enough, is)) = no_last (is, omega (arith, enough, length-map items word_of))
 
-      here : (left : List (List ℕ)) → ¬ IsFirst (λ word. TellsItems word_of fine (map word_of items ++ word ∷ [])) left → ¬ IsFirst (λ word. (word ≡ last) × (least ≤ length items)) left
+      here : (left : List (List ℕ)) → IfFirst (TellsNone word_of may) left → ¬ IsFirst (λ word. (word ≡ last) × (least ≤ length items)) left
           → IsFirstNotAllowed (grammar_of (until word_of fine least last rest)) (map word_of items) left (length items + 1)
       here [] none no_last = (no_whole_list last (IsWhole rest) (map word_of items) free, omega (arith, length-map items word_of))
       here (word ∷ more) none no_last =

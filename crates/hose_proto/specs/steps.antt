@@ -3,4 +3,3 @@ pub mod EndWords
 pub mod Fields
 pub mod Reading
 pub mod ReplyLines
-pub mod ReplyText

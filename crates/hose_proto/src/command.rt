@@ -8,7 +8,7 @@ ghost use Rattle.hose_graph.specs.Network.{IsNetwork};
 ghost use Rattle.hose_graph.specs.declared.command.Command.{Command};
 ghost use Rattle.hose_proto.specs.Command.{AreEndsOf, AreNewEnds, IsCommand, TakesMemory, command_form, command_grammar, ends_form, verb_word};
 ghost use Rattle.hose_proto.specs.Places.{end_word};
-ghost use Rattle.hose_proto.specs.steps.Reading.{IsFaultOf, IsNewEnd, TellsNext};
+ghost use Rattle.hose_proto.specs.steps.Reading.{IsFaultOf, IsNewEnd};
 ghost use Rattle.hose_graph.specs.steps.Naming.{AsksOf};
 
 use crate::fault::ReadFault;
@@ -128,26 +128,21 @@ impl Items for NewEnds {
 
     ghost fine = { AreNewEnds };
 
-    fn next(top: &Topology, ends: &[Endpoint], word: &[u8]) -> Option<Endpoint> {
-        new_end(top, ends, word)
-    }
-}
+    ghost may_come = { IsNewEnd };
 
-// The endpoint that a word spells, where there is room for one more and its node has none yet.
-fn new_end(top: &Topology, ends: &[Endpoint], word: &[u8]) -> Option<Endpoint>
-    requires { IsNetwork top.now }
-    ensures { TellsNext (end_word top.now) (IsNewEnd top.now ends.now) word.now result }
-{
-    let Some(end) = endpoint(top, word) else {
-        return None;
-    };
-    if ends.len() >= MOST_ENDS {
-        return None;
+    // The endpoint that a word spells, where there is room for one more and its node has none yet.
+    fn next(top: &Topology, ends: &[Endpoint], word: &[u8]) -> Option<Endpoint> {
+        let Some(end) = endpoint(top, word) else {
+            return None;
+        };
+        if ends.len() >= MOST_ENDS {
+            return None;
+        }
+        if has_node(ends, end.0) {
+            return None;
+        }
+        Some(end)
     }
-    if has_node(ends, end.0) {
-        return None;
-    }
-    Some(end)
 }
 
 // Whether one of the endpoints is at the node.

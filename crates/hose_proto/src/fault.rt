@@ -15,6 +15,8 @@ pub enum ReadFault {
     Memory,
 }
 
+pub(crate) type Read<T> = Result<T, ReadFault>;
+
 impl<T: Drop> From<AllocFailed<T>> for ReadFault {
     ghost from_gives = { λ _ fault. fault ≡ Memory };
 

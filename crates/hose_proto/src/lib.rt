@@ -9,6 +9,7 @@
 mod choices;
 mod command;
 mod fault;
+mod fields;
 mod head;
 mod lists;
 mod pieces;

@@ -5,7 +5,7 @@ ghost use Rattle.hose_words.specs.Form.{list, until};
 ghost use Rattle.hose_graph.specs.Network.{Network, IsNetwork};
 ghost use Rattle.hose_proto.specs.Fields.{Fields};
 ghost use Rattle.hose_proto.specs.steps.Fields.{form_of};
-ghost use Rattle.hose_proto.specs.steps.Reading.{AreSoFar, EndsList, IsFaultOf, MissesUntil, TellsMore};
+ghost use Rattle.hose_proto.specs.steps.Reading.{EndsList, GoesOn, IsFaultOf, MissesUntil, TellsNext};
 
 use crate::fault::ReadFault;
 use hose_graph::Topology;
@@ -22,11 +22,14 @@ pub(crate) trait Items {
     // Items that may stand in a list.
     ghost fine: { Network → List Self.Item → Type 0 };
 
+    // An item that may come after others.
+    ghost may_come: { Network → List Self.Item → Self.Item → Type 0 };
+
     // The item that a word tells, where it may come after the others.
     fn next(top: &Topology, items: &[Self::Item], word: &[u8]) -> Option<Self::Item>
         requires network { IsNetwork top.now }
-        requires so_far { AreSoFar (fine top.now) items.now }
-        ensures { TellsMore (word_of top.now) (fine top.now) items.now word.now result };
+        requires so_far { fine top.now items.now }
+        ensures { TellsNext (word_of top.now) (may_come top.now items.now) word.now result };
 }
 
 // The items of a list of so many at least, to the end of the line.
@@ -37,7 +40,9 @@ pub(crate) fn read_items<L: Items>(
     words: &mut Cursor<'_>,
 ) -> Result<Vec<L::Item>, ReadFault>
     requires network { IsNetwork top.now }
-    requires some { 1 ≤ least }
+    requires none { L.fine top.now [] }
+    requires goes_on { (items : List L.Item) → L.fine top.now items
+        → GoesOn (L.word_of top.now) (L.fine top.now) (L.may_come top.now items) items }
     ensures told { IfOk result (λ items. words.old.left ≡ map (L.word_of top.now) items.items) }
     ensures fine { IfOk result (λ items. L.fine top.now items.items) }
     ensures enough { IfOk result (λ items. least ≤ length items.items) }
@@ -59,14 +64,14 @@ fn next_item<L: Items>(
     words: &mut Cursor<'_>,
 ) -> Result<Option<L::Item>, WrongWord>
     requires network { IsNetwork top.now }
-    requires so_far { AreSoFar (L.fine top.now) items.now }
+    requires so_far { L.fine top.now items.now }
     ensures next { IfOk result (λ next. IfSome next (λ item.
         Took words.old words.new (L.word_of top.now item)
-        × L.fine top.now (items.now ++ item ∷ []))) }
+        × L.may_come top.now items.now item)) }
     ensures last { IfOk result (λ next. IfNone next
         ((words.old.left ≡ []) × (least ≤ length items.now))) }
-    ensures wrong { IfErr result (λ wrong. EndsList (L.word_of top.now) (L.fine top.now) least
-        items.now words.old wrong.number) }
+    ensures wrong { IfErr result (λ wrong. EndsList (L.word_of top.now)
+        (L.may_come top.now items.now) least items.now words.old wrong.number) }
 {
     let wrong = words.wrong();
     match words.next() {
@@ -88,11 +93,14 @@ pub(crate) fn read_until<L: Items>(
     words: &mut Cursor<'_>,
 ) -> Result<Vec<L::Item>, ReadFault>
     requires network { IsNetwork top.now }
+    requires none { L.fine top.now [] }
+    requires goes_on { (items : List L.Item) → L.fine top.now items
+        → GoesOn (L.word_of top.now) (L.fine top.now) (L.may_come top.now items) items }
     requires apart { (items : List L.Item) → L.fine top.now items
         → All (λ word. word ≢ last.now) (map (L.word_of top.now) items) }
     ensures told { IfOk result (λ items. words.old.left
         ≡ map (L.word_of top.now) items.items ++ last.now ∷ words.new.left) }
-    ensures fine { IfOk result (λ items. AreSoFar (L.fine top.now) items.items) }
+    ensures fine { IfOk result (λ items. L.fine top.now items.items) }
     ensures enough { IfOk result (λ items. least ≤ length items.items) }
     ensures later { OnOk result ((rest : Fields) (place : ℕ)
         → IsWrong (form_of top.now rest) words.new place
@@ -118,14 +126,14 @@ fn next_until<L: Items>(
     words: &mut Cursor<'_>,
 ) -> Result<Option<L::Item>, WrongWord>
     requires network { IsNetwork top.now }
-    requires so_far { AreSoFar (L.fine top.now) items.now }
+    requires so_far { L.fine top.now items.now }
     ensures next { IfOk result (λ next. IfSome next (λ item.
         Took words.old words.new (L.word_of top.now item)
-        × L.fine top.now (items.now ++ item ∷ []))) }
+        × L.may_come top.now items.now item)) }
     ensures ended { IfOk result (λ next. IfNone next
         (Took words.old words.new last.now × (least ≤ length items.now))) }
-    ensures wrong { IfErr result (λ wrong. MissesUntil (L.word_of top.now) (L.fine top.now) least
-        last.now items.now words.old wrong.number) }
+    ensures wrong { IfErr result (λ wrong. MissesUntil (L.word_of top.now)
+        (L.may_come top.now items.now) least last.now items.now words.old wrong.number) }
 {
     let wrong = words.wrong();
     let Some(word) = words.next() else {

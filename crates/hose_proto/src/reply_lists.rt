@@ -1,17 +1,15 @@
 // The lists of replies, read from words.
-ghost use Rattle.std.specs.Prelude.{◌≡◌, ◌↔◌, ℕ, ◌++◌, [], ◌∷◌, codes, decimal, map, IfOk, OnOk, IfErr, IfSome, IfNone, IsTrue};
+ghost use Rattle.std.specs.Prelude.{◌≡◌, ◌↔◌, ◌++◌, [], ◌∷◌, decimal, IfSome, IfNone, IsTrue};
 ghost use Rattle.std.specs.List.Sorted.{IsStrictlyIncreasing};
-ghost use Rattle.hose_words.specs.steps.Cursor.{IsWrong};
-ghost use Rattle.hose_graph.specs.Amounts.{ReservedLink};
-ghost use Rattle.hose_graph.specs.Hose.{Endpoint};
 ghost use Rattle.hose_graph.specs.Ascending.{IsAscending, firsts};
 ghost use Rattle.hose_graph.specs.Network.{IsNetwork, name_of};
-ghost use Rattle.hose_proto.specs.Places.{IsHoseOf, end_word};
-ghost use Rattle.hose_proto.specs.steps.Reading.{IsFaultOf, IsNextEnd, IsNextNode, IsNextNumber, IsNextPair, TellsNext};
-ghost use Rattle.hose_proto.specs.Fields.{Fields, pair_word, the_amounts, the_ends, the_nodes, the_numbers};
-ghost use Rattle.hose_proto.specs.steps.Fields.{AreAmounts, AreEnds, AreNumbers, IsSide, form_of};
+ghost use Rattle.hose_proto.specs.Places.{end_word};
+ghost use Rattle.hose_proto.specs.steps.Reading.{IsNextEnd, IsNextNode, IsNextNumber, IsNextPair, TellsNone};
+ghost use Rattle.hose_proto.specs.Fields.{pair_word, the_amounts, the_ends, the_nodes, the_numbers};
+ghost use Rattle.hose_proto.specs.steps.Fields.{AreAmounts, AreEnds, AreNumbers, IsSide};
 
-use crate::fault::ReadFault;
+use crate::fault::Read;
+use crate::fields::Line;
 use crate::lists::{Items, read_items, read_until};
 use crate::places::{endpoint, link_number, number_told, parts};
 use hose_graph::{
@@ -19,21 +17,80 @@ use hose_graph::{
 };
 use hose_words::{Cursor, number};
 use std::alloc::Global;
+use std::marker::PhantomData;
 
 // Amounts on links, to the end of the line.
-pub(crate) fn read_amounts(
-    alloc: Global,
-    top: &Topology,
-    words: &mut Cursor<'_>,
-) -> Result<Amounts, ReadFault>
-    requires { IsNetwork top.now }
-    ensures told { IfOk result (λ amounts. words.old.left ≡ map pair_word amounts) }
-    ensures amounts { IfOk result (AreAmounts top.now) }
-    ensures bad { IfErr result (IsFaultOf (form_of top.now the_amounts) words.old) }
-{
-    let pairs = read_items::<Pairs>(alloc, top, 1, words)?;
-    let amounts = Amounts::build(alloc, &pairs)?;
-    Ok(amounts)
+pub(crate) struct TheAmounts;
+
+impl Line for TheAmounts {
+    type Told = Amounts;
+
+    ghost fields = { the_amounts };
+
+    ghost values = { λ amounts. amounts };
+
+    fn read(alloc: Global, top: &Topology, words: &mut Cursor<'_>) -> Read<Self::Told> {
+        let pairs = read_items::<Pairs>(alloc, top, 1, words)?;
+        let amounts = Amounts::build(alloc, &pairs)?;
+        Ok(amounts)
+    }
+}
+
+// Nodes by their names, to the end of the line.
+pub(crate) struct TheNodes;
+
+impl Line for TheNodes {
+    type Told = NodeList;
+
+    ghost fields = { the_nodes };
+
+    ghost values = { λ side. side };
+
+    fn read(alloc: Global, top: &Topology, words: &mut Cursor<'_>) -> Read<Self::Told> {
+        let nodes = read_items::<Nodes>(alloc, top, 1, words)?;
+        let side = NodeList::build(alloc, &nodes)?;
+        Ok(side)
+    }
+}
+
+// The endpoints of a hose, and `links` after them.
+pub(crate) struct TheEnds<T> {
+    fields: PhantomData<T>,
+}
+
+impl<T: Line> Line for TheEnds<T> {
+    type Told = (Hose, T::Told);
+
+    ghost fields = { the_ends T.fields };
+
+    ghost values = { λ told. (told.0, T.values told.1) };
+
+    fn read(alloc: Global, top: &Topology, words: &mut Cursor<'_>) -> Read<Self::Told> {
+        let ends = read_until::<Ends>(alloc, top, LEAST_ENDS, b"links", words)?;
+        let hose = Hose::from_ends(alloc, &ends)?;
+        let rest = T::read(alloc, top, words)?;
+        Ok((hose, rest))
+    }
+}
+
+// The numbers of VPNs, and `at` after them.
+pub(crate) struct TheNumbers<T> {
+    fields: PhantomData<T>,
+}
+
+impl<T: Line> Line for TheNumbers<T> {
+    type Told = (VpnList, T::Told);
+
+    ghost fields = { the_numbers T.fields };
+
+    ghost values = { λ told. (told.0, T.values told.1) };
+
+    fn read(alloc: Global, top: &Topology, words: &mut Cursor<'_>) -> Read<Self::Told> {
+        let ids = read_until::<Numbers>(alloc, top, 0, b"at", words)?;
+        let ids = VpnList::from_vec(ids);
+        let rest = T::read(alloc, top, words)?;
+        Ok((ids, rest))
+    }
 }
 
 // Amounts on links, in ascending order of links.
@@ -46,45 +103,23 @@ impl Items for Pairs {
 
     ghost fine = { AreAmounts };
 
+    ghost may_come = { IsNextPair };
+
+    // The amount that a word tells, where its link comes after those of the others.
     fn next(top: &Topology, pairs: &[ReservedLink], word: &[u8]) -> Option<ReservedLink> {
-        pair_after(top, pairs, word)
+        let (link, amount) = parts(word)?;
+        let Some(link) = link_number(top, link) else {
+            return None;
+        };
+        let Some(amount) = number(amount, u64::MAX) else {
+            return None;
+        };
+        if comes_after(pairs, link) {
+            Some((link, amount))
+        } else {
+            None
+        }
     }
-}
-
-// The amount that a word tells, where its link comes after those of the others.
-fn pair_after(top: &Topology, pairs: &[ReservedLink], word: &[u8]) -> Option<ReservedLink>
-    requires ascending { IsAscending pairs.now }
-    requires network { IsNetwork top.now }
-    ensures { TellsNext pair_word (IsNextPair top.now pairs.now) word.now result }
-{
-    let (link, amount) = parts(word)?;
-    let Some(link) = link_number(top, link) else {
-        return None;
-    };
-    let Some(amount) = number(amount, u64::MAX) else {
-        return None;
-    };
-    if comes_after(pairs, link) {
-        Some((link, amount))
-    } else {
-        None
-    }
-}
-
-// The nodes that words name, to the end of the line.
-pub(crate) fn read_side(
-    alloc: Global,
-    top: &Topology,
-    words: &mut Cursor<'_>,
-) -> Result<NodeList, ReadFault>
-    requires { IsNetwork top.now }
-    ensures told { IfOk result (λ side. words.old.left ≡ map (name_of top.now) side) }
-    ensures side { IfOk result (IsSide top.now) }
-    ensures bad { IfErr result (IsFaultOf (form_of top.now the_nodes) words.old) }
-{
-    let nodes = read_items::<Nodes>(alloc, top, 1, words)?;
-    let side = NodeList::build(alloc, &nodes)?;
-    Ok(side)
 }
 
 // Nodes in ascending order.
@@ -97,6 +132,8 @@ impl Items for Nodes {
 
     ghost fine = { IsSide };
 
+    ghost may_come = { IsNextNode };
+
     fn next(top: &Topology, nodes: &[u32], word: &[u8]) -> Option<u32> {
         node_after(top, nodes, word)
     }
@@ -108,35 +145,14 @@ fn node_after(top: &Topology, nodes: &[u32], word: &[u8]) -> Option<u32>
     requires network { IsNetwork top.now }
     ensures some { IfSome result
         (λ node. (word.now ≡ name_of top.now node) × IsNextNode top.now nodes.now node) }
-    ensures none { IfNone result ((node : ℕ)
-        → word.now ≡ name_of top.now node → IsNextNode top.now nodes.now node → ⊥) }
+    ensures none { IfNone result (TellsNone (name_of top.now) (IsNextNode top.now nodes.now)
+        word.now) }
 {
     let node = top.find(&Name::read(word)?)?;
     match nodes.last() {
         Some(last) if *last >= node => None,
         _ => Some(node),
     }
-}
-
-// The endpoints that words tell up to `links`, and that word.
-pub(crate) fn read_hose(
-    alloc: Global,
-    top: &Topology,
-    words: &mut Cursor<'_>,
-) -> Result<Hose, ReadFault>
-    requires { IsNetwork top.now }
-    ensures told { IfOk result (λ hose.
-        words.old.left ≡ map (end_word top.now) hose ++ codes "links" ∷ words.new.left) }
-    ensures hose { IfOk result (IsHoseOf top.now) }
-    ensures later { OnOk result ((rest : Fields) (place : ℕ)
-        → IsWrong (form_of top.now rest) words.new place
-        → IsWrong (form_of top.now (the_ends rest)) words.old place) }
-    ensures bad { IfErr result
-        (λ fault. (rest : Fields) → IsFaultOf (form_of top.now (the_ends rest)) words.old fault) }
-{
-    let ends = read_until::<Ends>(alloc, top, LEAST_ENDS, b"links", words)?;
-    let hose = Hose::from_ends(alloc, &ends)?;
-    Ok(hose)
 }
 
 // Endpoints in ascending order of nodes.
@@ -149,28 +165,22 @@ impl Items for Ends {
 
     ghost fine = { AreEnds };
 
-    fn next(top: &Topology, ends: &[Endpoint], word: &[u8]) -> Option<Endpoint> {
-        end_after(top, ends, word)
-    }
-}
+    ghost may_come = { IsNextEnd };
 
-// The endpoint that a word tells, where its node comes after those of the others and there is room
-// for one more.
-fn end_after(top: &Topology, ends: &[Endpoint], word: &[u8]) -> Option<Endpoint>
-    requires ascending { IsAscending ends.now }
-    requires network { IsNetwork top.now }
-    ensures { TellsNext (end_word top.now) (IsNextEnd top.now ends.now) word.now result }
-{
-    let Some(end) = endpoint(top, word) else {
-        return None;
-    };
-    if ends.len() >= MOST_ENDS {
-        return None;
-    }
-    if comes_after(ends, end.0) {
-        Some(end)
-    } else {
-        None
+    // The endpoint that a word tells, where its node comes after those of the others and there is
+    // room for one more.
+    fn next(top: &Topology, ends: &[Endpoint], word: &[u8]) -> Option<Endpoint> {
+        let Some(end) = endpoint(top, word) else {
+            return None;
+        };
+        if ends.len() >= MOST_ENDS {
+            return None;
+        }
+        if comes_after(ends, end.0) {
+            Some(end)
+        } else {
+            None
+        }
     }
 }
 
@@ -185,26 +195,6 @@ fn comes_after(pairs: &[(u32, u64)], number: u32) -> bool
     }
 }
 
-// The numbers of VPNs up to `at`, and that word.
-pub(crate) fn read_ids(
-    alloc: Global,
-    top: &Topology,
-    words: &mut Cursor<'_>,
-) -> Result<VpnList, ReadFault>
-    requires { IsNetwork top.now }
-    ensures told { IfOk result (λ ids.
-        words.old.left ≡ map decimal ids ++ codes "at" ∷ words.new.left) }
-    ensures ids { IfOk result AreNumbers }
-    ensures later { OnOk result ((rest : Fields) (place : ℕ)
-        → IsWrong (form_of top.now rest) words.new place
-        → IsWrong (form_of top.now (the_numbers rest)) words.old place) }
-    ensures bad { IfErr result (λ fault. (rest : Fields)
-        → IsFaultOf (form_of top.now (the_numbers rest)) words.old fault) }
-{
-    let ids = read_until::<Numbers>(alloc, top, 0, b"at", words)?;
-    Ok(VpnList::from_vec(ids))
-}
-
 // Numbers in ascending order.
 struct Numbers;
 
@@ -215,22 +205,14 @@ impl Items for Numbers {
 
     ghost fine = { λ _. AreNumbers };
 
-    fn next(_top: &Topology, numbers: &[u64], word: &[u8]) -> Option<u64> {
-        number_after(numbers, word)
-    }
-}
+    ghost may_come = { λ _. IsNextNumber };
 
-// The number that a word tells, where it comes after the others.
-fn number_after(numbers: &[u64], word: &[u8]) -> Option<u64>
-    requires { IsStrictlyIncreasing numbers.now }
-    ensures some { IfSome result
-        (λ number. (word.now ≡ decimal number) × IsNextNumber numbers.now number) }
-    ensures none { IfNone result ((number : ℕ)
-        → word.now ≡ decimal number → IsNextNumber numbers.now number → ⊥) }
-{
-    let told = number_told(word)?;
-    match numbers.last() {
-        Some(last) if *last >= told => None,
-        _ => Some(told),
+    // The number that a word tells, where it comes after the others.
+    fn next(_top: &Topology, numbers: &[u64], word: &[u8]) -> Option<u64> {
+        let told = number_told(word)?;
+        match numbers.last() {
+            Some(last) if *last >= told => None,
+            _ => Some(told),
+        }
     }
 }

@@ -10,7 +10,6 @@ ghost use Rattle.hose_graph.specs.declared.command.Reply.TheVariants.{LinkState,
 ghost use Rattle.hose_proto.specs.Fields.{a_number, a_service, no_more, pair_word, words_told};
 ghost use Rattle.hose_proto.specs.steps.ReplyLines.{IsOfKind, IsReply};
 ghost use Rattle.hose_proto.specs.ReplyText.{line_of, node_text, reply_text, spaced};
-ghost use Rattle.hose_proto.specs.steps.ReplyText.{IsShort, number_text};
 ghost use Rattle.hose_graph.specs.steps.Naming.{NamesPlaces};
 ghost use Rattle.hose_words.specs.Words.{words_of};
 
@@ -72,17 +71,6 @@ fn add_reply<S: Sink>(gather: &mut Gather, sink: &mut S, top: &Topology, reply: 
             out,
             at,
         } => add_state(gather, sink, top, (*link, *load), (*out, *at)),
-        _ => add_short(gather, sink, reply),
-    }
-}
-
-// Adds the text of a reply that has neither lists nor names.
-fn add_short<S: Sink>(gather: &mut Gather, sink: &mut S, reply: &Reply)
-    requires { IsShort reply.now }
-    ensures { (network : Network) → IsAdded S.Sink gather.old sink.old gather.new sink.new
-        (reply_text network reply.now) }
-{
-    match reply {
         Reply::Welcome { at } => add_last(gather, sink, b"welcome at ", *at),
         Reply::Stale { seen, now } => add_stale(gather, sink, *seen, *now),
         Reply::Released { id, at } => add_at(gather, sink, b"released ", *id, *at),
@@ -101,12 +89,6 @@ fn add_short<S: Sink>(gather: &mut Gather, sink: &mut S, reply: &Reply)
         Reply::Bad { word } => add_last(gather, sink, b"bad ", *word),
         Reply::Long => gather.add(sink, b"long"),
         Reply::Bye => gather.add(sink, b"bye"),
-        Reply::Admitted { .. } => {}
-        Reply::Quoted { .. } => {}
-        Reply::Refused { .. } => {}
-        Reply::Shown { .. } => {}
-        Reply::Vpns { .. } => {}
-        Reply::LinkState { .. } => {}
     }
 }
 
@@ -202,7 +184,7 @@ fn add_vpns<S: Sink>(gather: &mut Gather, sink: &mut S, at: u64, ids: &VpnList)
 // Adds the numbers of VPNs.
 fn add_ids<S: Sink>(gather: &mut Gather, sink: &mut S, ids: &[u64])
     ensures { IsAdded S.Sink gather.old sink.old gather.new sink.new
-        (flat_map number_text ids.now) }
+        (flat_map (λ id. codes " " ++ decimal id) ids.now) }
 {
     for id in ids {
         gather.add_numbered(sink, b" ", *id);

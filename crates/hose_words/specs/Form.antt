@@ -98,7 +98,3 @@ Fits64 number = number < 2 ^ 64
 -- a number from the least to the most, both of them allowed
 abbrev pub IsWithin : ℕ → ℕ → ℕ → Type 0
 IsWithin least most number = (least ≤ number) × (number ≤ most)
-
--- the word of a number that 64 bits hold, and then what a form says
-abbrev pub number : Form → Form
-number form = place (TellsNumber Fits64) form

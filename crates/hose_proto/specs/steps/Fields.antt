@@ -1,9 +1,9 @@
 -- Lines as data: the fields that may stand from some word of a line on, and what is so of each:
 -- what it tells, the words that tell it, when these are sound, and their grammar: steps of proofs.
-use Rattle.std.specs.Prelude.{ℕ, ◌≤◌, List, ⊤, All, length, codes, decimal, slice_get}
+use Rattle.std.specs.Prelude.{◌≡◌, ℕ, ◌≤◌, List, ⊤, All, length, codes, decimal, slice_get}
 use Rattle.std.specs.List.Sorted.{IsStrictlyIncreasing}
-use Rattle.hose_words.specs.Form.{Form, Fits64, Each, finish, branch, list, until, number, this}
-use Rattle.hose_words.specs.steps.Form.{these}
+use Rattle.hose_words.specs.Form.{Form, Fits64, Each, finish, branch, list, until, this}
+use Rattle.hose_words.specs.steps.Form.{number, these}
 use Rattle.hose_graph.specs.Amounts.{ReservedLink, amount_of, link_of}
 use Rattle.hose_graph.specs.Ascending.{IsAscending}
 use Rattle.hose_graph.specs.Hose.{IsEnd, Endpoint, node_of}
@@ -12,7 +12,7 @@ use Rattle.hose_graph.specs.Network.{Network, name_of, IsLinkOf, IsNodeOf}
 use Rattle.hose_proto.specs.Places.{IsHoseOf, end_word}
 use Rattle.hose_proto.specs.declared.head.Service.{Service}
 use Rattle.hose_proto.specs.declared.head.Service.TheVariants as service
-use Rattle.hose_proto.specs.Fields.{a_link, a_link_told, a_missing, a_number, a_service, a_word, Fields, missing_word, no_more, pair_word, the_amounts, the_ends, the_nodes, the_numbers, Values, words_of_link}
+use Rattle.hose_proto.specs.Fields.{a_link, a_link_told, a_missing, a_number, a_service, a_word, Fields, missing_word, no_more, pair_word, the_amounts, the_ends, the_nodes, the_numbers, Values, words_of_link, words_told}
 
 -- ---- the words of fields
 
@@ -23,16 +23,14 @@ service_word service.At = codes "at"
 
 -- ---- lists that can be read
 
--- amounts on links of the network, one at least, in ascending order of links
+-- amounts on links of the network, in ascending order of links
 pub record AreAmounts (network : Network) (amounts : List ReservedLink) : Type 0 where
-  pub some : 1 ≤ length amounts
   pub ascending : IsAscending amounts
   pub links : All (λ pair. IsLinkOf network (link_of pair)) amounts
   pub numbers : All (λ pair. Fits64 (amount_of pair)) amounts
 
--- nodes of the network, one at least, in ascending order
+-- nodes of the network, in ascending order
 pub record IsSide (network : Network) (side : List ℕ) : Type 0 where
-  pub some : 1 ≤ length side
   pub ascending : IsStrictlyIncreasing side
   pub nodes : All (IsNodeOf network) side
 
@@ -61,8 +59,8 @@ AreSound network (a_link_told fields) (link, values) =
     IsLinkOf network link × AreSound network fields values
 AreSound network (a_missing fields) (kind, values) = AreSound network fields values
 AreSound network (a_service fields) (out, values) = AreSound network fields values
-AreSound network the_amounts amounts = AreAmounts network amounts
-AreSound network the_nodes side = IsSide network side
+AreSound network the_amounts amounts = (1 ≤ length amounts) × AreAmounts network amounts
+AreSound network the_nodes side = (1 ≤ length side) × IsSide network side
 AreSound network (the_ends fields) (hose, values) =
     IsHoseOf network hose × AreSound network fields values
 AreSound network (the_numbers fields) (numbers, values) =
@@ -91,6 +89,12 @@ form_of network (the_ends fields) =
     until (end_word network) (AreEnds network) least_ends (codes "links") (form_of network fields)
 form_of network (the_numbers fields) =
     until decimal AreNumbers 0 (codes "at") (form_of network fields)
+
+-- words are those of fields that tell this, which is sound
+pub record Tells (network : Network) (fields : Fields) (values : Values fields)
+    (words : List (List ℕ)) : Type 0 where
+  pub sound : AreSound network fields values
+  pub spelled : words ≡ words_told network fields values
 
 -- fields that have lists, which take memory to read
 abbrev pub HaveLists : Fields → Type 0

@@ -1,8 +1,8 @@
 -- What is read of the words of commands and replies.
-use Rattle.std.specs.Prelude.{◌≡◌, ◌⊎◌, ℕ, ◌+◌, ◌<◌, ◌≤◌, List, [], ◌∷◌, ◌++◌, Option, IfNone, IfSome, Any, codes, decimal, length, map}
+use Rattle.std.specs.Prelude.{◌≡◌, ⊤, ℕ, ◌+◌, ◌<◌, ◌≤◌, List, [], ◌∷◌, ◌++◌, Option, IfNone, IfSome, Any, length, map}
 use Rattle.std.specs.List.Sorted.{IsStrictlyIncreasing}
 use Rattle.hose_words.specs.steps.Cursor.{Position, IsWrong}
-use Rattle.hose_words.specs.Form.{Form, Fits64, TellsItems, finish, number, this}
+use Rattle.hose_words.specs.Form.{Form, Fits64, TellsItems}
 use Rattle.hose_words.specs.Grammar.{IsFirst}
 use Rattle.hose_graph.specs.Amounts.{ReservedLink, amount_of, link_of}
 use Rattle.hose_graph.specs.Ascending.{firsts}
@@ -10,28 +10,20 @@ use Rattle.hose_graph.specs.Hose.{IsEnd, Endpoint, node_of}
 use Rattle.hose_graph.specs.Network.{Network, IsLinkOf, IsNodeOf}
 use Rattle.hose_graph.specs.Limits.{most_ends}
 use Rattle.hose_proto.specs.declared.fault.ReadFault.{ReadFault}
-use Rattle.hose_proto.specs.declared.fault.ReadFault.TheVariants.{Bad}
+use Rattle.hose_proto.specs.declared.fault.ReadFault.TheVariants.{Bad, Memory}
+use Rattle.hose_proto.specs.Fields.{Fields}
+use Rattle.hose_proto.specs.steps.Fields.{HaveLists, form_of}
 
 -- A word that is told is the first of those to come that a form does not allow. Want of memory
 -- tells nothing of them.
 pub record IsFaultOf (form : Form) (old : Position) (fault : ReadFault) : Type 0 where
   pub word : (number : ℕ) → fault ≡ Bad number → IsWrong form old number
 
--- `at N`
-abbrev pub at_form : Form
-at_form = this (codes "at") (number finish)
-
--- `ID at N`
-abbrev pub id_form : Form
-id_form = number at_form
-
--- `ID cost C at N`, and what may stand after that
-abbrev pub cost_form : Form → Form
-cost_form form = number (this (codes "cost") (number (this (codes "at") (number form))))
-
--- a number, a cost and an epoch
-abbrev pub cost_words : ℕ → ℕ → ℕ → List (List ℕ)
-cost_words id cost at = decimal id ∷ codes "cost" ∷ decimal cost ∷ codes "at" ∷ decimal at ∷ []
+-- Fields of a line fail to be read: a word is wrong, or memory is short for lists that they have.
+pub record FailsAt (network : Network) (fields : Fields) (old : Position) (fault : ReadFault)
+    : Type 0 where
+  pub bad : IsFaultOf (form_of network fields) old fault
+  pub memory : fault ≡ Memory → HaveLists fields
 
 -- an endpoint at a node of the network
 pub record IsEndOf (network : Network) (end : Endpoint) : Type 0 where
@@ -40,16 +32,20 @@ pub record IsEndOf (network : Network) (end : Endpoint) : Type 0 where
 
 -- ---- lists
 
--- no item yet, or items that may stand in a list
-abbrev pub AreSoFar : {A : Type 0} → (List A → Type 0) → List A → Type 0
-AreSoFar fine items = (items ≡ []) ⊎ fine items
+-- the first of some words, where there is one, is so
+abbrev pub IfFirst : (List ℕ → Type 0) → List (List ℕ) → Type 0
+IfFirst is [] = ⊤
+IfFirst is (word ∷ words) = is word
+
+-- a word tells no item that may come next
+abbrev pub TellsNone : {A : Type 0} → (A → List ℕ) → (A → Type 0) → List ℕ → Type 0
+TellsNone {A} word_of may_come word = (item : A) → word ≡ word_of item → may_come item → ⊥
 
 -- The next word tells no item more of a list of so many at least; or the line ends before they are
 -- there. This is the word's number.
-pub record EndsList {A : Type 0} (word_of : A → List ℕ) (fine : List A → Type 0) (least : ℕ)
+pub record EndsList {A : Type 0} (word_of : A → List ℕ) (may_come : A → Type 0) (least : ℕ)
     (items : List A) (old : Position) (number : ℕ) : Type 0 where
-  pub none : ¬ IsFirst
-      (λ word. TellsItems word_of fine (map word_of items ++ word ∷ [])) old.left
+  pub none : IfFirst (TellsNone word_of may_come) old.left
   pub few : old.left ≡ [] → length items < least
   pub at : number ≡ old.read + 1
 
@@ -57,13 +53,14 @@ pub record EndsList {A : Type 0} (word_of : A → List ℕ) (fine : List A → T
 pub record TellsNext {A : Type 0} (word_of : A → List ℕ) (may_come : A → Type 0) (word : List ℕ)
     (told : Option A) : Type 0 where
   pub some : IfSome told (λ item. (word ≡ word_of item) × may_come item)
-  pub none : IfNone told ((item : A) → word ≡ word_of item → may_come item → ⊥)
+  pub none : IfNone told (TellsNone word_of may_come word)
 
--- A word tells one item more of a list; or no list goes on with it.
-pub record TellsMore {A : Type 0} (word_of : A → List ℕ) (fine : List A → Type 0) (items : List A)
-    (word : List ℕ) (told : Option A) : Type 0 where
-  pub some : IfSome told (λ item. (word ≡ word_of item) × fine (items ++ item ∷ []))
-  pub none : IfNone told (¬ TellsItems word_of fine (map word_of items ++ word ∷ []))
+-- a list goes on with the items that may come next, and with no other word
+pub record GoesOn {A : Type 0} (word_of : A → List ℕ) (fine : List A → Type 0)
+    (may_come : A → Type 0) (items : List A) : Type 0 where
+  pub more : (item : A) → may_come item → fine (items ++ item ∷ [])
+  pub only : (word : List ℕ) → TellsItems word_of fine (map word_of items ++ word ∷ [])
+      → TellsNone word_of may_come word → ⊥
 
 -- an endpoint may come after others, which stand in any order
 pub record IsNewEnd (network : Network) (ends : List Endpoint) (end : Endpoint) : Type 0 where
@@ -96,9 +93,8 @@ pub record IsNextNumber (numbers : List ℕ) (number : ℕ) : Type 0 where
 
 -- The next word tells no item more of a list, and is not the word that ends it once it has so many
 -- items. This is the word's number.
-pub record MissesUntil {A : Type 0} (word_of : A → List ℕ) (fine : List A → Type 0) (least : ℕ)
+pub record MissesUntil {A : Type 0} (word_of : A → List ℕ) (may_come : A → Type 0) (least : ℕ)
     (last : List ℕ) (items : List A) (old : Position) (number : ℕ) : Type 0 where
-  pub none : ¬ IsFirst
-      (λ word. TellsItems word_of fine (map word_of items ++ word ∷ [])) old.left
+  pub none : IfFirst (TellsNone word_of may_come) old.left
   pub no_last : ¬ IsFirst (λ word. (word ≡ last) × (least ≤ length items)) old.left
   pub at : number ≡ old.read + 1

@@ -1,14 +1,12 @@
 -- Replies as lines: which fields follow each first word, and what these tell. Words tell a reply
 -- exactly where they are those of its text: steps of proofs.
-use Rattle.std.specs.Prelude.{◌≡◌, ◌⊎◌, ℕ, List}
+use Rattle.std.specs.Prelude.{◌≡◌, ℕ, List}
 use Rattle.hose_words.specs.Form.{Form, branch, Each, grammar_of}
 use Rattle.hose_words.specs.Grammar.{Grammar}
 use Rattle.hose_graph.specs.Network.{Network}
 use Rattle.hose_graph.specs.declared.command.Reply.{Reply}
-use Rattle.hose_graph.specs.declared.command.Reply.TheVariants.{Admitted, Quoted}
 use Rattle.hose_proto.specs.steps.Fields.{AreSound, HaveLists, form_of}
 use Rattle.hose_proto.specs.declared.head.Head.{Head}
-use Rattle.hose_proto.specs.declared.head.Head.TheVariants as head
 use Rattle.hose_proto.specs.ReplyLines.{head_fields, head_word, line_told, reply_words}
 
 -- the numbers of a reply fit 64 bits, and its places are those of the network
@@ -32,10 +30,6 @@ reply_form network = branch Each head_word (head_form network)
 -- the grammar of replies
 abbrev pub reply_grammar : Network → Grammar
 reply_grammar network = grammar_of (reply_form network)
-
--- the first words of the replies that tell what a plan costs and reserves, and no hose
-abbrev pub IsPriced : Head → Type 0
-IsPriced word = (word ≡ head.Admitted) ⊎ (word ≡ head.Quoted)
 
 -- the replies that have lists, and that take memory to read
 abbrev pub HasLists : Head → Type 0

@@ -1,11 +1,11 @@
 use Rattle.hose_words.proofs.Forms.{wrong_choice}
 use Rattle.hose_proto.specs.Command.{verb_form}
-use Rattle.hose_proto.proofs.Faults.{chosen_fault, told_wrong}
+use Rattle.hose_proto.proofs.Faults.{chosen_fault, handed, is_told}
 use Rattle.hose_proto.proofs.Words.{verbs_apart}
 use Rattle.hose_proto.proofs.command.read_words.Goals as goal
 
 pub returns-in_err-verb-clause-bad : goal.returns-in_err-verb-clause-bad
-returns-in_err-verb-clause-bad c = told_wrong c.from_residual.result c.from_residual.ensures.1 (wrong_choice c.in_err-verb.ensures.wrong)
+returns-in_err-verb-clause-bad c = handed _ c.from_residual.result c.from_residual.ensures.1 (is_told (wrong_choice c.in_err-verb.ensures.wrong))
 
 pub returns-clause-bad : goal.returns-clause-bad
 returns-clause-bad c = chosen_fault (verb_form c.args.top.now) c.read_after.result c.in_ok-verb.verb tt verbs_apart c.in_ok-verb.ensures.ok c.read_after.ensures.bad

@@ -3,13 +3,12 @@ use Rattle.hose_words.specs.Form.{until}
 use Rattle.hose_words.proofs.Listing.{Listing}
 use Rattle.hose_proto.specs.Fields.{Fields}
 use Rattle.hose_proto.specs.steps.Fields.{form_of}
-use Rattle.hose_proto.specs.steps.Reading.{AreSoFar}
 use Rattle.hose_proto.proofs.lists.read_until.Given as goal
 
 abbrev pub invariant-loop-items : goal.invariant-loop-items
 invariant-loop-items g l = record {
   listing : (rest : Fields) → Listing (g.L.Items.word_of l.top) (until (g.L.Items.word_of l.top) (g.L.Items.fine l.top) l.least l.last (form_of l.top rest)) l.items.items l.fn.words l.words;
-  so_far : AreSoFar (g.L.Items.fine l.top) l.items.items;
+  so_far : g.L.Items.fine l.top l.items.items;
 }
 
 abbrev pub decreases-loop-items : goal.decreases-loop-items

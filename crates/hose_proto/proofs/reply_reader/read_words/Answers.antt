@@ -1,11 +1,13 @@
+use Rattle.std.proofs.lemmas.Result.{IfErr-weaker}
 use Rattle.hose_words.proofs.Forms.{wrong_choice}
 use Rattle.hose_proto.specs.steps.ReplyLines.{head_form}
-use Rattle.hose_proto.proofs.Faults.{chosen_fault, told_wrong}
+use Rattle.hose_proto.proofs.Faults.{chosen_fault, handed, is_told}
 use Rattle.hose_proto.proofs.Words.{heads_apart}
 use Rattle.hose_proto.proofs.reply_reader.read_words.Goals as goal
 
 pub returns-in_err-head-clause-bad : goal.returns-in_err-head-clause-bad
-returns-in_err-head-clause-bad c = told_wrong c.from_residual.result c.from_residual.ensures.1 (wrong_choice c.in_err-head.ensures.wrong)
+returns-in_err-head-clause-bad c = handed _ c.from_residual.result c.from_residual.ensures.1 (is_told (wrong_choice c.in_err-head.ensures.wrong))
 
 pub returns-clause-bad : goal.returns-clause-bad
-returns-clause-bad c = chosen_fault (head_form c.args.top.now) c.read_after.result c.in_ok-head.head tt heads_apart c.in_ok-head.ensures.ok c.read_after.ensures.bad
+returns-clause-bad c = chosen_fault (head_form c.args.top.now) c.read_after.result c.in_ok-head.head tt heads_apart c.in_ok-head.ensures.ok
+    (IfErr-weaker c.read_after.result _ _ (λ fault fails. fails.bad) c.read_after.ensures.fault)

@@ -1,16 +1,16 @@
 use Rattle.std.proofs.Common.{refl}
 use Rattle.hose_words.proofs.Forms.{wrong_place, wrong_later}
 use Rattle.hose_proto.specs.Command.{the_hose}
-use Rattle.hose_proto.proofs.Faults.{handed_on, later_fault, told_wrong}
+use Rattle.hose_proto.proofs.Faults.{handed, is_told, later_fault}
 use Rattle.hose_proto.proofs.OneCommand.{asks_id}
 use Rattle.hose_proto.proofs.verb.read_bound.Goals as goal
 
 pub returns-in_err-known-clause-bad : goal.returns-in_err-known-clause-bad
-returns-in_err-known-clause-bad c = told_wrong c.from_residual.result c.from_residual.ensures.1 (wrong_place c.in_err-known.ensures.wrong)
+returns-in_err-known-clause-bad c = handed _ c.from_residual.result c.from_residual.ensures.1 (is_told (wrong_place c.in_err-known.ensures.wrong))
 
 pub returns-in_err-hose-clause-bad : goal.returns-in_err-hose-clause-bad
 returns-in_err-hose-clause-bad c =
-    handed_on c.from_residual-in_err-hose.result c.from_residual-in_err-hose.ensures.1
+    handed _ c.from_residual-in_err-hose.result c.from_residual-in_err-hose.ensures.1
     (later_fault (λ number wrong. wrong_later c.in_ok-known.ensures.ok (c.in_ok-known.known, refl, c.in_ok-known.ensures.within) wrong) c.in_err-hose.ensures.bad)
 
 pub returns-clause-ok : goal.returns-clause-ok

@@ -1,8 +1,14 @@
-use Rattle.hose_proto.proofs.ItemByItem.{tells_more}
-use Rattle.hose_proto.proofs.Items.{makes_ends, new_ends_more, new_ends_so_far}
+use Rattle.std.proofs.Common.{◌∙◌, ℕ, Any, ◌≡◌, refl, sym, subst}
+use Rattle.hose_proto.proofs.Items.{ends_spelled}
 use Rattle.hose_proto.proofs.command.NewEndsItems.next.Goals as goal
 
-pub returns : goal.returns
-returns c =
-    let are = new_ends_so_far c.args.top.now c.args.ends.now c.requires.so_far in
-    tells_more c.args.word.now c.new_end.result (makes_ends c.args.top.now c.args.ends.now c.requires.network are) (λ item. new_ends_more c.args.top.now c.args.ends.now item are) c.new_end.ensures
+pub returns-in_default : goal.returns-in_default
+returns-in_default c = record { some = tt; none = λ end told new. c.in_default.ensures.none end told new.is_end }
+
+pub returns-then-has_node : goal.returns-then-has_node
+returns-then-has_node c = record {
+  some = tt;
+  none = λ end told new.
+      let same = (ends_spelled c.args.top.now c.requires.network).apart c.in-Some.end end c.in-Some.ensures.is_end new.is_end (sym c.in-Some.ensures.spelled ∙ told) in
+      new.is_new (subst (λ (at : ℕ × ℕ). Any (λ (earlier : ℕ × ℕ). earlier.0 ≡ at.0) c.args.ends.now) same (c.if-has_node.ensures.0 refl));
+}

@@ -1,5 +1,0 @@
-use Rattle.hose_proto.proofs.Faults.{handed_on}
-use Rattle.hose_proto.proofs.reply_lists.read_side.Goals as goal
-
-pub returns-in_err-nodes-clause-bad : goal.returns-in_err-nodes-clause-bad
-returns-in_err-nodes-clause-bad c = handed_on c.from_residual.result c.from_residual.ensures.1 c.in_err-nodes.ensures.bad
