@@ -1,5 +1,5 @@
 -- What becomes of an admission with a plan that was made before: it was answered so, or the plan is stale.
-use Rattle.std.proofs.Common.{◌≡◌, ◌∙◌, ℕ, true, false, List, Option, None, Some, inl, inr, refl, sym, ap}
+use Rattle.std.proofs.Common.{◌≡◌, ◌≢◌, ◌∙◌, ℕ, true, false, List, Option, None, Some, inl, inr, refl, sym, ap}
 use Rattle.std.proofs.lemmas.Bool.{false≢true}
 use Rattle.hose_graph.specs.declared.entry.Entry.{Entry}
 use Rattle.hose_graph.specs.declared.command.Reply.{Reply}
@@ -16,6 +16,10 @@ use Rattle.hose_core.specs.steps.Stepping.{AdmitsCheapest, AnswersBy, HaveAnswer
 use Rattle.hose_core.specs.declared.claim.Claim.{Claim}
 use Rattle.hose_core.specs.declared.quotes.Quote.{Quote}
 use Rattle.hose_core.proofs.Decided.{admit_step}
+
+pub not_stale : (answer : Reply) → ((seen now : ℕ) → answer ≢ reply.Stale seen now) → is_stale answer ≡ false
+not_stale (reply.Stale seen now) other = absurd (other seen now refl)
+not_stale answer other = refl
 
 module _ {K R : Type 0} (books : Ghosts K R) (old new : K) (customer : List ℕ) (quote : Quote) (earlier : Book) (answer : Reply) (takes : Takes books old new earlier customer quote answer) where
   abbrev was : Ledger

@@ -3,6 +3,7 @@ pub mod Bound
 pub mod Claiming
 pub mod Holding
 pub mod Planning
+pub mod Providing
 pub mod Serving
 pub mod Stepping
 pub mod Telling

@@ -4,7 +4,7 @@ ghost use Rattle.hose_graph.specs.Network.{IsNetwork};
 ghost use Rattle.hose_law.specs.Book.{Book};
 ghost use Rattle.hose_law.specs.Decision.{HaveEqualGrounds};
 ghost use Rattle.hose_law.specs.steps.Plan.{AreNodes};
-ghost use Rattle.hose_core.specs.steps.Bound.{HasNewest, is_stale};
+ghost use Rattle.hose_core.specs.steps.Bound.{HasNewest};
 ghost use Rattle.hose_core.specs.steps.Claiming.{IsClaimOf};
 ghost use Rattle.hose_core.specs.steps.Holding.{HasGroundsSince, IsMade, IsMadeAt};
 ghost use Rattle.hose_core.specs.steps.Planning.{AdmitsAtOnce};
@@ -48,9 +48,9 @@ pub fn admit_now<K: Books, R: RowMaker>(
     admit_with_rows(alloc, books, customer, asked, None, rows)
 }
 
-// Plans a hose and admits it, as `admit_now` does. Where there is a table of the rows of the books'
-// network, it is asked first.
-pub(crate) fn admit_with_rows<K: Books, R: RowMaker>(
+/// Plans a hose and admits it, as `admit_now` does. Where there is a table of the rows of the books'
+/// network, it is asked first.
+pub fn admit_with_rows<K: Books, R: RowMaker>(
     alloc: Global,
     books: &mut K,
     customer: &Name,
@@ -101,18 +101,10 @@ pub fn admit_claimed_now<K: Books>(
     if let Some(told) = newest_now(books.book(), customer, known) {
         return Some(told);
     }
-    let reply = take_now(books, quote, claim);
-    if is_stale(&reply) {
-        return None;
+    match take_now(books, quote, claim) {
+        Reply::Stale { .. } => None,
+        reply => Some(reply),
     }
-    Some(reply)
-}
-
-// Whether a reply tells that a quote went stale.
-fn is_stale(reply: &Reply) -> bool
-    ensures { result ≡ is_stale reply.now }
-{
-    matches!(reply, Reply::Stale { .. })
 }
 
 // Admits a hose that was planned at these books.

@@ -13,19 +13,11 @@ use std::alloc::{AllocError, Global};
 /// All the memory that a take, a release or an order of the operator needs, taken before it.
 #[derive(Drop)]
 pub struct Claim<K: Books> {
-    pub(crate) entry: Entry,
+    /// What joins the book where it is accepted.
+    pub entry: Entry,
     pub(crate) ready: K::Ready,
     // What the reply to a take tells.
     pub(crate) told: Option<Amounts>,
-}
-
-impl<K: Books> Claim<K> {
-    /// What joins the book where it is accepted.
-    pub fn entry(&self) -> &Entry
-        ensures { result.now ≡ self.now.entry }
-    {
-        &self.entry
-    }
 }
 
 /// Claims what a customer needs to take a quote.

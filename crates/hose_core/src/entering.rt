@@ -35,11 +35,12 @@ pub fn enter_planned<K: Books>(
     ensures answered { HaveAnswered K.Books books.old books.new result }
     ensures memory { result ≢ Reply.Memory }
 {
-    let at = books.book().epoch();
+    let book = books.book();
+    let at = book.epoch();
     if at == MOST_EPOCH {
         return Reply::Spent { at };
     }
-    if books.book().live().len() >= MOST_LIVE {
+    if book.live().len() >= MOST_LIVE {
         return Reply::Full { at };
     }
     let admitted = Reply::Admitted {
@@ -64,9 +65,11 @@ pub fn enter<K: Books>(books: &mut K, entry: Entry, ready: K::Ready, told: Reply
     ensures answered { HaveAnswered K.Books books.old books.new result }
     ensures memory { result ≢ Reply.Memory }
 {
-    let at = books.book().epoch();
     match books.commit(entry, ready) {
-        Committed::Disk => Reply::Disk { at },
+        Committed::Disk => {
+            let at = books.book().epoch();
+            Reply::Disk { at }
+        }
         Committed::Done => told,
     }
 }

@@ -29,7 +29,7 @@ mod stepping;
 mod taking;
 mod telling;
 
-pub use admitting::{Admission, admit_claimed_now, admit_now};
+pub use admitting::{Admission, admit_claimed_now, admit_now, admit_with_rows};
 pub use bound::newest_now;
 pub use claim::{Claim, claim_release, claim_service, claim_take};
 pub use planning::{BookView, plan_beside};

@@ -7,6 +7,7 @@ ghost use Rattle.hose_graph.specs.declared.command.Reply.{Reply};
 ghost use Rattle.hose_graph.specs.declared.limits.TheConstants.{MOST_EPOCH};
 ghost use Rattle.hose_law.specs.steps.Plan.{AreNodes};
 ghost use Rattle.hose_core.specs.steps.Bound.{admission_command};
+ghost use Rattle.hose_core.specs.steps.Providing.{Responds};
 ghost use Rattle.hose_core.specs.steps.Serving.{service_command};
 
 use crate::admitting::Admission;
@@ -19,7 +20,7 @@ pub trait Provider {
     /// The network whose nodes and links are named.
     ghost network: { Self → Network };
 
-    /// What holds of it before each command.
+    /// What holds of it before each command, and after it.
     ghost can_answer: { Self → Type 0 };
 
     /// A customer's command was answered so by it, as it was before and as it is then.
@@ -35,8 +36,9 @@ pub trait Provider {
     ) -> Reply
         requires can { can_answer self.old }
         requires nodes { AreNodes (network self.old) asked.hose }
-        ensures { answers self.old self.new customer.now (admission_command asked.known asked.hose)
-            result };
+        ensures { Responds network can_answer self.old self.new
+            (answers self.old self.new customer.now (admission_command asked.known asked.hose)
+            result) };
 
     /// Plans a hose, and holds the plan.
     fn quote<R: RowMaker>(
@@ -48,40 +50,47 @@ pub trait Provider {
     ) -> Reply
         requires can { can_answer self.old }
         requires nodes { AreNodes (network self.old) hose }
-        ensures { answers self.old self.new customer.now (Command.Quote hose) result };
+        ensures { Responds network can_answer self.old self.new
+            (answers self.old self.new customer.now (Command.Quote hose) result) };
 
     /// Takes the quote under a number.
     fn take(&mut self, alloc: Global, customer: &Name, number: u64) -> Reply
         requires { can_answer self.old }
-        ensures { answers self.old self.new customer.now (Command.Take number) result };
+        ensures { Responds network can_answer self.old self.new
+            (answers self.old self.new customer.now (Command.Take number) result) };
 
     /// Gives up the VPN of a number.
     fn release(&mut self, alloc: Global, customer: &Name, id: u64) -> Reply
         requires can { can_answer self.old }
         requires id { id ≤ MOST_EPOCH }
-        ensures { answers self.old self.new customer.now (Command.Release id) result };
+        ensures { Responds network can_answer self.old self.new
+            (answers self.old self.new customer.now (Command.Release id) result) };
 
     /// Tells the VPN of a number.
     fn show(&mut self, alloc: Global, customer: &Name, id: u64) -> Reply
         requires { can_answer self.old }
-        ensures { answers self.old self.new customer.now (Command.Show id) result };
+        ensures { Responds network can_answer self.old self.new
+            (answers self.old self.new customer.now (Command.Show id) result) };
 
     /// Tells the customer's VPNs.
     fn vpns(&mut self, alloc: Global, customer: &Name) -> Reply
         requires { can_answer self.old }
-        ensures { answers self.old self.new customer.now Command.Vpns result };
+        ensures { Responds network can_answer self.old self.new
+            (answers self.old self.new customer.now Command.Vpns result) };
 
     /// Tells a link.
     fn link(&mut self, alloc: Global, customer: &Name, link: u32) -> Reply
         requires can { can_answer self.old }
         requires link { IsLinkOf (network self.old) link }
-        ensures { answers self.old self.new customer.now (Command.Link link) result };
+        ensures { Responds network can_answer self.old self.new
+            (answers self.old self.new customer.now (Command.Link link) result) };
 
     /// Takes a link out of service where `down` is true, or puts it back, for the operator alone.
     fn operate(&mut self, alloc: Global, customer: &Name, link: u32, down: bool) -> Reply
         requires can { can_answer self.old }
         requires link { IsLinkOf (network self.old) link }
-        ensures { answers self.old self.new customer.now (service_command down link) result };
+        ensures { Responds network can_answer self.old self.new
+            (answers self.old self.new customer.now (service_command down link) result) };
 }
 
 /// The reply of a provider to a customer's command. The nodes and links that it names are those of
@@ -95,7 +104,8 @@ pub fn dispatch<P: Provider, R: RowMaker>(
 ) -> Reply
     requires can { P.can_answer provider.old }
     requires asks { AsksOf (P.network provider.old) command }
-    ensures { P.answers provider.old provider.new customer.now command result }
+    ensures { Responds P.network P.can_answer provider.old provider.new
+        (P.answers provider.old provider.new customer.now command result) }
 {
     match command {
         Command::Admit(hose) => {

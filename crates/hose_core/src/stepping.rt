@@ -1,14 +1,12 @@
 // A book with the quotes of its customers.
-ghost use Rattle.std.specs.Prelude.{◌≡◌, ℕ, ◌≤◌, List, Some};
+ghost use Rattle.std.specs.Prelude.{◌≡◌, ◌≤◌, Some};
 ghost use Rattle.hose_graph.specs.steps.Naming.{AsksOf, NamesPlaces};
 ghost use Rattle.hose_graph.specs.declared.command.Command.{Command};
-ghost use Rattle.hose_graph.specs.declared.entry.Entry.{Entry};
 ghost use Rattle.hose_graph.specs.declared.limits.TheConstants.{MOST_QUOTES};
-ghost use Rattle.hose_law.specs.Quotes.{free_number, nothing_held};
+ghost use Rattle.hose_law.specs.Quotes.{free_number};
 ghost use Rattle.hose_book.specs.steps.Commit.{IsMet};
-ghost use Rattle.hose_book.specs.Ledger.{HasBookOf};
 ghost use Rattle.hose_core.specs.steps.Holding.{IsMadeAt, quotes_of};
-ghost use Rattle.hose_core.specs.steps.Stepping.{FitsHistory, HaveAnswered, Steps, committed_of};
+ghost use Rattle.hose_core.specs.steps.Stepping.{HaveAnswered, HoldsNothing, Steps, committed_of};
 
 use crate::admitting::{Admission, admit_with_rows};
 use crate::by_customer::QuotesByCustomer;
@@ -55,10 +53,7 @@ impl<K: Books + Drop> Model for Core<K> {
 impl<K: Books + Drop> Core<K> {
     /// No customer holds a quote. What is quoted takes its memory from the allocator.
     pub fn new(alloc: Global, books: K) -> Core<K>
-        ensures books { result.books ≡ books }
-        ensures fits { (epoch : ℕ) (history : List Entry)
-            → HasBookOf epoch history (K.ledger books)
-            → FitsHistory K.Books result epoch history nothing_held }
+        ensures { HoldsNothing K.Books books result }
     {
         Core {
             books,
@@ -70,10 +65,7 @@ impl<K: Books + Drop> Core<K> {
     /// As `new`, with a table of the rows of the books' network, by which it plans.
     pub fn with_rows(alloc: Global, books: K, table: RowTable) -> Core<K>
         requires { table.network ≡ (K.ledger books).network }
-        ensures books { result.books ≡ books }
-        ensures fits { (epoch : ℕ) (history : List Entry)
-            → HasBookOf epoch history (K.ledger books)
-            → FitsHistory K.Books result epoch history nothing_held }
+        ensures { HoldsNothing K.Books books result }
     {
         Core {
             books,

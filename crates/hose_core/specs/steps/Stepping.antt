@@ -14,7 +14,7 @@ use Rattle.hose_law.specs.Cheapest.{IsCheapest}
 use Rattle.hose_law.specs.Decision.{HaveEqualGrounds, IsAllowed}
 use Rattle.hose_law.specs.History.{IsDecidedAt, book_of, next_book}
 use Rattle.hose_law.specs.steps.History.{IsSoundWith}
-use Rattle.hose_law.specs.Quotes.{Held, Holdings, with_held}
+use Rattle.hose_law.specs.Quotes.{Held, Holdings, nothing_held, with_held}
 use Rattle.hose_law.specs.ReplyKind.{ReplyKind, kind_of}
 use Rattle.hose_law.specs.ReplyKind.ReplyKind.{ByTheBook, ForDisk, ForMemory, ForNoCommand}
 use Rattle.hose_law.specs.Room.{room_of}
@@ -133,6 +133,13 @@ pub record FitsHistory {K R : Type 0} (books : Ghosts K R) (state : State K) (ep
   pub book : HasBookOf epoch history (books.ledger state.books)
   pub held : (customer : List ℕ) → AreHeld (books.ledger state.books).network epoch history
       (holdings customer) (quotes_of state customer)
+
+-- a core was made of books, and holds no quote
+pub record HoldsNothing {K R : Type 0} (ghosts : Ghosts K R) (made_of : K) (state : State K)
+    : Type 0 where
+  pub books : state.books ≡ made_of
+  pub fits : (epoch : ℕ) (history : List Entry) → HasBookOf epoch history (ghosts.ledger made_of)
+      → FitsHistory ghosts state epoch history nothing_held
 
 -- A core that fits a history answered a command by a step there, and fits what the step leads to:
 -- the history with the step's entry, which is decided there, unless what keeps the book failed.

@@ -1,7 +1,7 @@
-use Rattle.std.proofs.Common.{◌∙◌, Some, subst, sym}
+use Rattle.std.proofs.Common.{Some, ap, subst}
 use Rattle.hose_book.specs.Ledger.{Ledger}
-use Rattle.hose_core.specs.steps.Bound.{HasNewest, TellsNewest}
-use Rattle.hose_core.proofs.Claimed.{claimed_admits, stale_differs}
+use Rattle.hose_core.specs.steps.Bound.{HasNewest, TellsNewest, is_stale}
+use Rattle.hose_core.proofs.Claimed.{claimed_admits, not_stale, stale_differs}
 use Rattle.hose_core.proofs.Decided.{enters_newest, newest_admits, newest_not_memory}
 use Rattle.hose_core.proofs.admitting.admit_claimed_now.Goals as goal
 
@@ -21,34 +21,40 @@ returns-in-Some-clause-memory g c =
     let here : TellsNewest c.book.result.now.book customer c.args.known c.in-Some.told = rw c.in-Some.is at c.newest_now.ensures in
     newest_not_memory c.book.result.now.book customer c.args.known c.in-Some.told here
 
-pub take_now-reply-requires-clause-claim : goal.take_now-reply-requires-clause-claim
-take_now-reply-requires-clause-claim g c = (c.args.customer.now, c.requires.claim)
+pub take_now-requires-clause-claim : goal.take_now-requires-clause-claim
+take_now-requires-clause-claim g c = (c.args.customer.now, c.requires.claim)
 
-pub returns-then-is_stale-clause-admits : goal.returns-then-is_stale-clause-admits
-returns-then-is_stale-clause-admits g c =
-    let called = c.take_now-reply.ensures in
+pub returns-in-Stale-clause-admits : goal.returns-in-Stale-clause-admits
+returns-in-Stale-clause-admits g c =
+    let called = c.take_now.ensures in
     let made = c.requires.made in
     let takes = called.takes c.args.customer.now made.0 c.requires.claim made.1 in
-    (stale_differs g.K.Books c.args.books.now _ c.args.customer.now c.args.quote.now made.0 c.take_now-reply.result takes (sym c.is_stale.ensures ∙ c.if-is_stale.true)).0
+    (stale_differs g.K.Books c.args.books.now _ c.args.customer.now c.args.quote.now made.0 c.take_now.result takes (ap is_stale c.in-Stale.is)).0
 
-pub returns-then-is_stale-clause-stale : goal.returns-then-is_stale-clause-stale
-returns-then-is_stale-clause-stale g c = λ none earlier made.
-    let takes = c.take_now-reply.ensures.takes c.args.customer.now earlier c.requires.claim made in
-    (stale_differs g.K.Books c.args.books.now _ c.args.customer.now c.args.quote.now earlier c.take_now-reply.result takes (sym c.is_stale.ensures ∙ c.if-is_stale.true)).1
+pub returns-in-Stale-clause-stale : goal.returns-in-Stale-clause-stale
+returns-in-Stale-clause-stale g c = λ none earlier made.
+    let takes = c.take_now.ensures.takes c.args.customer.now earlier c.requires.claim made in
+    (stale_differs g.K.Books c.args.books.now _ c.args.customer.now c.args.quote.now earlier c.take_now.result takes (ap is_stale c.in-Stale.is)).1
 
-pub returns-then-is_stale-clause-newest : goal.returns-then-is_stale-clause-newest
-returns-then-is_stale-clause-newest g c = λ none.
+pub returns-in-Stale-clause-newest : goal.returns-in-Stale-clause-newest
+returns-in-Stale-clause-newest g c = λ none.
     let customer = c.args.customer.now in
     let met : HasNewest c.book.result.now.book customer c.args.known = rw c.in_default.is at c.newest_now.ensures in
     subst (λ (l : Ledger). HasNewest l.book customer c.args.known) c.book.ensures met
 
-pub returns-clause-admits : goal.returns-clause-admits
-returns-clause-admits g c =
+pub returns-in_default-take_now : goal.returns-in_default-take_now
+returns-in_default-take_now g c =
     let customer = c.args.customer.now in
     let quote = c.args.quote.now in
     let met : HasNewest c.book.result.now.book customer c.args.known = rw c.in_default.is at c.newest_now.ensures in
     let newest = subst (λ (l : Ledger). HasNewest l.book customer c.args.known) c.book.ensures met in
-    let called = c.take_now-reply.ensures in
+    let called = c.take_now.ensures in
     let made = c.requires.made in
     let takes = called.takes customer made.0 c.requires.claim made.1 in
-    claimed_admits g.K.Books c.args.books.now _ customer quote made.0 c.take_now-reply.result takes c.args.known c.args.claim newest c.requires.claim (sym c.is_stale.ensures ∙ c.if-is_stale.false) called.cheapest called.told called.answered
+    let fresh = not_stale c.take_now.result c.in_default-take_now.not-Stale in
+    record {
+      admits = claimed_admits g.K.Books c.args.books.now _ customer quote made.0 c.take_now.result takes c.args.known c.args.claim newest c.requires.claim fresh called.cheapest called.told called.answered;
+      stale = λ none. absurd (cc none);
+      newest = λ none. absurd (cc none);
+      memory = called.memory;
+    }

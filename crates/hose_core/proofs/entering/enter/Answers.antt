@@ -8,7 +8,7 @@ use Rattle.hose_core.proofs.entering.enter.Goals as goal
 
 pub returns-in-Disk-clause-told : goal.returns-in-Disk-clause-told
 returns-in-Disk-clause-told g c =
-    let here = c.epoch-at.ensures.value ∙ ap (λ (l : Ledger). l.book.epoch) c.book.ensures in
+    let here = c.epoch-at.ensures.value ∙ ap (λ (l : Ledger). l.book.epoch) (c.book.ensures ∙ c.in-Disk.ensures.commits) in
     inr (ap Disk here, refl, ap (λ (l : Ledger). l.book) c.in-Disk.ensures.commits)
 
 pub returns-in-Done-clause-goes : goal.returns-in-Done-clause-goes

@@ -7,7 +7,7 @@ use Rattle.hose_core.specs.steps.Holding.{State, quotes_in}
 use Rattle.hose_core.specs.steps.Planning.{IsNotPlanned, IsPlannedFor}
 use Rattle.hose_core.specs.steps.Stepping.{Steps}
 use Rattle.hose_core.proofs.Decided.{unplanned_done, unplanned_names}
-use Rattle.hose_core.proofs.SteppedOn.{stays_answered, too_many_on, unplanned_on}
+use Rattle.hose_core.proofs.SteppedOn.{responds, stays_answered, too_many_on, unplanned_on}
 use Rattle.hose_core.proofs.stepping.CoreProvider.quote.Goals as goal
 
 pub returns-in_default : goal.returns-in_default
@@ -42,7 +42,7 @@ pub returns-in-Ok : goal.returns-in-Ok
 returns-in-Ok g c =
     let here = g.K.Books.ledger c.self.inside.books in
     let planned : IsPlannedFor here.network here.book c.args.hose c.in-Ok.quote = rw c.in-Ok.is at c.plan_now.ensures.planned in
-    record {
+    responds (record {
       step = subst (λ (ends : List (ℕ × ℕ)). Steps g.K.Books c.args.self.now c.hold.new.self c.args.customer.now (QuoteOf ends) c.hold.result) planned.of c.hold.ensures.step;
       answered = c.hold.ensures.answered;
-    }
+    })

@@ -9,7 +9,7 @@ use Rattle.hose_core.specs.steps.Holding.{State, quotes_in}
 use Rattle.hose_core.specs.steps.Stepping.{HaveAnswered}
 use Rattle.hose_core.proofs.Earlier.{grounds_since, kept_on, table_on}
 use Rattle.hose_core.proofs.HeldQuotes.{kept_now, kept_with, some_alike}
-use Rattle.hose_core.proofs.SteppedOn.{no_quote_on, of_fields, stays_answered, take_memory_on, taken_on}
+use Rattle.hose_core.proofs.SteppedOn.{no_quote_on, of_fields, responds, stays_answered, take_memory_on, taken_on}
 use Rattle.hose_core.proofs.stepping.CoreProvider.take.Goals as goal
 
 pub returns-in_default : goal.returns-in_default
@@ -72,7 +72,7 @@ returns g c =
     let quote = c.in-Some.quote.now in
     let reply = c.take_now-reply.result in
     let called = c.take_now-reply.ensures in
-    record {
+    responds (record {
       step = λ epoch history holdings.
           of_fields books fields c.args.self.now new epoch history holdings customer (Take number) reply c.self.view_is
           (λ fits.
@@ -80,4 +80,4 @@ returns g c =
           taken_on books fields new epoch history holdings customer fits called.answered.network number quote reply c.in-Some.ensures.some called.memory
           (called.step customer epoch number history (holdings customer) one.0 c.in-Ok.ensures fits.book one.1 one.2) c.clear.ensures);
       answered = subst (λ (s : State _). HaveAnswered books s.books new.books reply) c.self.view_is called.answered;
-    }
+    })
