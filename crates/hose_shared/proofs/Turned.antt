@@ -27,7 +27,7 @@ use Rattle.hose_store.specs.steps.Store.{KeptStore}
 use Rattle.hose_turn.specs.declared.view.Origin.{Origin}
 use Rattle.hose_turn.specs.steps.Faults.{rise}
 use Rattle.hose_turn.specs.Known.{Known}
-use Rattle.hose_turn.specs.steps.Known.{HasOwnPlaces}
+use Rattle.hose_turn.specs.steps.Known.{HasOwnPlaces, with_own_entry}
 use Rattle.hose_shared.specs.steps.Along.{IsCheapestEntry}
 use Rattle.hose_shared.specs.steps.Keeping.{StandsShared}
 use Rattle.hose_shared.specs.steps.Turns.{AnswersTurn, BeginsTurn, StepsAt, faults_in, joined_of, place_of, with_joined}
@@ -210,7 +210,7 @@ turn_above {disk = disk} {old = old} {new = new} {answer = answer} begun turn =
 
 module _ {D : Type 0} {disk : Ghosts D} {Begins : List Entry → KeptStore D → Type 0} {known : Known} {floor epoch : ℕ} {old new : KeptStore D} {told : Option Entry} {customer : List ℕ} {held : Held} {command : Command} {answer : Reply}
     (begun : BeginsTurn disk Begins known floor epoch old) (turn : AnswersTurn disk known.seen old new told customer held command answer) where
-  abbrev entered : Option Entry
+  abbrev pub entered : Option Entry
   entered = joined_of turn.stepped.entry (committed_of answer)
 
   -- the store stands for what was seen, and the entry that joined it
@@ -224,13 +224,26 @@ module _ {D : Type 0} {disk : Ghosts D} {Begins : List Entry → KeptStore D →
     | inr told ↦ told
   ]
 
-  -- no entry is told, so none joined
-  pub none_stands : told ≡ None → StandsShared disk Begins known.origin known.seen new
-  none_stands none = subst (λ (joined : Option Entry). StandsShared disk Begins known.origin (with_entry known.seen joined) new) (none_told entered told none turn_told) turn_stands
+  -- where none is told, none joined
+  pub untold : told ≡ None → entered ≡ None
+  untold none = none_told entered told none turn_told
 
-  -- or one is told
-  pub one_stands : (entry : Entry) → told ≡ Some entry → (joined : Option Entry) × StandsShared disk Begins known.origin (with_entry known.seen joined) new × IfSome joined (λ one. one ≡ entry)
-  one_stands entry some = (entered, turn_stands, one_told entered told entry some turn_told)
+  book_now : new.ledger.book.epoch ≡ length (with_entry known.seen entered)
+  book_now = ap (λ (b : Book). b.epoch) turn_stands.book ∙ epoch_of (with_entry known.seen entered)
+
+  -- nor where the book is as long as what was seen
+  pub uncounted : new.ledger.book.epoch ≡ epoch → entered ≡ None
+  uncounted same = none_joined known.seen entered (sym book_now ∙ same ∙ begun.epoch)
+
+  -- and else the entry did that is told
+  pub counted : (entry : Entry) → told ≡ Some entry → (new.ledger.book.epoch ≡ epoch → ⊥) → entered ≡ Some entry
+  counted entry some differs = one_joined known.seen entered entry (one_told entered told entry some turn_told) (λ same. differs (book_now ∙ same ∙ sym begun.epoch))
+
+  pub none_stands : entered ≡ None → StandsShared disk Begins known.origin known.seen new
+  none_stands none = subst (λ (joined : Option Entry). StandsShared disk Begins known.origin (with_entry known.seen joined) new) none turn_stands
+
+  pub one_stands : (entry : Entry) → entered ≡ Some entry → StandsShared disk Begins known.origin (known.seen ++ entry ∷ []) new
+  one_stands entry one = subst (λ (joined : Option Entry). StandsShared disk Begins known.origin (with_entry known.seen joined) new) one turn_stands
 
   rises_by : committed_of answer ≡ Disk → rise floor (faults_in disk new) ≡ 1
   rises_by failed = subst (λ (count : ℕ). rise count (faults_in disk new) ≡ 1) (sym begun.floor)
@@ -242,29 +255,16 @@ module _ {D : Type 0} {disk : Ghosts D} {Begins : List Entry → KeptStore D →
     turn_steps left =
         steps_at disk Begins known.origin known.seen old new customer held command answer begun.stands turn.stepped turn.network top same is known pass (rise floor (faults_in disk new)) refl left places rises_by
 
-    pub none_steps : told ≡ None → pass ≡ record known { faults = known.faults + rise floor (faults_in disk new) } → StepsAt top customer held command answer known.seen known pass
+    pub none_steps : entered ≡ None → pass ≡ record known { faults = known.faults + rise floor (faults_in disk new) } → StepsAt top customer held command answer known.seen known pass
     none_steps none left =
-        turn_steps (subst (λ (joined : Option Entry). pass ≡ record (with_joined known joined) { faults = (with_joined known joined).faults + rise floor (faults_in disk new) }) (sym (none_told entered told none turn_told)) left)
+        turn_steps (subst (λ (joined : Option Entry). pass ≡ record (with_joined known joined) { faults = (with_joined known joined).faults + rise floor (faults_in disk new) }) (sym none) left)
 
-    pub one_steps : (entry : Entry) → told ≡ Some entry
-        → ((joined : Option Entry) → StandsShared disk Begins known.origin (with_entry known.seen joined) new → IfSome joined (λ one. one ≡ entry) → pass ≡ record (with_joined known joined) { faults = (with_joined known joined).faults + rise floor (faults_in disk new) })
+    pub one_steps : (entry : Entry) → entered ≡ Some entry → pass ≡ record (with_own_entry known entry) { faults = (with_own_entry known entry).faults + rise floor (faults_in disk new) }
         → StepsAt top customer held command answer known.seen known pass
-    one_steps entry some passed = turn_steps (passed entered turn_stands (one_told entered told entry some turn_told))
+    one_steps entry one left =
+        turn_steps (subst (λ (joined : Option Entry). pass ≡ record (with_joined known joined) { faults = (with_joined known joined).faults + rise floor (faults_in disk new) }) (sym one) left)
 
 -- ---- the end of a turn
-
-module _ {D : Type 0} {disk : Ghosts D} {Begins : List Entry → KeptStore D → Type 0} {origin : Origin} {shown store : KeptStore D} {epoch at : ℕ} (seen : List Entry) (joined : Option Entry) (is : shown ≡ store)
-    (tells : (origin : Origin) (history : List Entry) → StandsShared disk Begins origin history shown → epoch ≡ origin.first + length history) (stood : StandsShared disk Begins origin (with_entry seen joined) store) (here : at ≡ length seen) where
-  counted : epoch ≡ length (with_entry seen joined)
-  counted = let a = tells origin (with_entry seen joined) (subst (StandsShared disk Begins origin (with_entry seen joined)) (sym is) stood) in let b = stood.epoch in omega arith
-
-  -- nothing joined where the book is as long as what was seen
-  pub none_counted : epoch ≡ at → joined ≡ None
-  none_counted same = none_joined seen joined (let a = counted in omega arith)
-
-  -- and else the entry did
-  pub one_counted : (entry : Entry) → IfSome joined (λ one. one ≡ entry) → (epoch ≡ at → ⊥) → joined ≡ Some entry
-  one_counted entry of differs = one_joined seen joined entry of (λ same. differs (let a = counted in omega arith))
 
 -- a pass that gave the turn on after a count
 pub passed_counted : (known holder pass : Known) (floor floor' count count' : ℕ) → holder ≡ known → floor' ≡ floor → count' ≡ count → pass ≡ record holder { faults = holder.faults + rise floor' count' }

@@ -1,27 +1,21 @@
 // Admissions.
-ghost use Rattle.std.specs.Prelude.{option_map};
-ghost use Rattle.hose_graph.specs.steps.Naming.{NamesPlaces};
 ghost use Rattle.hose_graph.specs.declared.command.Command.{Command};
 ghost use Rattle.hose_law.specs.History.{book_of};
 ghost use Rattle.hose_law.specs.steps.Plan.{AreNodes};
-ghost use Rattle.hose_law.specs.Quotes.{Held as HeldQuotes};
 ghost use Rattle.hose_core.specs.steps.Bound.{admission_command};
 ghost use Rattle.hose_core.specs.steps.Holding.{IsMadeAt};
-ghost use Rattle.hose_core.specs.steps.Planning.{AdmitsAtOnce};
-ghost use Rattle.hose_shared.specs.steps.Along.{IsTried, StepsAlong};
+ghost use Rattle.hose_shared.specs.steps.Along.{AnswersAlong, IsTried};
 ghost use Rattle.hose_shared.specs.steps.Sharing.{IsPassOf};
 
 use crate::caller::Caller;
 use crate::kept::Begun;
 use crate::shared::Shared;
-use hose_book::Books;
-use hose_core::{Admission, Quote, admit_claimed_now, admit_now, claim_take};
+use hose_core::{Admission, Quote, admit_claimed_now, admit_with_rows, claim_take};
 use hose_disk::Disk;
-use hose_graph::{Entry, Hose, Name, Reply};
-use hose_paths::{RowMaker, RowTable, TableRows};
+use hose_graph::{Hose, Reply};
+use hose_paths::RowMaker;
 use hose_pool::{Gate, Point};
 use hose_turn::Pass;
-use std::alloc::Global;
 use std::snapshot::Snapshot;
 use std::sync::Wait;
 
@@ -41,9 +35,8 @@ impl<D: Disk, B: Begun<D>> Shared<D, B> {
     ) -> (Reply, Pass)
         requires of { IsPassOf self.now pass }
         requires nodes { AreNodes self.now.network hose }
-        ensures steps { (held : HeldQuotes) → StepsAlong self.now.network
-            caller.now.customer.now held (Command.Admit hose) result.0 pass result.1 }
-        ensures names { NamesPlaces self.now.network result.0 }
+        ensures { AnswersAlong self.now.network caller.now.customer.now
+            (Command.Admit hose) result.0 pass result.1 }
     {
         let asked = Admission { known: None, hose };
         self.admit_bound(caller, pass, asked, rows)
@@ -62,9 +55,8 @@ impl<D: Disk, B: Begun<D>> Shared<D, B> {
     ) -> (Reply, Pass)
         requires of { IsPassOf self.now pass }
         requires nodes { AreNodes self.now.network asked.hose }
-        ensures steps { (held : HeldQuotes) → StepsAlong self.now.network caller.now.customer.now
-            held (admission_command asked.known asked.hose) result.0 pass result.1 }
-        ensures names { NamesPlaces self.now.network result.0 }
+        ensures { AnswersAlong self.now.network caller.now.customer.now
+            (admission_command asked.known asked.hose) result.0 pass result.1 }
     {
         let mut pass = pass;
         let mut asked = asked;
@@ -85,7 +77,13 @@ impl<D: Disk, B: Begun<D>> Shared<D, B> {
                 Err(hose) => asked = Admission { known, hose },
             }
         }
-        self.admit_in_turn(caller, pass, asked, rows)
+        // The rest is done under the lock.
+        let (mut held, start) = self.begin_turn(caller.context.rt, pass);
+        let (alloc, customer) = (caller.context.alloc, caller.customer);
+        let store = &mut held.value_mut().store;
+        let table = self.table.as_ref();
+        let (reply, entry) = admit_with_rows(alloc, store, customer, asked, table, rows);
+        (reply, self.end_turn(held, start, entry))
     }
 
     // Takes a plan that was made of all that the pass has seen, bound as before. Where it is stale
@@ -105,7 +103,7 @@ impl<D: Disk, B: Begun<D>> Shared<D, B> {
         let Ok(claim) = claim_take(caller.context.alloc, caller.customer, &quote) else {
             return (Ok(Reply::Memory), pass);
         };
-        let entry = Snapshot::of(claim.entry());
+        let entry = Snapshot::of(&claim.entry);
         let (mut held, start) = self.begin_turn(caller.context.rt, pass);
         let store = &mut held.value_mut().store;
         let settled = admit_claimed_now(store, caller.customer, known, &quote, claim);
@@ -115,48 +113,4 @@ impl<D: Disk, B: Begun<D>> Shared<D, B> {
             None => (Err(quote.hose), pass),
         }
     }
-
-    // Plans a hose and admits it, all under the lock.
-    fn admit_in_turn<W: Wait, G: Gate, R: RowMaker>(
-        &self,
-        caller: &Caller<'_, W, G>,
-        pass: Pass,
-        asked: Admission,
-        rows: &mut R,
-    ) -> (Reply, Pass)
-        requires of { IsPassOf self.now pass }
-        requires nodes { AreNodes self.now.network asked.hose }
-        ensures steps { (held : HeldQuotes) → StepsAlong self.now.network caller.now.customer.now
-            held (admission_command asked.known asked.hose) result.0 pass result.1 }
-        ensures names { NamesPlaces self.now.network result.0 }
-    {
-        let (mut held, start) = self.begin_turn(caller.context.rt, pass);
-        let (alloc, customer) = (caller.context.alloc, caller.customer);
-        let store = &mut held.value_mut().store;
-        let table = self.table.as_ref();
-        let (reply, entry) = admit_by(alloc, store, customer, asked, table, rows);
-        (reply, self.end_turn(held, start, entry))
-    }
-}
-
-// Plans a hose and admits it, by a table where it has the rows over the links in service, and else
-// by the maker.
-fn admit_by<K: Books, R: RowMaker>(
-    alloc: Global,
-    books: &mut K,
-    customer: &Name,
-    asked: Admission,
-    table: Option<&RowTable>,
-    rows: &mut R,
-) -> (Reply, Option<Snapshot<Entry>>)
-    requires { AreNodes (K.ledger books.old).network asked.hose }
-    ensures { AdmitsAtOnce K.Books books.old books.new customer.now asked result.0
-        (option_map (λ entry. entry.value) result.1) }
-{
-    if let Some(table) = table {
-        if table.has_links(books.book().service()) {
-            return admit_now(alloc, books, customer, asked, &mut TableRows::new(table));
-        }
-    }
-    admit_now(alloc, books, customer, asked, rows)
 }

@@ -1,17 +1,18 @@
-// Questions after what is live, and its release.
+// What one turn answers: questions after what is live, its release, and orders of the operator.
 ghost use Rattle.std.specs.Prelude.{◌≤◌, ℕ, List};
-ghost use Rattle.hose_graph.specs.steps.Naming.{NamesPlaces};
 ghost use Rattle.hose_graph.specs.Network.{IsLinkOf};
 ghost use Rattle.hose_graph.specs.declared.command.Command.{Command};
 ghost use Rattle.hose_graph.specs.declared.limits.TheConstants.{MOST_EPOCH};
-ghost use Rattle.hose_law.specs.Quotes.{Held as HeldQuotes};
-ghost use Rattle.hose_shared.specs.steps.Along.{StepsAlong};
+ghost use Rattle.hose_core.specs.steps.Serving.{service_command};
+ghost use Rattle.hose_shared.specs.steps.Along.{AnswersAlong};
 ghost use Rattle.hose_shared.specs.steps.Sharing.{IsPassOf};
 
 use crate::caller::Caller;
 use crate::kept::Begun;
 use crate::shared::Shared;
-use hose_core::{claim_release, link_now, release_now, show_now, vpns_now};
+use hose_core::{
+    claim_release, claim_service, link_now, release_now, service_now, show_now, vpns_now,
+};
 use hose_disk::Disk;
 use hose_graph::Reply;
 use hose_pool::Gate;
@@ -28,9 +29,8 @@ impl<D: Disk, B: Begun<D>> Shared<D, B> {
         id: u64,
     ) -> (Reply, Pass)
         requires { IsPassOf self.now pass }
-        ensures steps { (held : HeldQuotes) → StepsAlong self.now.network
-            caller.now.customer.now held (Command.Show id) result.0 pass result.1 }
-        ensures names { NamesPlaces self.now.network result.0 }
+        ensures { AnswersAlong self.now.network caller.now.customer.now
+            (Command.Show id) result.0 pass result.1 }
     {
         let (held, start) = self.begin_turn(caller.context.rt, pass);
         let reply = show_now(
@@ -46,9 +46,8 @@ impl<D: Disk, B: Begun<D>> Shared<D, B> {
     /// `Memory`.
     pub fn vpns<W: Wait, G: Gate>(&self, caller: &Caller<'_, W, G>, pass: Pass) -> (Reply, Pass)
         requires { IsPassOf self.now pass }
-        ensures steps { (held : HeldQuotes) → StepsAlong self.now.network
-            caller.now.customer.now held Command.Vpns result.0 pass result.1 }
-        ensures names { NamesPlaces self.now.network result.0 }
+        ensures { AnswersAlong self.now.network caller.now.customer.now
+            Command.Vpns result.0 pass result.1 }
     {
         let (held, start) = self.begin_turn(caller.context.rt, pass);
         let reply = vpns_now(caller.context.alloc, &held.value().store, caller.customer);
@@ -64,9 +63,8 @@ impl<D: Disk, B: Begun<D>> Shared<D, B> {
     ) -> (Reply, Pass)
         requires of { IsPassOf self.now pass }
         requires link { IsLinkOf self.now.network link }
-        ensures steps { (customer : List ℕ) (held : HeldQuotes) → StepsAlong self.now.network
-            customer held (Command.Link link) result.0 pass result.1 }
-        ensures names { NamesPlaces self.now.network result.0 }
+        ensures { (customer : List ℕ) → AnswersAlong self.now.network customer
+            (Command.Link link) result.0 pass result.1 }
     {
         let (held, start) = self.begin_turn(caller.context.rt, pass);
         let reply = link_now(&held.value().store, link);
@@ -83,16 +81,46 @@ impl<D: Disk, B: Begun<D>> Shared<D, B> {
     ) -> (Reply, Pass)
         requires of { IsPassOf self.now pass }
         requires id { id ≤ MOST_EPOCH }
-        ensures steps { (held : HeldQuotes) → StepsAlong self.now.network
-            caller.now.customer.now held (Command.Release id) result.0 pass result.1 }
-        ensures names { NamesPlaces self.now.network result.0 }
+        ensures { AnswersAlong self.now.network caller.now.customer.now
+            (Command.Release id) result.0 pass result.1 }
     {
         let Ok(claim) = claim_release(caller.context.alloc, caller.customer, id) else {
             return (Reply::Memory, pass);
         };
-        let entry = Snapshot::of(claim.entry());
+        let entry = Snapshot::of(&claim.entry);
         let (mut held, start) = self.begin_turn(caller.context.rt, pass);
         let reply = release_now(&mut held.value_mut().store, claim);
+        (reply, self.end_turn(held, start, Some(entry)))
+    }
+
+    /// Takes a link of the network out of service, where `down` is true, or puts it back: `Down`,
+    /// `Up`, `Denied`, `Already`, `Spent`, `Disk` or `Memory`. Any customer but the operator is
+    /// denied. What was planned beside it is planned anew where its grounds are others then.
+    pub fn operate<W: Wait, G: Gate>(
+        &self,
+        caller: &Caller<'_, W, G>,
+        pass: Pass,
+        link: u32,
+        down: bool,
+    ) -> (Reply, Pass)
+        requires of { IsPassOf self.now pass }
+        requires link { IsLinkOf self.now.network link }
+        ensures { AnswersAlong self.now.network caller.now.customer.now
+            (service_command down link) result.0 pass result.1 }
+    {
+        let is_operator = caller.customer.is_operator();
+        if !is_operator {
+            let (at, pass) = self.now(caller.context.rt, pass);
+            return (Reply::Denied { at }, pass);
+        }
+        // What holds of the network is told with it: how many links there can be.
+        let _topology = self.topology();
+        let Ok(claim) = claim_service(caller.context.alloc, link, down) else {
+            return (Reply::Memory, pass);
+        };
+        let entry = Snapshot::of(&claim.entry);
+        let (mut held, start) = self.begin_turn(caller.context.rt, pass);
+        let reply = service_now(&mut held.value_mut().store, claim);
         (reply, self.end_turn(held, start, Some(entry)))
     }
 }

@@ -1,22 +1,19 @@
 // The beginning and the end of a turn.
-ghost use Rattle.std.specs.Prelude.{◌≡◌, ◌+◌, ◌≤◌, IfSome, List, Option, length, option_map, ℕ};
+ghost use Rattle.std.specs.Prelude.{◌≡◌, List, option_map, ℕ};
 ghost use Rattle.hose_graph.specs.declared.command.Command.{Command};
 ghost use Rattle.hose_graph.specs.declared.command.Reply.{Reply};
 ghost use Rattle.hose_graph.specs.declared.entry.Entry.{Entry};
-ghost use Rattle.hose_law.specs.Answer.{with_entry};
 ghost use Rattle.hose_law.specs.Quotes.{Held as HeldQuotes};
-ghost use Rattle.hose_turn.specs.steps.Faults.{rise};
 ghost use Rattle.hose_turn.specs.steps.Held.{floor_of, holder, value_of};
-ghost use Rattle.hose_turn.specs.steps.Known.{HasOwnPlaces};
-ghost use Rattle.hose_shared.specs.steps.Keeping.{StandsShared};
 ghost use Rattle.hose_shared.specs.steps.Sharing.{HasSeenMore, IsPassOf};
-ghost use Rattle.hose_shared.specs.steps.Turns.{AnswersTurn, BeginsTurn, StepsAt, faults_in, with_joined};
+ghost use Rattle.hose_shared.specs.steps.Turns.{AnswersTurn, BeginsTurn, StepsAt};
 
 use crate::kept::{Begun, Kept};
 use crate::shared::Shared;
+use hose_book::Books;
 use hose_disk::Disk;
 use hose_graph::Entry;
-use hose_turn::{Held, HoldsHistory, Pass};
+use hose_turn::{Held, Pass};
 use std::snapshot::Snapshot;
 use std::sync::Wait;
 
@@ -43,7 +40,7 @@ impl<D: Disk, B: Begun<D>> Shared<D, B> {
             result.1.epoch result.1.was.value.store }
     {
         let held = self.turn.lock(rt, pass);
-        let epoch = held.value().epoch();
+        let epoch = held.value().store.book().epoch();
         let was = Snapshot::of(held.value());
         (held, TurnStart { epoch, was })
     }
@@ -71,31 +68,11 @@ impl<D: Disk, B: Begun<D>> Shared<D, B> {
             (holder held) result }
     {
         let TurnStart { epoch, was: _ } = start;
-        match entry {
-            None => self.turn.unlock(held),
-            Some(entry) => self.pass_on(held, epoch, entry),
-        }
-    }
-
-    // Gives the turn on. Where the book has an entry more than at an epoch, that entry joins the
-    // history.
-    fn pass_on(&self, held: Held<Kept<D, B>>, epoch: u64, entry: Snapshot<Entry>) -> Pass
-        requires turn { (holder held).turn ≡ self.now.turn }
-        requires epoch { epoch ≡ length (holder held).seen }
-        requires faults { floor_of held ≤ faults_in D.Disk (value_of held).store }
-        requires stands { (joined : Option Entry)
-            × StandsShared D.Disk B.begins (holder held).origin
-            (with_entry (holder held).seen joined) (value_of held).store
-            × IfSome joined (λ one. one ≡ entry.value) }
-        ensures passed { (joined : Option Entry) → StandsShared D.Disk B.begins (holder held).origin
-            (with_entry (holder held).seen joined) (value_of held).store
-            → IfSome joined (λ one. one ≡ entry.value)
-            → let known = with_joined (holder held) joined in
-            let more = rise (floor_of held) (faults_in D.Disk (value_of held).store) in
-            result ≡ record known { faults = known.faults + more } }
-        ensures places { HasOwnPlaces result }
-    {
-        if held.value().epoch() == epoch {
+        let Some(entry) = entry else {
+            return self.turn.unlock(held);
+        };
+        // The entry has joined the book only where that is longer than it was.
+        if held.value().store.book().epoch() == epoch {
             return self.turn.unlock(held);
         }
         let mut held = held;

@@ -21,12 +21,10 @@ mod asking;
 mod caller;
 mod entering;
 mod kept;
-mod operating;
 mod planning;
 mod providing;
 mod quoting;
 mod shared;
-mod taking;
 
 pub use caller::{Caller, Context};
 pub use kept::{AnyStore, Begun, Kept};

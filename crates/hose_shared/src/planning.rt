@@ -43,10 +43,11 @@ impl<D: Disk, B: Begun<D>> Shared<D, B> {
     {
         let Admission { known, hose } = asked;
         let alloc = caller.context.alloc;
-        let Ok(mut loads) = Vec::from_elem(alloc, 0, self.topology.links() as usize) else {
+        let links = self.topology.links();
+        let Ok(mut loads) = Vec::from_elem(alloc, 0, links as usize) else {
             return (Err(Reply::Memory), pass);
         };
-        let Ok(mut service) = LinkSet::new(alloc, self.topology.links()) else {
+        let Ok(mut service) = LinkSet::new(alloc, links) else {
             return (Err(Reply::Memory), pass);
         };
         let (epoch, instead, pass) = self.look(caller, pass, known, &mut service, &mut loads);

@@ -26,16 +26,19 @@ pub struct SharedProvider<'a, W, D: Disk, B: Begun<D>, G: Gate> {
 
 // A command is claimed outside of the lock, and settled under it.
 impl<'a, W: Wait, D: Disk, B: Begun<D>, G: Gate> Provider for SharedProvider<'a, W, D, B, G> {
-    ghost use Rattle.std.specs.Prelude.{MatchOption};
+    ghost use Rattle.std.specs.Prelude.{◌≡◌, MatchOption};
     ghost use Rattle.hose_shared.specs.steps.Providing.{CanProvide, Provides};
 
     ghost network = { λ by. by.shared.now.network };
 
     ghost can_answer = { λ by. MatchOption by.pass ⊥ (CanProvide by.shared.now by.quotes) };
 
-    ghost answers = { λ old new. Provides old.shared.now.network
+    // What it answers with stays, and the book that it shares.
+    ghost answers = { λ old new customer command reply. (new.context ≡ old.context)
+        × (new.shared ≡ old.shared) × (new.session ≡ old.session)
+        × Provides old.shared.now.network
         (record { pass = old.pass; quotes = old.quotes })
-        (record { pass = new.pass; quotes = new.quotes }) };
+        (record { pass = new.pass; quotes = new.quotes }) customer command reply };
 
     fn admit<R: RowMaker>(
         &mut self,

@@ -57,6 +57,12 @@ pub record StepsAlong (network : Network) (customer : List ℕ) (held : Held) (c
   pub own : new.own ≡ old.own ++ added
   pub failed : committed_of answer ≡ Disk → old.faults < new.faults
 
+-- A command was answered so, whatever the customer held, with a reply that names what is there.
+pub record AnswersAlong (network : Network) (customer : List ℕ) (command : Command)
+    (answer : Reply) (old new : Known) : Type 0 where
+  pub steps : (held : Held) → StepsAlong network customer held command answer old new
+  pub names : NamesPlaces network answer
+
 -- A command that changes what the customer holds was answered so, and these quotes fit that then.
 pub record StepsHolding (network : Network) (customer : List ℕ) (held : Held) (command : Command)
     (answer : Reply) (old new : Known) (quotes : List (Option Quote)) : Type 0 where
@@ -74,6 +80,5 @@ IsNotTried network book customer known hose answer =
 abbrev pub IsTried : Network → List ℕ → Option ℕ → List Endpoint → Known → Known
     → Result Reply (List Endpoint) → Type 0
 IsTried network customer known hose old new (Ok answer) =
-    ((held : Held) → StepsAlong network customer held (admission_command known hose) answer old new)
-    × NamesPlaces network answer
+    AnswersAlong network customer (admission_command known hose) answer old new
 IsTried network customer known hose old new (Err same) = (same ≡ hose) × HasSeenMore old new

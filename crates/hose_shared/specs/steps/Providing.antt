@@ -1,9 +1,11 @@
 -- A shared book, as it answers one customer along a pass.
-use Rattle.std.specs.Prelude.{◌≡◌, ℕ, List, Option, Some}
+use Rattle.std.specs.Prelude.{◌≡◌, ◌<◌, ◌≤◌, ℕ, List, Option, Some, length}
 use Rattle.hose_graph.specs.steps.Naming.{NamesPlaces}
 use Rattle.hose_graph.specs.Network.{Network}
 use Rattle.hose_graph.specs.declared.command.Command.{Command}
+use Rattle.hose_graph.specs.declared.command.Command.TheVariants.{Take}
 use Rattle.hose_graph.specs.declared.command.Reply.{Reply}
+use Rattle.hose_graph.specs.declared.command.Reply.TheVariants.{Stale}
 use Rattle.hose_law.specs.Quotes.{Held}
 use Rattle.hose_core.specs.steps.Holding.{AreHeld}
 use Rattle.hose_core.specs.declared.quotes.Quote.{Quote}
@@ -23,7 +25,8 @@ CanProvide shared quotes pass =
     IsPassOf shared pass × (held : Held) × AreHeld shared.network 0 pass.seen held quotes
 
 -- A command was answered by a step along the history, whatever the customer held whose quotes these
--- were, with a reply that names what is there; and the pass is at hand before and after it.
+-- were, with a reply that names what is there; and the pass is at hand before and after it. Of a
+-- stale quote both numbers are of this history, and other entries came after it.
 pub record Provides (network : Network) (old new : Customer) (customer : List ℕ)
     (command : Command) (reply : Reply) : Type 0 where
   pub before : Known
@@ -33,3 +36,5 @@ pub record Provides (network : Network) (old new : Customer) (customer : List �
   pub steps : (held : Held) → AreHeld network 0 before.seen held old.quotes
       → StepsHolding network customer held command reply before after new.quotes
   pub names : NamesPlaces network reply
+  pub stale : (number seen now : ℕ) → command ≡ Take number → reply ≡ Stale seen now
+      → (seen < now) × (now ≤ length after.seen)

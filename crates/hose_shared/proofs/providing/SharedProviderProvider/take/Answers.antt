@@ -1,14 +1,21 @@
 use Rattle.std.proofs.Common.{◌≡◌, Some, refl, rules}
+use Rattle.hose_graph.specs.declared.command.Command.TheVariants.{Take}
+use Rattle.hose_shared.specs.steps.Providing.{Provides}
+use Rattle.hose_shared.proofs.Provided.{can_again}
 use Rattle.hose_shared.proofs.providing.SharedProviderProvider.take.Goals as goal
 
 pub returns : goal.returns
 returns g c =
-    let was : c.args.self.now.pass ≡ Some c.in-Some.pass = search rules in
-    record {
+    let self = c.args.self.now in
+    let was : self.pass ≡ Some c.in-Some.pass = search rules in
+    let called = c.take-reply in
+    let provides : Provides self.shared.now.network (record { pass = self.pass; quotes = self.quotes }) (record { pass = Some called.result.1; quotes = called.new.quotes }) c.args.customer.now (Take c.args.number) called.result.0 = record {
       before = c.in-Some.pass;
-      after = c.take-reply.result.1;
+      after = called.result.1;
       was = was;
       is = refl;
-      steps = λ held are. c.take-reply.ensures.steps held are;
-      names = c.take-reply.ensures.names;
-    }
+      steps = λ held are. called.ensures.steps held are;
+      names = called.ensures.names;
+      stale = λ number seen now is told. called.ensures.stale seen now told;
+    } in
+    record { answers = (refl, refl, refl, provides); stays = refl; can = can_again self.shared.now _ _ _ _ _ c.requires provides }

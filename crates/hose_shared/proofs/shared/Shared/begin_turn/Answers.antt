@@ -1,4 +1,7 @@
-use Rattle.std.proofs.Common.{◌≡◌, ◌∙◌, ap, arith, subst, sym}
+use Rattle.std.proofs.Common.{◌≡◌, ◌∙◌, ap, subst, sym}
+use Rattle.hose_law.specs.Book.{Book}
+use Rattle.hose_law.proofs.Epochs.{epoch_of}
+use Rattle.hose_book.specs.Ledger.{Ledger}
 use Rattle.hose_turn.specs.steps.Held.{holder, value_of}
 use Rattle.hose_turn.specs.Known.{Known}
 use Rattle.hose_shared.specs.steps.Keeping.{StandsShared}
@@ -19,7 +22,6 @@ returns-clause-begins g c =
     let known = holder c.lock-held.result in
     let same : c.of-was.result.value ≡ value_of c.lock-held.result = c.of-was.ensures ∙ c.value-2.ensures in
     let stands = subst (λ (k : _). StandsShared g.D.Disk g.B.Begun.begins known.origin known.seen k.store) (sym same) c.lock-held.ensures.stands in
-    let stood = subst (λ (k : _). StandsShared g.D.Disk g.B.Begun.begins known.origin known.seen k.store) (sym c.value.ensures) c.lock-held.ensures.stands in
-    let is = c.epoch-epoch.ensures known.origin known.seen stood in
-    let first = stood.epoch in
-    record { stands = stands; epoch = omega arith; floor = c.lock-held.ensures.floor ∙ ap (λ (k : _). faults_in g.D.Disk k.store) (sym same) }
+    let here = c.epoch-epoch.ensures.value ∙ ap (λ (l : Ledger). l.book.epoch) (c.book.ensures ∙ ap (λ (k : _). k.store.ledger) c.value.ensures) in
+    let epoch = here ∙ ap (λ (b : Book). b.epoch) c.lock-held.ensures.stands.book ∙ epoch_of known.seen in
+    record { stands = stands; epoch = epoch; floor = c.lock-held.ensures.floor ∙ ap (λ (k : _). faults_in g.D.Disk k.store) (sym same) }

@@ -1,4 +1,6 @@
-use Rattle.std.proofs.Common.{◌∙◌, ap, sym}
+use Rattle.std.proofs.Common.{◌∙◌, ap, subst, sym}
+use Rattle.hose_graph.specs.steps.Naming.{NamesPlaces}
+use Rattle.hose_graph.specs.Network.{Network}
 use Rattle.hose_graph.specs.declared.command.Command.TheVariants.{Show}
 use Rattle.hose_law.specs.Quotes.{none_held}
 use Rattle.hose_shared.proofs.Passes.{along_of}
@@ -13,11 +15,14 @@ end_turn-requires-clause-answers g c =
     let told = c.show_now-reply.ensures in
     (customer, none_held, Show c.args.id, c.show_now-reply.result, reads_turn c.begin_turn-held.ensures.begins same now customer none_held (Show c.args.id) told.step told.met)
 
-pub returns-clause-steps : goal.returns-clause-steps
-returns-clause-steps g c = λ held.
-    let now = ap (λ (k : _). k.store) (sym c.begin_turn-held.ensures.value) in
-    let same = ap (λ (k : _). k.store) (c.value.ensures ∙ sym c.begin_turn-held.ensures.value) in
-    let customer = c.args.caller.now.customer.now in
-    let told = c.show_now-reply.ensures in
-    along_of _ customer held _ _ _ _ _ c.begin_turn-held.ensures.more
-    (c.end_turn.ensures customer held (Show c.args.id) c.show_now-reply.result (reads_turn c.begin_turn-held.ensures.begins same now customer held (Show c.args.id) told.step told.met))
+pub returns : goal.returns
+returns g c = record {
+  steps = λ held.
+      let now = ap (λ (k : _). k.store) (sym c.begin_turn-held.ensures.value) in
+      let same = ap (λ (k : _). k.store) (c.value.ensures ∙ sym c.begin_turn-held.ensures.value) in
+      let customer = c.args.caller.now.customer.now in
+      let told = c.show_now-reply.ensures in
+      along_of _ customer held _ _ _ _ _ c.begin_turn-held.ensures.more
+      (c.end_turn.ensures customer held (Show c.args.id) c.show_now-reply.result (reads_turn c.begin_turn-held.ensures.begins same now customer held (Show c.args.id) told.step told.met));
+  names = subst (λ (n : Network). NamesPlaces n c.show_now-reply.result) (ap (λ (k : _). k.store.ledger.network) (c.value.ensures ∙ sym c.begin_turn-held.ensures.value) ∙ c.begin_turn-held.ensures.network) c.show_now-reply.ensures.names;
+}

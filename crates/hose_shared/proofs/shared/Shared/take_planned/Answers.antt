@@ -18,10 +18,10 @@ use Rattle.hose_shared.proofs.Recently.{grounds_since}
 use Rattle.hose_shared.proofs.shared.Shared.take_planned.Goals as goal
 
 pub returns-in_default : goal.returns-in_default
-returns-in_default g c = (
-  λ held. stays_along held (more_same c.args.pass c.requires.of.places) refl (memory_step c.args.self.now.network c.args.pass.seen c.args.caller.now.customer.now c.args.known c.args.quote.hose held),
-  tt,
-)
+returns-in_default g c = record {
+  steps = λ held. stays_along held (more_same c.args.pass c.requires.of.places) refl (memory_step c.args.self.now.network c.args.pass.seen c.args.caller.now.customer.now c.args.known c.args.quote.hose held);
+  names = tt;
+}
 
 pub admit_claimed_now-settled-requires-clause-made : goal.admit_claimed_now-settled-requires-clause-made
 admit_claimed_now-settled-requires-clause-made g c =
@@ -46,7 +46,7 @@ pub end_turn-pass-requires-clause-answers : goal.end_turn-pass-requires-clause-a
 end_turn-pass-requires-clause-answers g c =
     let same = ap (λ (k : _). k.store) (c.value_mut.ensures.value ∙ sym c.begin_turn-held.ensures.value) in
     let called = c.admit_claimed_now-settled in
-    settled_turn c.begin_turn-held.ensures.begins same _ c.args.caller.now.customer.now c.args.known c.args.quote.hose c.in-Ok.claim.entry (ap Some (c.of-entry.ensures ∙ c.entry.ensures)) called.result called.ensures.admits
+    settled_turn c.begin_turn-held.ensures.begins same _ c.args.caller.now.customer.now c.args.known c.args.quote.hose c.in-Ok.claim.entry (ap Some (c.of-entry.ensures)) called.result called.ensures.admits
 
 pub returns-in-Some : goal.returns-in-Some
 returns-in-Some g c =
@@ -58,11 +58,11 @@ returns-in-Some g c =
     let hose = c.args.quote.hose in
     let reply = c.in-Some.reply in
     let entry = c.in-Ok.claim.entry in
-    let admits : AdmitsAtOnce (store_books g.D.Disk) c.value_mut.result.now.store c.admit_claimed_now-settled.new.books customer (record { known = known; hose = hose }) reply (Some entry) = rw c.in-Some.is at c.admit_claimed_now-settled.ensures.admits in (
-      λ held. along_of network customer held (admission_command known hose) reply c.args.pass (holder c.begin_turn-held.result.0) c.end_turn-pass.result begun.more
-          (c.end_turn-pass.ensures customer held (admission_command known hose) reply (claimed_turn begun.begins same _ customer known hose entry (ap Some (c.of-entry.ensures ∙ c.entry.ensures)) held reply admits)),
-      subst (λ (n : Network). NamesPlaces n reply) (ap (λ (s : _). s.ledger.network) same ∙ begun.network) admits.answered.names,
-    )
+    let admits : AdmitsAtOnce (store_books g.D.Disk) c.value_mut.result.now.store c.admit_claimed_now-settled.new.books customer (record { known = known; hose = hose }) reply (Some entry) = rw c.in-Some.is at c.admit_claimed_now-settled.ensures.admits in record {
+      steps = λ held. along_of network customer held (admission_command known hose) reply c.args.pass (holder c.begin_turn-held.result.0) c.end_turn-pass.result begun.more
+          (c.end_turn-pass.ensures customer held (admission_command known hose) reply (claimed_turn begun.begins same _ customer known hose entry (ap Some (c.of-entry.ensures)) held reply admits));
+      names = subst (λ (n : Network). NamesPlaces n reply) (ap (λ (s : _). s.ledger.network) same ∙ begun.network) admits.answered.names;
+    }
 
 pub returns-in-None : goal.returns-in-None
 returns-in-None g c =
