@@ -26,10 +26,12 @@ use Rattle.hose_shared.specs.steps.Along.{HasEntryAt, StepsAlong}
 use Rattle.hose_shared.specs.steps.Providing.{Customer, Provides}
 use Rattle.hose_shared.specs.steps.Sharing.{HasSeenMore, IsSamePass}
 use Rattle.hose_turn.specs.Known.{Known}
-use Rattle.hose_session.specs.steps.Exchanges.{AnswersAt, IsExchange, ServesClientOn, ShownSays}
+use Rattle.hose_session.specs.steps.Exchanges.{AnswersAt, IsAt, IsExchange, IsPhaseAt, ServesClientOn, ShownSays}
 use Rattle.hose_session.specs.SessionLines.{SaysFirst, SaysLater}
 use Rattle.hose_session.specs.declared.client.Client.{Client}
+use Rattle.hose_session.specs.declared.client.Phase.{Phase}
 use Rattle.hose_session.specs.declared.client.Phase.TheVariants as phase
+use Rattle.hose_session.specs.declared.client.Progress.{Progress}
 
 -- what is known of a line that is shown holds of its bytes
 pub text_is : (Is : List ℕ → Type 0) (line : Line) (text : Bor (List ℕ)) → line ≡ Text text → Is text.now → (bytes : List ℕ) → Shows line bytes → (length bytes ≤ LINE_LIMIT) × Is bytes
@@ -182,3 +184,11 @@ module _ (network : Network) (old new : Known) (line : Line) (reply : Reply) whe
   pub left_at : (customer : List ℕ) (held : Held) → ShownSays (SaysLater network) line Leaves → IsExchange network old new (Serving customer held) Leaves reply Left
       → AnswersAt network old (record { pass = new; phase = phase.Left }) (Serving customer held) line reply
   left_at customer held says exchange = record { said = Leaves; next = Left; says = says; exchange = exchange; at = refl }
+
+-- what is answered to a client, whatever it holds whose quotes these are, is answered at the stage of its session
+pub answers_client : (network : Network) (progress new : Progress) (client : Client) (line : Line) (reply : Reply) → progress.phase ≡ phase.Serving client
+    → ((held : Held) → AreHeld network 0 progress.pass.seen held client.quotes → AnswersAt network progress.pass new (Serving client.name held) line reply) → (stage : Stage) → IsAt network progress stage
+    → AnswersAt network progress.pass new stage line reply
+answers_client network progress new client line reply is answers stage at =
+    let here = subst (λ (p : Phase). IsPhaseAt network progress.pass.seen p stage) is at in
+    subst (λ (s : Stage). AnswersAt network progress.pass new s line reply) (sym here.1) (answers here.0 here.2)

@@ -1,25 +1,22 @@
 // What is answered to a customer.
 ghost use Rattle.std.specs.Prelude.{◌≡◌, false};
 ghost use Rattle.hose_graph.specs.steps.Naming.{AsksOf, NamesPlaces};
-ghost use Rattle.hose_io.specs.steps.Writing.{IsPut};
 ghost use Rattle.hose_law.specs.Quotes.{Held};
 ghost use Rattle.hose_law.specs.Transcript.{SessionLine, Stage};
-ghost use Rattle.hose_law.specs.Transcript.Stage.{Serving, Waiting};
+ghost use Rattle.hose_law.specs.Transcript.Stage.{Waiting};
 ghost use Rattle.hose_core.specs.steps.Holding.{AreHeld};
-ghost use Rattle.hose_proto.specs.ReplyText.{line_of, reply_text};
 ghost use Rattle.hose_shared.specs.steps.Sharing.{IsPassOf};
 ghost use Rattle.hose_session.specs.steps.Ending.{over_at};
 ghost use Rattle.hose_session.specs.steps.Exchanges.{AnswersAt, IsAt, ServesClientOn};
 
 use crate::client::{Client, Phase, Progress};
-use crate::reading::{greeting_of, is_bye, read_asked};
+use crate::reading::{greeting_of, is_bye};
 use hose_core::dispatch;
 use hose_disk::Disk;
 use hose_graph::{Command, Reply};
-use hose_io::{Failed, Sink};
 use hose_paths::RowMaker;
-use hose_pool::{Gate, Point};
-use hose_proto::{ReadFault, put_reply};
+use hose_pool::Gate;
+use hose_proto::{ReadFault, read_command};
 use hose_shared::{Begun, Context, Shared, SharedProvider};
 use hose_turn::Pass;
 use hose_words::Line;
@@ -52,11 +49,34 @@ impl<'a, W: Wait, D: Disk, B: Begun<D>, G: Gate> Session<'a, W, D, B, G> {
         ensures names { NamesPlaces self.now.shared.now.network result.0 }
     {
         let Progress { pass, phase } = progress;
-        match phase {
-            Phase::Waiting => self.greet(pass, line),
-            Phase::Serving(client) => self.answer_line(pass, client, line, rows),
+        let client = match phase {
+            Phase::Waiting => return self.greet(pass, line),
+            Phase::Serving(client) => client,
             Phase::Refused => unreachable!(),
             Phase::Left => unreachable!(),
+        };
+        let Line::Text(text) = line else {
+            let phase = Phase::Serving(client);
+            return (Reply::Long, Progress { pass, phase });
+        };
+        match read_command(self.context.alloc, self.shared.topology(), text, 0) {
+            Ok(command) => {
+                let (reply, pass, client) = self.answer(pass, client, command, rows);
+                let phase = Phase::Serving(client);
+                (reply, Progress { pass, phase })
+            }
+            Err(ReadFault::Bad { word }) => {
+                if is_bye(text) {
+                    let phase = Phase::Left;
+                    return (Reply::Bye, Progress { pass, phase });
+                }
+                let phase = Phase::Serving(client);
+                (Reply::Bad { word }, Progress { pass, phase })
+            }
+            Err(ReadFault::Memory) => {
+                let phase = Phase::Serving(client);
+                (Reply::Memory, Progress { pass, phase })
+            }
         }
     }
 
@@ -77,49 +97,6 @@ impl<'a, W: Wait, D: Disk, B: Begun<D>, G: Gate> Session<'a, W, D, B, G> {
             Err(reply) => {
                 let phase = Phase::Refused;
                 (reply, Progress { pass, phase })
-            }
-        }
-    }
-
-    // The reply to a line that comes after the greeting.
-    fn answer_line<R: RowMaker>(
-        &self,
-        pass: Pass,
-        client: Client,
-        line: Line<'_>,
-        rows: &mut R,
-    ) -> (Reply, Progress)
-        requires of { IsPassOf self.now.shared.now pass }
-        requires quotes { (held : Held)
-            × AreHeld self.now.shared.now.network 0 pass.seen held client.quotes }
-        ensures answers { (held : Held)
-            → AreHeld self.now.shared.now.network 0 pass.seen held client.quotes
-            → AnswersAt self.now.shared.now.network pass result.1 (Serving client.name held)
-            line.entry result.0 }
-        ensures of { IsPassOf self.now.shared.now result.1.pass }
-        ensures names { NamesPlaces self.now.shared.now.network result.0 }
-    {
-        let Line::Text(text) = line else {
-            let phase = Phase::Serving(client);
-            return (Reply::Long, Progress { pass, phase });
-        };
-        match read_asked(self.context.alloc, self.shared.topology(), text) {
-            Ok(command) => {
-                let (reply, pass, client) = self.answer(pass, client, command, rows);
-                let phase = Phase::Serving(client);
-                (reply, Progress { pass, phase })
-            }
-            Err(ReadFault::Bad { word }) => {
-                if is_bye(text) {
-                    let phase = Phase::Left;
-                    return (Reply::Bye, Progress { pass, phase });
-                }
-                let phase = Phase::Serving(client);
-                (Reply::Bad { word }, Progress { pass, phase })
-            }
-            Err(ReadFault::Memory) => {
-                let phase = Phase::Serving(client);
-                (Reply::Memory, Progress { pass, phase })
             }
         }
     }
@@ -156,20 +133,5 @@ impl<'a, W: Wait, D: Disk, B: Begun<D>, G: Gate> Session<'a, W, D, B, G> {
             unreachable!();
         };
         (reply, pass, Client { name, quotes })
-    }
-}
-
-impl<'a, W, D: Disk, B: Begun<D>, G: Gate> Session<'a, W, D, B, G> {
-    /// Writes the line of a reply, and passes the gate's point after it.
-    pub fn say<O: Sink>(&self, output: &mut O, reply: &Reply) -> Result<(), Failed>
-        requires { NamesPlaces self.now.shared.now.network reply.now }
-        ensures { IsPut O.Sink output.old output.new
-            (line_of (reply_text self.now.shared.now.network reply.now)) result }
-    {
-        put_reply(output, self.shared.topology(), reply)?;
-        self.context.gate.at(Point::Answered {
-            session: self.number,
-        });
-        Ok(())
     }
 }

@@ -1,7 +1,7 @@
 // The customer of a session, and how far the session is.
 ghost use Rattle.std.specs.Prelude.{◌≡◌};
 ghost use Rattle.hose_law.specs.Quotes.{none_held};
-ghost use Rattle.hose_session.specs.steps.Ending.{end_after, over_at};
+ghost use Rattle.hose_session.specs.steps.Ending.{end_after};
 
 use crate::ending::SessionEnd;
 use hose_core::Quotes;
@@ -42,18 +42,6 @@ pub enum Phase {
 }
 
 impl Phase {
-    /// No line is answered any more.
-    pub fn is_over(&self) -> bool
-        ensures { result ≡ over_at self.now }
-    {
-        match self {
-            Phase::Waiting => false,
-            Phase::Serving(_) => false,
-            Phase::Refused => true,
-            Phase::Left => true,
-        }
-    }
-
     /// How a session ends that is so far when its talk ended so.
     pub fn end_after(&self, ended: Result<TalkEnd, TalkFault>) -> SessionEnd
         ensures { result ≡ end_after self.now ended }

@@ -1,17 +1,13 @@
 // The lines of a session.
-ghost use Rattle.std.specs.Prelude.{◌≡◌, ◌↔◌, ℕ, [], Err, IfErr, IfOk, IsTrue};
-ghost use Rattle.hose_words.specs.Grammar.{IsFirst, IsFirstNotAllowed};
-ghost use Rattle.hose_words.specs.Form.{IsChoice};
+ghost use Rattle.std.specs.Prelude.{◌↔◌, [], IfErr, IfOk, IsTrue};
+ghost use Rattle.hose_words.specs.Grammar.{IsFirstNotAllowed};
 ghost use Rattle.hose_words.specs.Words.{words_of};
-ghost use Rattle.hose_graph.specs.steps.Naming.{AsksOf};
-ghost use Rattle.hose_proto.specs.Command.{IsCommand, TakesMemory, command_grammar, verb_word};
 ghost use Rattle.hose_session.specs.SessionLines.{IsBye, IsGreeting, greeting_grammar};
 ghost use Rattle.hose_session.specs.steps.Exchanges.{IsGreetedBy};
 
-use hose_graph::{Command, Name, Reply, Topology};
-use hose_proto::{ReadFault, read_command, read_name};
+use hose_graph::{Name, Reply};
+use hose_proto::read_name;
 use hose_words::{Cursor, Line, WrongWord};
-use std::alloc::Global;
 
 /// What the first line of a session is: a greeting, with this name, or else the reply to it.
 pub fn greeting_of(line: Line<'_>) -> Result<Name, Reply>
@@ -45,16 +41,4 @@ pub fn is_bye(line: &[u8]) -> bool
 {
     let mut words = Cursor::new(line);
     words.expect(b"bye").is_ok() && words.finish().is_ok()
-}
-
-/// What a line asks for after the greeting.
-pub fn read_asked(alloc: Global, top: &Topology, line: &[u8]) -> Result<Command, ReadFault>
-    ensures ok { IfOk result (IsCommand top.now (words_of line.now)) }
-    ensures bad { (word : ℕ) → result ≡ Err (ReadFault.Bad word)
-        → IsFirstNotAllowed (command_grammar top.now) [] (words_of line.now) word }
-    ensures memory { result ≡ Err ReadFault.Memory
-        → IsFirst (IsChoice TakesMemory verb_word) (words_of line.now) }
-    ensures nodes { IfOk result (AsksOf top.now) }
-{
-    read_command(alloc, top, line, 0)
 }

@@ -13,7 +13,8 @@ use hose_disk::Disk;
 use hose_graph::Reply;
 use hose_io::{Failed, Sink, Source};
 use hose_paths::RowMaker;
-use hose_pool::Gate;
+use hose_pool::{Gate, Point};
+use hose_proto::put_reply;
 use hose_shared::Begun;
 use hose_talk::{Answers, hold_talk};
 use hose_turn::Pass;
@@ -130,13 +131,23 @@ impl<'a, W: Wait, D: Disk, B: Begun<D>, G: Gate, R: RowMaker> Answers
     }
 
     fn put<O: Sink>(&self, output: &mut O, reply: &Reply) -> Result<(), Failed> {
-        self.session.say(output, reply)
+        let session = &self.session;
+        put_reply(output, session.shared.topology(), reply)?;
+        session.context.gate.at(Point::Answered {
+            session: session.number,
+        });
+        Ok(())
     }
 
     fn is_over(&self) -> bool {
-        match &self.progress {
-            Some(progress) => progress.phase.is_over(),
-            None => true,
+        let Some(progress) = &self.progress else {
+            return true;
+        };
+        match progress.phase {
+            Phase::Waiting => false,
+            Phase::Serving(_) => false,
+            Phase::Refused => true,
+            Phase::Left => true,
         }
     }
 }

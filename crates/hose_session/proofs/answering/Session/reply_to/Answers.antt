@@ -1,7 +1,18 @@
-use Rattle.std.proofs.Common.{subst, sym}
+use Rattle.std.proofs.Common.{◌≡◌, ◌∙◌, Err, [], ℕ, rules, ap, arith, subst, sym}
+use Rattle.hose_words.specs.Form.{IsChoice}
+use Rattle.hose_words.specs.Grammar.{IsFirst, IsFirstNotAllowed}
+use Rattle.hose_words.specs.steps.Lines.{Shows}
+use Rattle.hose_words.specs.Words.{words_of}
+use Rattle.hose_words.specs.declared.lines.Line.{Line}
+use Rattle.hose_graph.specs.Network.{Network}
 use Rattle.hose_law.specs.Transcript.{Stage}
+use Rattle.hose_law.specs.Transcript.SessionLine.{Asks, IsBad, IsLong, Unread}
+use Rattle.hose_proto.specs.Command.{IsCommand, TakesMemory, command_grammar, verb_word}
+use Rattle.hose_shared.proofs.Passes.{more_same}
+use Rattle.hose_session.specs.SessionLines.{IsBye}
 use Rattle.hose_session.specs.steps.Exchanges.{AnswersAt, IsPhaseAt}
 use Rattle.hose_session.specs.declared.client.Phase.{Phase}
+use Rattle.hose_session.proofs.Exchanging.{answers_client, bad_exchange, bye_exchange, left_at, long_exchange, memory_exchange, served_at, text_is}
 use Rattle.hose_session.proofs.answering.Session.reply_to.Goals as goal
 
 pub returns-in-Waiting-clause-answers : goal.returns-in-Waiting-clause-answers
@@ -11,9 +22,56 @@ returns-in-Waiting-clause-answers g c = λ stage at.
     let is = subst (λ (p : Phase). IsPhaseAt network pass.seen p stage) c.in-Waiting.is at in
     subst (λ (s : Stage). AnswersAt network pass c.greet.result.1 s c.args.line c.greet.result.0) (sym is) c.greet.ensures.answers
 
-pub returns-in-Serving-clause-answers : goal.returns-in-Serving-clause-answers
-returns-in-Serving-clause-answers g c = λ stage at.
+pub returns-in_default-clause-answers : goal.returns-in_default-clause-answers
+returns-in_default-clause-answers g c =
     let network = c.args.self.now.shared.now.network in
     let pass = c.args.progress.pass in
-    let is = subst (λ (p : Phase). IsPhaseAt network pass.seen p stage) c.in-Serving.is at in
-    subst (λ (s : Stage). AnswersAt network pass c.answer_line.result.1 s c.args.line c.answer_line.result.0) (sym is.1) (c.answer_line.ensures.answers is.0 is.2)
+    let client = c.in-Serving.client in
+    answers_client network c.args.progress _ client c.args.line _ c.in-Serving.is (λ held are.
+    served_at network pass pass c.args.line _ client client held IsLong (λ bytes shows. subst (λ (l : Line). Shows l bytes) c.in_default.is shows)
+    (long_exchange network pass (more_same pass c.requires.of.places).same client held are))
+
+pub returns-in-Ok-clause-answers : goal.returns-in-Ok-clause-answers
+returns-in-Ok-clause-answers g c =
+    let network = c.args.self.now.shared.now.network in
+    let pass = c.args.progress.pass in
+    let client = c.in-Serving.client in
+    let asks = subst (λ (n : Network). IsCommand n (words_of c.in-Text.text.now) c.in-Ok.command) c.topology.ensures.value c.in-Ok.ensures.ok in
+    answers_client network c.args.progress _ client c.args.line _ c.in-Serving.is (λ held are.
+    served_at network pass c.answer-reply.result.1 c.args.line _ client c.answer-reply.result.2 held (Asks c.in-Ok.command)
+    (text_is (λ bytes. IsCommand network (words_of bytes) c.in-Ok.command) c.args.line c.in-Text.text c.in-Text.is asks) (c.answer-reply.ensures.exchange held are))
+
+pub returns-then-is_bye-clause-answers : goal.returns-then-is_bye-clause-answers
+returns-then-is_bye-clause-answers g c =
+    let network = c.args.self.now.shared.now.network in
+    let pass = c.args.progress.pass in
+    let client = c.in-Serving.client in
+    answers_client network c.args.progress _ client c.args.line _ c.in-Serving.is (λ held are.
+    left_at network pass pass c.args.line _ client.name held (text_is IsBye c.args.line c.in-Text.text c.in-Text.is (c.is_bye.ensures.0 c.if-is_bye.true))
+    (bye_exchange network pass (more_same pass c.requires.of.places).same client.name held))
+
+pub returns-else-is_bye-clause-answers : goal.returns-else-is_bye-clause-answers
+returns-else-is_bye-clause-answers g c =
+    let network = c.args.self.now.shared.now.network in
+    let pass = c.args.progress.pass in
+    let client = c.in-Serving.client in
+    let word : ℕ = c.in-Err-Bad.word in
+    let told = c.read_command.ensures.bad word (c.in-Err-Bad.is ∙ ap Err c.in-Err-Bad.field-0-is) in
+    let at : told.0 ≡ word = omega (arith, told.1) in
+    let first = subst (λ (w : ℕ). IsFirstNotAllowed (command_grammar c.topology.result.now) [] (words_of c.in-Text.text.now) w) at told.2 in
+    let wrong = subst (λ (n : Network). IsFirstNotAllowed (command_grammar n) [] (words_of c.in-Text.text.now) word) c.topology.ensures.value first in
+    let says = text_is (λ bytes. (¬ IsBye bytes) × IsFirstNotAllowed (command_grammar network) [] (words_of bytes) word) c.args.line c.in-Text.text c.in-Text.is
+    ((λ bye. cc (c.is_bye.ensures.1 bye, c.if-is_bye.false)), wrong) in
+    answers_client network c.args.progress _ client c.args.line _ c.in-Serving.is (λ held are.
+    served_at network pass pass c.args.line _ client client held (IsBad word) (λ bytes shows. let here = says bytes shows in (here.0, here.1.0, here.1.1))
+    (bad_exchange network pass (more_same pass c.requires.of.places).same client held are word _ (search rules)))
+
+pub returns-in-Err-Memory-clause-answers : goal.returns-in-Err-Memory-clause-answers
+returns-in-Err-Memory-clause-answers g c =
+    let network = c.args.self.now.shared.now.network in
+    let pass = c.args.progress.pass in
+    let client = c.in-Serving.client in
+    answers_client network c.args.progress _ client c.args.line _ c.in-Serving.is (λ held are.
+    served_at network pass pass c.args.line _ client client held Unread
+    (text_is (λ bytes. IsFirst (IsChoice TakesMemory verb_word) (words_of bytes)) c.args.line c.in-Text.text c.in-Text.is (c.read_command.ensures.memory (c.in-Err-Memory.is ∙ ap Err c.in-Err-Memory.field-0-is)))
+    (memory_exchange network pass (more_same pass c.requires.of.places).same client held are))
