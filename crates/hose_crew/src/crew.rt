@@ -147,7 +147,7 @@ fn take_places<D: Disk, B: Begun<D>, L: Door, N: DoorStart>(
     }
 }
 
-// All workers serve connections until there is no more.
+// All workers serve side by side, each until it is told of no more, and then the desk is closed.
 fn serve_all<
     R: Threads + Wait + Sync,
     D: Disk + Send,
@@ -172,33 +172,6 @@ fn serve_all<
     ensures port { L.opened_at result.door ≡ N.start.port }
     ensures few { result.tally.total ≤ N.start.connections }
 {
-    let mut desk = serve_at_once(work, first, desk, hands);
-    // Each worker stopped where there was no more. The lock does not tell so, and without it the
-    // desk does, which one of them asks once more.
-    hands[0].work(work, first, &mut desk);
-    desk.close()
-}
-
-// All workers serve connections side by side, each until it is told of no more.
-fn serve_at_once<
-    R: Threads + Wait + Sync,
-    D: Disk + Send,
-    B: Begun<D> + Send,
-    G: Gate + Sync,
-    L: Door + Send,
-    N: DoorStart + Send + Sync,
->(
-    work: &Work<'_, R, D, B, G>,
-    first: &Snapshot<Pass>,
-    desk: Desk<L, N>,
-    hands: &mut [Hand<L, N>],
-) -> Desk<L, N>
-    requires some { 0 < length hands.old }
-    requires may { MayServe work.now.shared.now first.now.value }
-    requires works { HaveWorked L.came_to N.start first.now.value hands.old }
-    ensures number { length hands.new ≡ length hands.old }
-    ensures works { HaveWorked L.came_to N.start first.now.value hands.new }
-{
     let desk = Mutex::new(desk);
     // Its parts are known to be shared by threads, and the whole is not.
     let Work {
@@ -218,7 +191,11 @@ fn serve_at_once<
     };
     let workers = hands.len();
     thread::for_each_mut(rt, hands, workers, &serve);
-    desk.into_inner()
+    // Each worker stopped where there was no more. The lock does not tell so, and without it the
+    // desk does, which one of them asks once more.
+    let mut desk = desk.into_inner();
+    hands[0].work(work, first, &mut desk);
+    desk.close()
 }
 
 // Each worker gives up its place, and the connections that it ended go back to the door.
