@@ -15,10 +15,10 @@ use Rattle.hose_book.specs.Ledger.{Ledger}
 use Rattle.hose_disk.specs.Cabinet.{object_of}
 use Rattle.hose_store.specs.Recovery.{IsHistoryOf}
 use Rattle.hose_store.specs.steps.Store.{KeptStore}
-use Rattle.hose_offline.specs.AuditOutcome.{AuditOutcome, EndsNamed, EndsRefused, EndsTold, IsAudited, JournalIs, NamedOutcome, NamesOutcome, NoneFailed, Purpose, to_audit}
+use Rattle.hose_offline.specs.AuditOutcome.{AuditOutcome, EndsNamed, EndsRefused, IsAudited, JournalIs, NamedOutcome, NamesOutcome, Purpose, to_audit}
 use Rattle.hose_offline.specs.steps.AuditOutcome.{AuditsJournal}
 use Rattle.hose_offline.specs.Auditing.{HasAudited, IsNotRead, IsTextServable, PricedNames, ReadsTopology, named_text}
-use Rattle.hose_offline.specs.Ending.{IsOut}
+use Rattle.hose_offline.specs.Ending.{EndsTold, NoneFailed, IsOut}
 use Rattle.hose_offline.specs.Fault.{last_line, status_of}
 use Rattle.hose_offline.specs.steps.Journal.{ClosesJournal, OpensJournal}
 use Rattle.hose_offline.specs.OnDisk.{CabinetFailed, JournalIsTold}
@@ -172,7 +172,7 @@ module _ {I O C E : Type 0} (tells : Tellings I O C E) (names : PricedNames) (be
 
     -- ---- a topology was read, and this was told of its network
     module _ (read : C) (network : Network) (status : ℕ) (reads : ReadsTopology tells.cabinet before.cabinet read names.prices names.topology (Ok network)) (same : (tells.cabinet.frame after.cabinet).absent ≡ (tells.cabinet.frame read).absent) where
-      pub names_read : purpose.Tells status network → (Told network (λ bytes. (history : List Entry) → ¬ IsHistoryOf network history bytes) → Failing → (status ≡ 5) ⊎ (status ≡ 7)) → NamesOutcome tells names before after purpose reads.left status
+      pub names_read : purpose.IsFulfilled status network → (Told network (λ bytes. (history : List Entry) → ¬ IsHistoryOf network history bytes) → Failing → (status ≡ 5) ⊎ (status ≡ 7)) → NamesOutcome tells names before after purpose reads.left status
       names_read tells_so refuses = record {
         ends = inl (record { network = network; text = reads.text.2; is = tells_so });
         refused = λ refused. absurd (no_network_read (notation_of names.topology) names.prices _ _ network refused reads.text.2);
@@ -181,7 +181,7 @@ module _ {I O C E : Type 0} (tells : Tellings I O C E) (names : PricedNames) (be
         refused_journal = λ servable told held. refuses (of_read (notation_of names.topology) names.prices _ _ reads.taken network _ reads.gives reads.text.2 told) held;
       }
 
-      pub named_read : after.input ≡ before.input → purpose.Tells status network → status ≢ 8 → (Told network (λ bytes. (history : List Entry) × IsHistoryOf network history bytes) → Failing → (status ≡ 0) ⊎ (status ≡ 7))
+      pub named_read : after.input ≡ before.input → purpose.IsFulfilled status network → status ≢ 8 → (Told network (λ bytes. (history : List Entry) × IsHistoryOf network history bytes) → Failing → (status ≡ 0) ⊎ (status ≡ 7))
           → (Told network (λ bytes. (history : List Entry) → ¬ IsHistoryOf network history bytes) → Failing → (status ≡ 5) ⊎ (status ≡ 7)) → NamedOutcome tells names before after purpose status
       named_read input tells_so never_8 completes refuses = record {
         left = reads.left;
@@ -192,7 +192,7 @@ module _ {I O C E : Type 0} (tells : Tellings I O C E) (names : PricedNames) (be
       }
 
     -- ---- the words are not what is wrong
-    pub named_not_1 : (left : Option Stream) (status : ℕ) → ((network : Network) → purpose.Tells status network → status ≢ 1) → EndsNamed tells names before after purpose left status → status ≢ 1
+    pub named_not_1 : (left : Option Stream) (status : ℕ) → ((network : Network) → purpose.IsFulfilled status network → status ≢ 1) → EndsNamed tells names before after purpose left status → status ≢ 1
     named_not_1 left status never (inl told) is = never told.network told.is is
     named_not_1 left status never (inr not) is = by not.0 not.2 (sym not.1 ∙ is)
       where

@@ -12,9 +12,9 @@ use Rattle.hose_follow.specs.Packet.{BeginsNoPacket, IsPacket, IsPartOfPacket, P
 use Rattle.hose_follow.specs.declared.following.FollowEnd.{FollowEnd}
 use Rattle.hose_follow.specs.declared.following.FollowEnd.TheVariants as end
 use Rattle.hose_follow.specs.declared.following.TheConstants.{INPUT_LIMIT}
-use Rattle.hose_offline.specs.AuditOutcome.{NamedOutcome, NoneFailed}
+use Rattle.hose_offline.specs.AuditOutcome.{NamedOutcome}
 use Rattle.hose_offline.specs.Auditing.{PricedNames, ReadsTopology}
-use Rattle.hose_offline.specs.Ending.{IsLastLine, IsOut, status_of_done}
+use Rattle.hose_offline.specs.Ending.{IsLastLine, IsOut, NoneFailed, status_of_done}
 use Rattle.hose_offline.specs.Fault.{last_line, status_of}
 use Rattle.hose_offline.specs.FollowOutcome.{FollowOutcome, IsOfNoPackets, IsOfPackets, to_follow}
 use Rattle.hose_offline.specs.Following.{HasFollowed, following_done}
@@ -183,7 +183,7 @@ module _ {I O C E : Type 0} (tells : Tellings I O C E) (names : PricedNames) (be
         limit = has.follows.limit;
         too_long = ((λ at_8. inr (has.follows.too_long.0 (long_end ended closing (too_long_at_8 (first_of (following_done ended) closing) (sym is ∙ at_8))))), back);
         named = names_read tells names before after (to_follow tells names before after) read network status reads same_absent
-            (record { left = left; ended = ended; closing = closing; followed = has; last_line = out; is_status = is })
+            (record { left = left; done = first_of (following_done ended) closing; leaves = (ended, closing, has, refl); last_line = out; is_status = is })
             (λ told held. absurd (clash tells.cabinet tells.disk before.cabinet after.cabinet names.journal _ _ (λ image history none. none has.since history) has.begun told));
         complete = λ set told. completes ended closing has told (ends_well ended closing has is set.held (inl told));
         no_packets = λ set told. cuts ended closing has told (ends_well ended closing has is set.held (inr told));
@@ -206,4 +206,4 @@ module _ {I O C E : Type 0} (tells : Tellings I O C E) (names : PricedNames) (be
   -- the words are not what is wrong
   pub follow_not_1 : (status : ℕ) → FollowOutcome tells names before after status → status ≢ 1
   follow_not_1 status outcome = named_not_1 tells names before after (to_follow tells names before after) outcome.left status
-      (λ network told one. followed_not_1 told.ended told.closing (sym told.is_status ∙ one)) outcome.named.ends
+      (λ network told one. followed_not_1 told.leaves.0 told.leaves.1 (sym (told.is_status ∙ ap status_of_done told.leaves.3) ∙ one)) outcome.named.ends

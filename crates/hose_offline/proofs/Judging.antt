@@ -1,6 +1,6 @@
 -- A certificate: the text of a topology in a cabinet, and what an input has.
 use Rattle.std.specs.Prelude.{IfOk, OnOk}
-use Rattle.std.proofs.Common.{◌≡◌, ◌↔◌, inl, inr, ℕ, List, [], ◌++◌, length, length-append, Option, None, Some, Result, Ok, Err, refl, ap, subst, arith}
+use Rattle.std.proofs.Common.{◌≡◌, ◌↔◌, ℕ, List, [], ◌++◌, length, length-append, Option, None, Some, Result, Ok, Err, refl, ap, subst, arith}
 use Rattle.std.proofs.lemmas.List.{nil_from_length}
 use Rattle.hose_words.specs.steps.Lines.{Reader}
 use Rattle.hose_words.specs.Reading.{WhereTold}
@@ -14,12 +14,9 @@ use Rattle.hose_cert.specs.declared.fault.CertFault.TheVariants as certificate
 use Rattle.hose_io.specs.declared.source.Source.{Ghosts as SourceGhosts}
 use Rattle.hose_graph.specs.Network.{Network}
 use Rattle.hose_cert.specs.declared.Verdict.{Verdict}
-use Rattle.hose_offline.specs.Auditing.{ReadsTopology}
-use Rattle.hose_offline.specs.CheckOutcome.{CheckOutcome, EndsChecked, IsVerdictOf, JudgesNamed}
-use Rattle.hose_offline.specs.steps.CheckOutcome.{JudgesInput, JudgedAs}
+use Rattle.hose_offline.specs.CheckOutcome.{CheckOutcome, EndsChecked, JudgesNamed}
 use Rattle.hose_offline.specs.Parts.{Parts, Tellings}
 use Rattle.hose_offline.specs.declared.fault.Fault.{Fault}
-use Rattle.hose_offline.proofs.Taken.{both_failed, both_then}
 
 -- ---- a reader that has taken nothing
 
@@ -49,19 +46,6 @@ long_told (Err certificate.Memory) told = ((λ is. absurd (cc is)), λ long. abs
 -- ---- a topology and an input
 
 module _ {I O C E : Type 0} (tells : Tellings I O C E) (prices : Network → Network → Type 0) (topology : List ℕ) (before after : Parts I O C) where
-  -- no topology was read, and so nothing of the input
-  pub judged_none : (why : Fault) → ReadsTopology tells.cabinet before.cabinet after.cabinet prices topology (Err why) → after.input ≡ before.input → JudgesNamed tells prices topology before after (Err why)
-  judged_none why reads same = both_failed tells topology before after _ _ why reads same (inl (reads.text, same))
-
-  -- one was read, and then the input was judged, or not
-  pub judged_then : (network : Network) (result : Result Verdict Fault) → ReadsTopology tells.cabinet before.cabinet after.cabinet prices topology (Ok network) → JudgesInput tells.source before.input after.input network result → JudgesNamed tells prices topology before after result
-  judged_then network result reads judges =
-      both_then tells topology before after _ _ network result reads judges.taken judges.gives judges.limit judges.too_long (at result judges.judged)
-    where
-      at : (one : Result Verdict Fault) → JudgedAs tells.source before.input after.input network one → IsVerdictOf tells prices topology before after reads.left one
-      at (Ok verdict) is = (record { network = network; text = reads.text.2; is = is }, reads.text.1)
-      at (Err why) is = inr (record { network = network; text = reads.text.2; is = is }, reads.text.1)
-
   -- the output was left alone until that was told
   pub checked : (output : O) (status : ℕ) (result : Result Verdict Fault) → after.output ≡ before.output → JudgesNamed tells prices topology before after result → EndsChecked tells.sink after.output output status result
       → CheckOutcome tells prices topology before (record after { output = output }) status

@@ -1,6 +1,7 @@
 mod Answered
 pub mod Audited
 pub mod Audits
+mod BookTalks
 mod Borrowed
 mod EndsFound
 pub mod Exchanges
@@ -30,6 +31,5 @@ pub mod Running
 mod Sheets
 mod ShipEnds
 mod StreamsStay
-mod Taken
 mod TalksTold
 mod Texts

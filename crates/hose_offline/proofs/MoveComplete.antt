@@ -30,9 +30,9 @@ use Rattle.hose_offline.specs.CabinetText.{OnlyTextsRead, whole_text}
 use Rattle.hose_offline.specs.Ending.{IsOut, OutputWorked}
 use Rattle.hose_offline.specs.Fault.{status_of}
 use Rattle.hose_offline.specs.MoveEnd.{EndsMoved, moved_done, stop_status}
-use Rattle.hose_offline.specs.MoveOutcome.{CanTake, EachNamed, FitsMoved, IsHeldTold, IsMovable}
+use Rattle.hose_offline.specs.MoveOutcome.{CanTake, EachNamed, FitsMoved, IsMovable}
 use Rattle.hose_offline.specs.Moving.{EntersStated, IsComplete, IsLent, LendsDisk, LendsOld, MoveNames, MovesFrom, read_done, to_move, to_read}
-use Rattle.hose_offline.specs.OnDisk.{CabinetFailed}
+use Rattle.hose_offline.specs.OnDisk.{CabinetFailed, JournalIsTold}
 use Rattle.hose_offline.specs.Parts.{Parts, Tellings}
 use Rattle.hose_offline.specs.Run.{IsFor, IsServable}
 use Rattle.hose_offline.specs.TopologyTold.{notation_of}
@@ -80,15 +80,15 @@ module _ {C E : Type 0} (cabinet : CabinetGhosts C E) where
 
 module _ {C E : Type 0} (cabinet : CabinetGhosts C E) (disk : DiskGhosts E) where
   -- what was told of a journal is told of it where the same disk is held
-  told_later : (name : List ℕ) (one two : C) (Is : List ℕ → Type 0) → cabinet.held two name ≡ cabinet.held one name → (cabinet.frame two).tells ≡ (cabinet.frame one).tells → IsHeldTold cabinet disk one name Is → IsHeldTold cabinet disk two name Is
+  told_later : (name : List ℕ) (one two : C) (Is : List ℕ → Type 0) → cabinet.held two name ≡ cabinet.held one name → (cabinet.frame two).tells ≡ (cabinet.frame one).tells → JournalIsTold cabinet disk one (Some name) Is → JournalIsTold cabinet disk two (Some name) Is
   told_later name one two Is same tells told = (tells ∙ told.0, told.1, same ∙ told.2, told.3, told.4, told.5)
 
-  after_texts : (name : List ℕ) (one two : C) (Is : List ℕ → Type 0) → OnlyTextsRead cabinet one two → IsHeldTold cabinet disk one name Is → IsHeldTold cabinet disk two name Is
+  after_texts : (name : List ℕ) (one two : C) (Is : List ℕ → Type 0) → OnlyTextsRead cabinet one two → JournalIsTold cabinet disk one (Some name) Is → JournalIsTold cabinet disk two (Some name) Is
   after_texts name one two Is only = told_later name one two Is (ap (λ (held : List ℕ → Option E). held name) only.disks) only.tells
 
   module _ (name : List ℕ) (old new : C) (Done : E → E → Type 0) (lent : IsLent cabinet disk name old new Done) where
     -- what was told of a journal is read of it
-    told_read : (Is : List ℕ → Type 0) → IsHeldTold cabinet disk old name Is → (bytes : List ℕ) × (disk.content lent.opened ≡ Some bytes) × Is bytes
+    told_read : (Is : List ℕ → Type 0) → JournalIsTold cabinet disk old (Some name) Is → (bytes : List ℕ) × (disk.content lent.opened ≡ Some bytes) × Is bytes
     told_read Is told =
         let was = lent.out.content told.0 in
         let same : was.0 ≡ told.1 = cc (was.1, told.2) in
@@ -97,7 +97,7 @@ module _ {C E : Type 0} (cabinet : CabinetGhosts C E) (disk : DiskGhosts E) wher
     lent_stays : Stays (object_of (cabinet.frame old)) (object_of (cabinet.frame new))
     lent_stays = record { never_falls = omega (arith, lent.out.call.met.stays.never_falls, lent.in_place.never_falls); number = refl; loan = refl }
 
-    lent_later : (beside : List ℕ) (Is : List ℕ → Type 0) → beside ≢ name → IsHeldTold cabinet disk old beside Is → IsHeldTold cabinet disk new beside Is
+    lent_later : (beside : List ℕ) (Is : List ℕ → Type 0) → beside ≢ name → JournalIsTold cabinet disk old (Some beside) Is → JournalIsTold cabinet disk new (Some beside) Is
     lent_later beside Is apart = told_later beside old new Is (lent.others beside apart) (ap (λ (f : CabinetFrame). f.tells) lent.in_place.call ∙ lent.out.call.tells)
 
     -- the count of the cabinet once the disk is put back
@@ -125,7 +125,7 @@ module _ {C E : Type 0} (cabinet : CabinetGhosts C E) (disk : DiskGhosts E) wher
     only_history : (content : Option (List ℕ)) (bytes : List ℕ) (history : List Entry) (meaning : Meaning Entry) → content ≡ Some bytes → IsHistoryOf network history bytes → IfSome content (λ bytes. IsRecoveredAs network bytes meaning) → listed history ≡ meaning
     only_history content bytes history meaning is stands read = one bytes (listed history) meaning stands (subst (λ (c : Option (List ℕ)). IfSome c (λ bytes. IsRecoveredAs network bytes meaning)) is read)
 
-    module _ (name : List ℕ) (which : Scope) (old new : C) (Is : List Entry → Type 0) (told : IsHeldTold cabinet disk old name (λ bytes. (history : List Entry) × IsHistoryOf network history bytes × Is history)) where
+    module _ (name : List ℕ) (which : Scope) (old new : C) (Is : List Entry → Type 0) (told : JournalIsTold cabinet disk old (Some name) (λ bytes. (history : List Entry) × IsHistoryOf network history bytes × Is history)) where
       -- a journal that stands for a history is not read for want of memory alone
       read_refused : (why : Fault) (read : Result Stated StoreFault) → Err why ≡ read_done read → Stays (object_of (cabinet.frame first)) (object_of (cabinet.frame old)) → ¬ CabinetFailed cabinet first new
           → IsLent cabinet disk name old new (λ opened left. ReadsJournal disk opened left network which read × IsUnchanged disk opened left) → status_of why ≡ 7
@@ -152,7 +152,7 @@ module _ {C E : Type 0} (cabinet : CabinetGhosts C E) (disk : DiskGhosts E) wher
           (is.2.0, ap (λ (s : Stated). s.entries.items) value ∙ (lent.done.0.is.entries ∙ ap (stated_entries which network) history), is.2.2)
       read_stated stated (Err why) same lent = absurd (cc same)
 
-    old_journal : (name : List ℕ) (which : Scope) (old new : C) (Is : List Entry → Type 0) (why : Fault) → IsHeldTold cabinet disk old name (λ bytes. (history : List Entry) × IsHistoryOf network history bytes × Is history) → Stays (object_of (cabinet.frame first)) (object_of (cabinet.frame old))
+    old_journal : (name : List ℕ) (which : Scope) (old new : C) (Is : List Entry → Type 0) (why : Fault) → JournalIsTold cabinet disk old (Some name) (λ bytes. (history : List Entry) × IsHistoryOf network history bytes × Is history) → Stays (object_of (cabinet.frame first)) (object_of (cabinet.frame old))
         → ¬ CabinetFailed cabinet first new → LendsOld cabinet disk name old new (to_read disk network which) (Err why) → status_of why ≡ 7
     old_journal name which old new Is why told stays none (inl (same, not)) = absurd (none (Rose-later _ _ _ stays not.failed))
     old_journal name which old new Is why told stays none (inr (found, looked, inl (same, not))) = absurd (none (Rose-later _ _ _ (Stays-next stays looked.only_texts.stays) not.failed))
@@ -162,7 +162,7 @@ module _ {C E : Type 0} (cabinet : CabinetGhosts C E) (disk : DiskGhosts E) wher
   -- ---- the new journal
 
   module _ (name : List ℕ) (first old new : C) (network : Network) (entries : List Entry) (Holds : Type 0) (holds : Holds) (stays : Stays (object_of (cabinet.frame first)) (object_of (cabinet.frame old))) (none : ¬ CabinetFailed cabinet first new)
-      (sound : IsSound network 0 entries) (told : IsHeldTold cabinet disk old name (StandsForPart network entries)) where
+      (sound : IsSound network 0 entries) (told : JournalIsTold cabinet disk old (Some name) (StandsForPart network entries)) where
     moved_ends : (moved : Result ℕ MoveFault) → IsLent cabinet disk name old new (λ opened left. Moves disk opened network entries left moved × OnlyMoves disk opened network entries left × IsComplete disk opened network entries moved) → Ends Holds (moved_done (length entries) moved)
     moved_ends (Ok live) lent = holds
     moved_ends (Err (moving.Store store.Disk)) lent = absurd (none (Rose-later _ _ _ stays (lent_failed name old new _ lent lent.done.0.0.told)))
@@ -222,7 +222,7 @@ module _ {I O C E : Type 0} (tells : Tellings I O C E) (names : MoveNames) (befo
       abbrev TakesIt : List Entry → Type 0
       TakesIt = FitsMoved tells.cabinet tells.disk names before.cabinet old new
 
-      told_2 : IsHeldTold tells.cabinet tells.disk c2 names.journals.old (λ bytes. (history : List Entry) × IsHistoryOf old history bytes × TakesIt history)
+      told_2 : JournalIsTold tells.cabinet tells.disk c2 (Some names.journals.old) (λ bytes. (history : List Entry) × IsHistoryOf old history bytes × TakesIt history)
       told_2 = after_texts tells.cabinet tells.disk names.journals.old c1 c2 _ reads'.only_texts (after_texts tells.cabinet tells.disk names.journals.old before.cabinet c1 _ reads.only_texts (taken new c2 reads').1)
 
       module _ (stated : Stated) (c3 c4 : C) (looked : OnlyTextsRead tells.cabinet c2 c3) (read : Result Stated StoreFault) (same : Ok stated ≡ read_done read)
@@ -233,7 +233,7 @@ module _ {I O C E : Type 0} (tells : Tellings I O C E) (names : MoveNames) (befo
         was : (history : List Entry) × (stated.entries.items ≡ stated_entries names.journals.scope old history) × TakesIt history
         was = read_stated tells.cabinet tells.disk before.cabinet old one names.journals.old names.journals.scope c3 c4 TakesIt (after_texts tells.cabinet tells.disk names.journals.old c2 c3 _ looked told_2) stated read same lent
 
-        to_new : (Is : List ℕ → Type 0) → IsHeldTold tells.cabinet tells.disk before.cabinet names.journals.new Is → IsHeldTold tells.cabinet tells.disk c4 names.journals.new Is
+        to_new : (Is : List ℕ → Type 0) → JournalIsTold tells.cabinet tells.disk before.cabinet (Some names.journals.new) Is → JournalIsTold tells.cabinet tells.disk c4 (Some names.journals.new) Is
         to_new Is told = lent_later tells.cabinet tells.disk names.journals.old c3 c4 _ lent names.journals.new Is movable.apart (after_texts tells.cabinet tells.disk names.journals.new c2 c3 Is looked
             (after_texts tells.cabinet tells.disk names.journals.new c1 c2 Is reads'.only_texts (after_texts tells.cabinet tells.disk names.journals.new before.cabinet c1 Is reads.only_texts told)))
 
@@ -241,7 +241,7 @@ module _ {I O C E : Type 0} (tells : Tellings I O C E) (names : MoveNames) (befo
         entered result (inl (is, rose, part, held)) = absurd (not_put rose)
         entered result (inr (out, worked, moves)) = new_ends tells.cabinet tells.disk names.journals.new before.cabinet c4 after.cabinet new stated.entries.items Worked worked stays_4 none
             (subst (IsSound new 0) (sym was.1) was.2.0)
-            (subst (λ (es : List Entry). IsHeldTold tells.cabinet tells.disk c4 names.journals.new (StandsForPart new es)) (sym was.1) (to_new _ was.2.1)) result moves
+            (subst (λ (es : List Entry). JournalIsTold tells.cabinet tells.disk c4 (Some names.journals.new) (StandsForPart new es)) (sym was.1) (to_new _ was.2.1)) result moves
 
     from_ends : (result : Result Moved MoveStop) → MovesFrom tells names (record before { cabinet = c1 }) after old result → Ends Worked result
     from_ends result (inl (why, same, reads', out)) = subst (Ends Worked) (sym same) (text_refused tells.cabinet before.cabinet c1 after.cabinet names.prices names.new_topology why reads.only_texts.stays reads' (subst (IsServable (notation_of names.new_topology)) (sym same_new) movable.new_servable) none)

@@ -17,7 +17,7 @@ use Rattle.hose_law.specs.Script.ReadLine.{Asks, IsBad, IsLong, Unread}
 use Rattle.hose_proto.specs.Command.{IsCommand, command_form, command_grammar}
 use Rattle.hose_offline.specs.ScriptLine.{IsAsking, script_grammar}
 use Rattle.hose_words.specs.Saying.{SayLines, no_line, one_more as one_line}
-use Rattle.hose_offline.specs.Talking.{Says, SaysNext}
+use Rattle.hose_offline.specs.Talking.{Says}
 use Rattle.hose_offline.specs.steps.Talking.{SaysAlone, IsRead, SaysOneThing}
 
 -- ---- one line
@@ -89,7 +89,7 @@ SayAll network text [] = text ≡ []
 SayAll network text (line ∷ lines) = (text ≢ []) × Says network (before_first is_line_feed text) line × SayAll network (after_first is_line_feed text) lines
 
 -- lines that are told at their end are told from the first on
-from_first : (network : Network) {text rest : List ℕ} {lines : List ReadLine} (more : List ReadLine) → SayLines (SaysNext network) text lines rest → SayAll network rest more → SayAll network text (lines ++ more)
+from_first : (network : Network) {text rest : List ℕ} {lines : List ReadLine} (more : List ReadLine) → SayLines (λ _. Says network) text lines rest → SayAll network rest more → SayAll network text (lines ++ more)
 from_first network more no_line all = all
 from_first network {text = text} more (one_line {lines = lines} line before some says) all =
     subst (SayAll network text) (sym (append_assoc lines (line ∷ []) more)) (from_first network (line ∷ more) before (some, says, all))
@@ -105,7 +105,7 @@ said_alone no_line each = each
 said_alone (one_line line before some says) each = said_alone before (first_line says.1 each)
 
 -- what they say
-pub said_next : {network : Network} {text rest : List ℕ} {lines : List ReadLine} → SayLines (λ _. SaysAlone network) text lines rest → SayLines (SaysNext network) text lines rest
+pub said_next : {network : Network} {text rest : List ℕ} {lines : List ReadLine} → SayLines (λ _. SaysAlone network) text lines rest → SayLines (λ _. Says network) text lines rest
 said_next no_line = no_line
 said_next (one_line line before some says) = one_line line (said_next before) some says.0
 
@@ -125,9 +125,9 @@ all_unique network text (l ∷ ls) (o ∷ os) each says says' read read' =
     λ i. first i ∷ rest i
 
 -- a whole text says one list of lines, where all of them are read
-pub lines_unique : (network : Network) (text : List ℕ) (lines others : List ReadLine) → OneThingEach network text → SayLines (SaysNext network) text lines [] → SayLines (SaysNext network) text others [] → All IsRead lines → All IsRead others → lines ≡ others
+pub lines_unique : (network : Network) (text : List ℕ) (lines others : List ReadLine) → OneThingEach network text → SayLines (λ _. Says network) text lines [] → SayLines (λ _. Says network) text others [] → All IsRead lines → All IsRead others → lines ≡ others
 lines_unique network text lines others each says says' read read' =
     all_unique network text lines others each (whole lines says) (whole others says') read read'
   where
-    whole : (said : List ReadLine) → SayLines (SaysNext network) text said [] → SayAll network text said
+    whole : (said : List ReadLine) → SayLines (λ _. Says network) text said [] → SayAll network text said
     whole said says = subst (SayAll network text) (append-nil said) (from_first network [] says refl)

@@ -11,7 +11,7 @@ use Rattle.hose_law.proofs.Unique.{AllAnswer, script_unique}
 use Rattle.hose_offline.specs.Run.{IsRightFor}
 use Rattle.hose_proto.specs.Replies.{texts_of}
 use Rattle.hose_words.specs.Saying.{SayLines}
-use Rattle.hose_offline.specs.Talking.{SaysNext}
+use Rattle.hose_offline.specs.Talking.{Says}
 use Rattle.hose_offline.specs.steps.Talking.{IsRead}
 use Rattle.hose_topo.specs.TopologyText.{IsTopologyText}
 use Rattle.hose_offline.proofs.OneReading.{OneThingEach, lines_unique}
@@ -42,14 +42,14 @@ pub record OneInput (input : List ℕ) (told network : Network) : Type 0 where
 
 -- an output that is right for an input and the history of a book is the only one
 pub right_alone : (prices : Network → Network → Type 0) (told network : Network) (since : List Entry) (input rest output : List ℕ) (lines : List ReadLine) (replies : List Reply) (history : List Entry) (left : Holdings) → IsNetwork network → OneInput input told network
-    → IsTopologyText input told rest → SayLines (SaysNext network) rest lines [] → IsScript network 0 lines replies (script_state since nothing_held) (script_state history left) → AllAnswer replies → IsRightFor prices network since input output → output ≡ texts_of network replies
+    → IsTopologyText input told rest → SayLines (λ _. Says network) rest lines [] → IsScript network 0 lines replies (script_state since nothing_held) (script_state history left) → AllAnswer replies → IsRightFor prices network since input output → output ≡ texts_of network replies
 right_alone prices told network since input rest output lines replies history left is one topology said script all right =
     let start = script_state since nothing_held in
     let their_end = script_state right.history right.left in
     let theirs = one.text right.told right.rest right.topology in
     let ours = (one.text told rest topology).1 in
     let same_rest : right.rest ≡ rest = theirs.1 ∙ sym ours in
-    let their_said : SayLines (SaysNext network) rest right.lines [] = subst (λ (r : List ℕ). SayLines (SaysNext network) r right.lines []) same_rest right.said in
+    let their_said : SayLines (λ _. Says network) rest right.lines [] = subst (λ (r : List ℕ). SayLines (λ _. Says network) r right.lines []) same_rest right.said in
     let same_lines = lines_unique network rest right.lines lines (subst (OneThingEach network) (sym ours) one.lines) their_said said
     (lines_read network right.lines right.replies start their_end right.script right.memory) (lines_read network lines replies start (script_state history left) script all.memory) in
     let moved : IsScript network 0 lines right.replies start their_end = subst (λ (l : List ReadLine). IsScript network 0 l right.replies start their_end) same_lines right.script in

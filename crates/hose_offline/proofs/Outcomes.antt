@@ -157,7 +157,7 @@ module _ {I O C E : Type 0} (tells : Tellings I O C E) (prices : Network → Net
         → (status_of_done done ≡ 0) ⊎ (status_of_done done ≡ 7)
     completes (Ok _) leaves long told = inl refl
     completes (Err (Topology refusal)) leaves long told = absurd (not_refused Lines refusal _ _ bytes gives servable leaves.0)
-    completes (Err Read) leaves long told = absurd (held.reading leaves.1)
+    completes (Err Read) leaves long told = absurd (held.others leaves.1)
     completes (Err Write) leaves long told = absurd (held.writing (Rose-before _ _ _ leaves.2 stays))
     completes (Err (Other kept given)) leaves long told = absurd (other_journal (λ network. given ≡ digest_of network) (other kept) leaves.0 told)
     completes (Err (Damaged at)) leaves long told = absurd (other_journal (λ network. ⊤) (damaged at) leaves.0 told)
@@ -171,7 +171,7 @@ module _ {I O C E : Type 0} (tells : Tellings I O C E) (prices : Network → Net
         → Told (λ network image. (history : List Entry) → ¬ IsHistoryOf network history image) → ⊥
     no_such_run closing some run told = at journal some run.run.begun (of_run old new bytes _ gives run.run told)
       where
-        at : (one : Option (List ℕ)) → IsSome one → (keeping_of tells.cabinet tells.disk before.cabinet left.cabinet one closing).Begins run.run.network run.run.since → JournalIsTold tells.cabinet tells.disk before.cabinet one (λ image. (history : List Entry) → ¬ IsHistoryOf run.run.network history image) → ⊥
+        at : (one : Option (List ℕ)) → IsSome one → (keeping_of tells.cabinet tells.disk before.cabinet left.cabinet one closing).IsBegunWith run.run.network run.run.since → JournalIsTold tells.cabinet tells.disk before.cabinet one (λ image. (history : List Entry) → ¬ IsHistoryOf run.run.network history image) → ⊥
         at None is begun told_as = absurd (cc is)
         at (Some name) is begun told_as = clash tells.cabinet tells.disk before.cabinet left.cabinet name _ _ (λ image history none. none run.run.since history) begun told_as
 
@@ -179,7 +179,7 @@ module _ {I O C E : Type 0} (tells : Tellings I O C E) (prices : Network → Net
         → (status_of_done done ≡ 5) ⊎ (status_of_done done ≡ 7)
     refuses (Ok _) leaves long some told = absurd (no_such_run (Ok tt) some leaves.0 told)
     refuses (Err (Topology refusal)) leaves long some told = absurd (not_refused Lines refusal _ _ bytes gives servable leaves.0)
-    refuses (Err Read) leaves long some told = absurd (held.reading leaves.1)
+    refuses (Err Read) leaves long some told = absurd (held.others leaves.1)
     refuses (Err Write) leaves long some told = absurd (held.writing (Rose-before _ _ _ leaves.2 stays))
     refuses (Err (Other kept given)) leaves long some told = inl refl
     refuses (Err (Damaged at)) leaves long some told = inl refl

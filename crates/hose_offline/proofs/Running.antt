@@ -36,7 +36,7 @@ use Rattle.hose_offline.specs.declared.notation.Refusal.TheVariants.{Word}
 use Rattle.hose_offline.specs.Fault.{done_of_talk}
 use Rattle.hose_offline.specs.steps.Fault.{of_topology}
 use Rattle.hose_talk.specs.Talk.{talk}
-use Rattle.hose_offline.specs.Talking.{IsAskedBy, SaysNext, TellsDisks}
+use Rattle.hose_offline.specs.Talking.{IsAskedBy, Says, TellsDisks}
 use Rattle.hose_offline.specs.steps.Talking.{Talks, talk_tellings, book_terms}
 use Rattle.hose_talk.specs.Talk.{AllOut, LastCut, TalksTo, TalksUpTo}
 use Rattle.hose_talk.specs.steps.Talk.{KeepsFault}
@@ -91,7 +91,7 @@ run_of prices keeping old new before after run is one out = record {
       (λ input left both output right.
       let text = both.1 in
       right_alone prices run.told run.network run.since input text.0 output run.lines run.replies run.history run.left is both.0 text.2
-      (subst (SayLines (SaysNext run.network) text.0 run.lines) text.4.0 text.3) run.script (record { memory = memory; disk = disk }) right);
+      (subst (SayLines (λ _. Says run.network) text.0 run.lines) text.4.0 text.3) run.script (record { memory = memory; disk = disk }) right);
 }
 
 -- where a count never rises no failure of a disk is told
@@ -140,7 +140,7 @@ module _ (prices : Network → Network → Type 0) {S O : Type 0} (source : Ghos
   text_read = WhereTold-map (source.content start.source) (source.content middle.source) _ _ (text_told source start middle told empty text) (λ input left tells. (told, tells, priced))
 
   -- and then lines were answered
-  module _ {K R : Type 0} (books : BooksGhosts K R) (keeping : Keeping) (since : List Entry) (first now : K) (begun : keeping.Begins network since)
+  module _ {K R : Type 0} (books : BooksGhosts K R) (keeping : Keeping) (since : List Entry) (first now : K) (begun : keeping.IsBegunWith network since)
       (keeps : (history : List Entry) (lines : List ReadLine) (replies : List Reply) → GoesOn books (IsAskedBy lines replies) network since first history now → TellsDisks (books.frame first).faults replies (books.frame now).faults
       → keeping.Keeps (record { network = network; since = since; history = history; lines = lines; replies = replies }))
       (more : ReadsOn source middle last) where

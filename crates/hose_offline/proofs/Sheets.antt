@@ -26,13 +26,13 @@ bad_shown network other text bytes word same is bad = subst (λ b. IsBadLine net
 
 -- what is answered to a customer is answered to the line that asks for it
 pub priced_shown : (sheet : Sheet) (other : Network) (text bytes customer : List ℕ) (hose : List Endpoint) (answer : SheetAnswer) → other ≡ sheet.network → text ≡ bytes → length bytes ≤ LINE_LIMIT → IsPricing other text customer hose
-    → PricesHose sheet customer hose answer → AnswersSheet sheet.network sheet bytes answer
+    → PricesHose sheet customer hose answer → AnswersSheet sheet bytes answer
 priced_shown sheet other text bytes customer hose answer same is short asks = by answer
   where
     here : IsPricing sheet.network bytes customer hose
     here = subst (λ b. IsPricing sheet.network b customer hose) is (subst (λ (n : Network). IsPricing n text customer hose) same asks)
 
-    by : (one : SheetAnswer) → PricesHose sheet customer hose one → AnswersSheet sheet.network sheet bytes one
+    by : (one : SheetAnswer) → PricesHose sheet customer hose one → AnswersSheet sheet bytes one
     by (Priced one line) prices = (hose, short, subst (λ (c : List ℕ). IsPricing sheet.network bytes c hose) (sym prices.0) here, prices.1)
     by (NoPlan one) prices = (hose, short, subst (λ (c : List ℕ). IsPricing sheet.network bytes c hose) (sym prices.0) here, prices.1)
     by (Bad word) prices = absurd prices

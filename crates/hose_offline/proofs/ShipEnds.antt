@@ -25,9 +25,8 @@ use Rattle.hose_follow.specs.Packet.{Packet, packets_bytes, packets_from}
 use Rattle.hose_follow.specs.steps.Shipping.{Ships, ShipsUpTo, shipment}
 use Rattle.hose_follow.specs.declared.shipping.ShipFault.{ShipFault}
 use Rattle.hose_follow.specs.declared.shipping.ShipFault.TheVariants.{Store, Write}
-use Rattle.hose_offline.specs.AuditOutcome.{NoneFailed}
 use Rattle.hose_offline.specs.Auditing.{PricedNames, ReadsTopology}
-use Rattle.hose_offline.specs.Ending.{IsLastLine, status_of_done}
+use Rattle.hose_offline.specs.Ending.{IsLastLine, NoneFailed, status_of_done}
 use Rattle.hose_offline.specs.Fault.{of_store}
 use Rattle.hose_offline.specs.OnDisk.{CabinetFailed, HadContent, IsUnopened, JournalIsTold}
 use Rattle.hose_offline.specs.Parts.{Parts, Tellings}
@@ -178,11 +177,11 @@ module _ {I O C E : Type 0} (tells : Tellings I O C E) (from : ℕ) where
       is_shipped read done status reads same input shipped unopened is out =
           let ships = ships_before (record after { output = left }) read network reads done shipped in
           named_read tells names before after _ read network status reads same input
-          (record { left = left; done = done; ships = ships; unopened = unopened_before tells.cabinet tells.disk before.cabinet read after.cabinet reads.only_texts network names.journal unopened; last_line = out; is_status = is })
+          (record { ends = record { left = left; done = done; leaves = ships; last_line = out; is_status = is }; unopened = unopened_before tells.cabinet tells.disk before.cabinet read after.cabinet reads.only_texts network names.journal unopened })
           (λ at_8. never_1_or_8 names.journal before (record after { output = left }) network done ships (inr (sym is ∙ at_8)))
           (λ told held. completes status done is ships told held) (λ told held. refuses status done is ships told held)
 
     -- the words are not what is wrong
     pub ship_not_1 : (after : Parts I O C) (status : ℕ) → ShipOutcome tells names from before after status → status ≢ 1
     ship_not_1 after status outcome = named_not_1 tells names before after (to_ship tells names.journal from before after) outcome.left status
-        (λ network told one. never_1_or_8 names.journal before (record after { output = told.left }) network told.done told.ships (inl (sym told.is_status ∙ one))) outcome.named.ends
+        (λ network told one. never_1_or_8 names.journal before (record after { output = told.ends.left }) network told.ends.done told.ends.leaves (inl (sym told.ends.is_status ∙ one))) outcome.named.ends

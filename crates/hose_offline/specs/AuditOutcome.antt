@@ -1,17 +1,14 @@
 -- What stands after `audit`, by what ended it.
-use Rattle.std.specs.Prelude.{◌≡◌, ◌⊎◌, ℕ, List, ◌++◌, Option, None, Some, IsSome, IsTrue, Result, Ok, Err, ⊤}
-use Rattle.hose_io.specs.Frame.{Rose}
-use Rattle.hose_io.specs.Stream.{Stream, Grows}
-use Rattle.hose_io.specs.Writing.{GrowsInPart}
+use Rattle.std.specs.Prelude.{◌≡◌, ◌⊎◌, ℕ, List, Option, None, Some, IsSome, IsTrue, Result, Ok, ⊤}
+use Rattle.hose_io.specs.Stream.{Stream}
 use Rattle.hose_io.specs.declared.Failed.{Failed}
-use Rattle.hose_io.specs.declared.sink.Sink.{Ghosts as SinkGhosts}
 use Rattle.hose_graph.specs.Network.{Network}
 use Rattle.hose_graph.specs.declared.entry.Entry.{Entry}
 use Rattle.hose_law.specs.History.{book_of}
 use Rattle.hose_audit.specs.Audit.{audit_text}
 use Rattle.hose_store.specs.Recovery.{IsHistoryOf}
 use Rattle.hose_offline.specs.Auditing.{HasAudited, IsLongAt, IsNotRead, IsStarvedAt, IsTextServable, PricedNames, named_text}
-use Rattle.hose_offline.specs.Ending.{IsOut, OutputWorked, TakesWithinLimit}
+use Rattle.hose_offline.specs.Ending.{EndsTold, IsOut, NoneFailed, TakesWithinLimit}
 use Rattle.hose_offline.specs.Fault.{last_line, status_of}
 use Rattle.hose_offline.specs.OnDisk.{CabinetFailed, JournalIsTold}
 use Rattle.hose_offline.specs.Parts.{Parts, Tellings}
@@ -20,43 +17,24 @@ use Rattle.hose_offline.specs.ServingOnDisk.{first_of}
 use Rattle.hose_offline.specs.TopologyTold.{notation_of}
 use Rattle.hose_offline.specs.declared.fault.Fault.{Fault}
 
--- How the text of a book ends, by what was met before. Where all was well, the text is out, or the
--- output failed and a part of it is. Else the last line of the fault follows the text, or the
--- output failed and a part of both is out.
-abbrev pub EndsTold : {O T : Type 0} → SinkGhosts O → O → O → ℕ → Result T Fault → List ℕ → Type 0
-EndsTold sink output output' status (Ok _) text =
-    ((status ≡ 0) × Grows (sink.content output) (sink.content output') text
-    × OutputWorked sink output output')
-    ⊎ ((status ≡ 4) × Rose (sink.frame output) (sink.frame output')
-    × GrowsInPart (sink.content output) (sink.content output') text)
-EndsTold sink output output' status (Err why) text =
-    (status ≡ status_of why) × IsOut sink output output' (text ++ last_line why)
-
 -- ---- a command that names a topology and a journal
 
--- What such a command is for: what it tells of the network, by its status; what else is as it was
--- where it tells nothing; and what else did not fail where no call did.
+-- What such a command is for: what it comes to on the network, by its status; what else is as it
+-- was where it comes to nothing; and what else did not fail where no call did.
 pub record Purpose : Type 1 where
-  pub Tells : ℕ → Network → Type 0
+  pub IsFulfilled : ℕ → Network → Type 0
   pub Untouched : Type 0
   pub OthersHeld : Type 0
 
--- No call of the output and of the cabinet failed, and what the purpose adds held.
-pub record NoneFailed {I O C E : Type 0} (tells : Tellings I O C E) (before after : Parts I O C)
-    (OthersHeld : Type 0) : Type 0 where
-  pub writing : ¬ Rose (tells.sink.frame before.output) (tells.sink.frame after.output)
-  pub keeping_it : ¬ CabinetFailed tells.cabinet before.cabinet after.cabinet
-  pub others : OthersHeld
-
 module _ {I O C E : Type 0} (tells : Tellings I O C E) (names : PricedNames)
     (before after : Parts I O C) where
-  -- The topology and the journal that were named were read, and of the network is told what the
-  -- command is for; or not, and nothing but the last line is out, which tells why, and the rest is
-  -- untouched.
+  -- The topology and the journal that were named were read, and the command was done, or failed,
+  -- as its purpose says; or not, and nothing but the last line is out, which tells why, and the
+  -- rest is untouched.
   abbrev pub EndsNamed : Purpose → Option Stream → ℕ → Type 0
   EndsNamed purpose left status =
       HasNetwork (notation_of names.topology) names.prices (named_text tells names before) left
-      (purpose.Tells status)
+      (purpose.IsFulfilled status)
       ⊎ ((why : Fault) × (status ≡ status_of why) × IsNotRead tells names before after left why
       × IsOut tells.sink before.output after.output (last_line why) × purpose.Untouched)
 
@@ -120,10 +98,11 @@ module _ {I O C E : Type 0} (tells : Tellings I O C E) (journal : List ℕ)
 
   -- an audit is to tell the book of the journal
   abbrev pub to_audit : Purpose
-  to_audit = record { Tells = IsAudited; Untouched = ⊤; OthersHeld = ⊤ }
+  to_audit = record { IsFulfilled = IsAudited; Untouched = ⊤; OthersHeld = ⊤ }
 
--- what stands after an audit of a journal that is named
-abbrev pub AuditOutcome : {I O C E : Type 0} → Tellings I O C E → PricedNames → Parts I O C
-    → Parts I O C → ℕ → Type 0
-AuditOutcome tells names before after =
-    NamedOutcome tells names before after (to_audit tells names.journal before after)
+module _ {I O C E : Type 0} (tells : Tellings I O C E) (names : PricedNames)
+    (before after : Parts I O C) where
+  -- what stands after an audit of a journal that is named
+  abbrev pub AuditOutcome : ℕ → Type 0
+  AuditOutcome =
+      NamedOutcome tells names before after (to_audit tells names.journal before after)

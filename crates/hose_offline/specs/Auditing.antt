@@ -8,13 +8,13 @@ use Rattle.hose_words.specs.declared.lines.LineFault.TheVariants as line
 use Rattle.hose_graph.specs.Network.{IsNetwork, Network}
 use Rattle.hose_graph.specs.declared.entry.Entry.{Entry}
 use Rattle.hose_law.specs.History.{IsSound}
-use Rattle.hose_disk.specs.Cabinet.{Has, object_of}
+use Rattle.hose_disk.specs.Cabinet.{object_of}
 use Rattle.hose_disk.specs.declared.cabinet.Cabinet.{Ghosts as CabinetGhosts}
 use Rattle.hose_store.specs.Recovery.{IsHistoryOf}
 use Rattle.hose_topo.specs.Reading.{StopsInTopology}
 use Rattle.hose_offline.specs.CabinetText.{OnlyTextsRead, whole_text}
 use Rattle.hose_offline.specs.Journal.{IsLeftWith}
-use Rattle.hose_offline.specs.OnDisk.{CabinetFailed, CabinetWorked, HadContent}
+use Rattle.hose_offline.specs.OnDisk.{CabinetFailed, CabinetWorked, HadContent, OfHeld}
 use Rattle.hose_offline.specs.Parts.{Parts, Tellings}
 use Rattle.hose_offline.specs.Run.{HasNetwork, HasText, IsServable, TellsNoNetwork}
 use Rattle.hose_offline.specs.ServingOnDisk.{IsNotServed}
@@ -38,17 +38,17 @@ IsLongAt notation.Lines text left = WhereTold text left (StopsInTopology line.To
 IsLongAt notation.Json text left = ⊤
 
 module _ {C E : Type 0} (cabinet : CabinetGhosts C E) (old new : C) where
-  -- Why no topology was read of a text, of which this is left. There may have been no memory for
-  -- the costs of one that was read.
-  abbrev pub IsTextFault : Notation → Option Stream → Option Stream → Fault → Type 0
-  IsTextFault written text left (fault.Topology refusal) =
-      TellsNoNetwork written refusal text left × CabinetWorked cabinet old new
-  IsTextFault written text left fault.TooLong =
-      IsLongAt written text left × CabinetWorked cabinet old new
-  IsTextFault written text left fault.Cabinet = CabinetFailed cabinet old new
-  IsTextFault written text left fault.Memory =
-      (IsStarvedAt written text left ⊎ HasText written text left) × CabinetWorked cabinet old new
-  IsTextFault written text left _ = ⊥
+  module _ (written : Notation) (text left : Option Stream) where
+    -- Why no topology was read of a text, of which this is left. There may have been no memory for
+    -- the costs of one that was read.
+    abbrev pub IsTextFault : Fault → Type 0
+    IsTextFault (fault.Topology refusal) =
+        TellsNoNetwork written refusal text left × CabinetWorked cabinet old new
+    IsTextFault fault.TooLong = IsLongAt written text left × CabinetWorked cabinet old new
+    IsTextFault fault.Cabinet = CabinetFailed cabinet old new
+    IsTextFault fault.Memory = (IsStarvedAt written text left ⊎ HasText written text left)
+        × CabinetWorked cabinet old new
+    IsTextFault _ = ⊥
 
   -- what a text came to: it tells a network, of which prices make this one, or none was read
   abbrev pub TextComesTo : Notation → (Network → Network → Type 0) → Option Stream → Option Stream
@@ -58,29 +58,23 @@ module _ {C E : Type 0} (cabinet : CabinetGhosts C E) (old new : C) where
       × WhereTold text left (λ bytes _. TellsPriced written prices bytes network)
   TextComesTo written prices text left (Err why) = IsTextFault written text left why
 
-  -- A text of the cabinet was read. These bytes of it were taken, and this is left, with what
-  -- `ComesTo` says of that. Nothing but texts was asked for. A text that is not there is a failure;
-  -- one that is there does not count as absent.
-  pub record TakesText (written : Notation) (name : List ℕ) {T : Type 0}
-      (ComesTo : Option Stream → Result T Fault → Type 0) (result : Result T Fault) : Type 0 where
+  -- The topology of a text was read, or none. These bytes of the text were taken, and this is left.
+  -- Nothing but texts was asked for. A text that is not there is a failure; one that is there does
+  -- not count as absent.
+  pub record ReadsText (written : Notation) (prices : Network → Network → Type 0) (name : List ℕ)
+      (result : Result Network Fault) : Type 0 where
     pub taken : List ℕ
     pub left : Option Stream
     pub gives : Gives (whole_text cabinet old name) left taken
     pub limit : length taken ≤ limit_of written + 1
     -- more than the limit was taken exactly where that is told
     pub too_long : (result ≡ Err fault.TooLong) ↔ (limit_of written < length taken)
-    pub text : ComesTo left result
+    pub text : TextComesTo written prices (whole_text cabinet old name) left result
     pub only_texts : OnlyTextsRead cabinet old new
     pub absent : IsTrue (cabinet.frame old).tells → IsSome (cabinet.text old name)
         → (cabinet.frame new).absent ≡ (cabinet.frame old).absent
     pub not_there : IsTrue (cabinet.frame old).tells → cabinet.text old name ≡ None
         → result ≡ Err fault.Cabinet
-
-  -- the topology of a text was read, or none
-  abbrev pub ReadsText : Notation → (Network → Network → Type 0) → List ℕ → Result Network Fault
-      → Type 0
-  ReadsText written prices name =
-      TakesText written name (TextComesTo written prices (whole_text cabinet old name))
 
   -- the topology was read of a text that is written as its name says
   abbrev pub ReadsTopology : (Network → Network → Type 0) → List ℕ → Result Network Fault → Type 0
@@ -88,19 +82,18 @@ module _ {C E : Type 0} (cabinet : CabinetGhosts C E) (old new : C) where
 
 -- ---- the book of the journal
 
--- The journal of a name stood for the history, as it was read at its opening, and is left with it.
--- The cabinet failed exactly where closing did.
-pub record HasAudited {I O C E : Type 0} (tells : Tellings I O C E) (name : List ℕ)
-    (before after : Parts I O C) (network : Network) (history : List Entry)
-    (closing : Result ⊤ Failed) : Type 0 where
-  pub begun : HadContent tells.cabinet tells.disk before.cabinet name
-      (IsHistoryOf network history)
-  pub sound : IsSound network 0 history
-  pub met : Met (object_of (tells.cabinet.frame before.cabinet))
-      (object_of (tells.cabinet.frame after.cabinet)) closing
-  pub left : Has (tells.cabinet.frame before.cabinet).tells (tells.cabinet.held before.cabinet name)
-      (λ was. Has (tells.cabinet.frame after.cabinet).tells (tells.cabinet.held after.cabinet name)
-      (λ left. IsLeftWith tells.disk was network history left))
+module _ {I O C E : Type 0} (tells : Tellings I O C E) (name : List ℕ)
+    (before after : Parts I O C) (network : Network) where
+  -- The journal of a name stood for the history, as it was read at its opening, and is left with
+  -- it. The cabinet failed exactly where closing did.
+  pub record HasAudited (history : List Entry) (closing : Result ⊤ Failed) : Type 0 where
+    pub begun : HadContent tells.cabinet tells.disk before.cabinet name
+        (IsHistoryOf network history)
+    pub sound : IsSound network 0 history
+    pub met : Met (object_of (tells.cabinet.frame before.cabinet))
+        (object_of (tells.cabinet.frame after.cabinet)) closing
+    pub left : OfHeld tells.cabinet name before.cabinet after.cabinet (λ was left.
+        IsLeftWith tells.disk was network history left)
 
 -- ---- both
 
@@ -116,24 +109,21 @@ abbrev pub priced_names : (Network → Network → Type 0) → List ℕ → List
 priced_names prices topology journal =
     record { prices = prices; topology = topology; journal = journal }
 
--- the text of the topology
-abbrev pub named_text : {I O C E : Type 0} → Tellings I O C E → PricedNames → Parts I O C
-    → Option Stream
-named_text tells names before = whole_text tells.cabinet before.cabinet names.topology
+module _ {I O C E : Type 0} (tells : Tellings I O C E) (names : PricedNames)
+    (before : Parts I O C) where
+  -- the text of the topology
+  abbrev pub named_text : Option Stream
+  named_text = whole_text tells.cabinet before.cabinet names.topology
 
--- the text of the topology is told, tells a network, and is not too long
-abbrev pub IsTextServable : {I O C E : Type 0} → Tellings I O C E → PricedNames → Parts I O C
-    → Type 0
-IsTextServable tells names before =
-    IsServable (notation_of names.topology) (named_text tells names before)
+  -- the text of the topology is told, tells a network, and is not too long
+  abbrev pub IsTextServable : Type 0
+  IsTextServable = IsServable (notation_of names.topology) named_text
 
--- No topology was read of the text, of which this is left, or no store was opened, and why.
-abbrev pub IsNotRead : {I O C E : Type 0} → Tellings I O C E → PricedNames → Parts I O C
-    → Parts I O C → Option Stream → Fault → Type 0
-IsNotRead tells names before after left why =
-    (IsTextFault tells.cabinet before.cabinet after.cabinet (notation_of names.topology)
-    (named_text tells names before) left why
-    × (tells.cabinet.held after.cabinet ≡ tells.cabinet.held before.cabinet))
-    ⊎ HasNetwork (notation_of names.topology) names.prices (named_text tells names before) left
-    (λ network. IsNotServed tells.cabinet tells.disk names.journal before.cabinet after.cabinet
-    network (Err why))
+  -- No topology was read of the text, of which this is left, or no store was opened, and why.
+  abbrev pub IsNotRead : Parts I O C → Option Stream → Fault → Type 0
+  IsNotRead after left why = (IsTextFault tells.cabinet before.cabinet after.cabinet
+      (notation_of names.topology) named_text left why
+      × (tells.cabinet.held after.cabinet ≡ tells.cabinet.held before.cabinet))
+      ⊎ HasNetwork (notation_of names.topology) names.prices named_text left (λ network.
+      IsNotServed tells.cabinet tells.disk names.journal before.cabinet after.cabinet network
+      (Err why))

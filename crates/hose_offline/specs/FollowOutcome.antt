@@ -9,9 +9,9 @@ use Rattle.hose_store.specs.Recovery.{IsHistoryOf}
 use Rattle.hose_follow.specs.Packet.{IsPacket, Packet, packets_bytes}
 use Rattle.hose_follow.specs.declared.following.FollowEnd.{FollowEnd}
 use Rattle.hose_follow.specs.Layout.{follow_limit}
-use Rattle.hose_offline.specs.AuditOutcome.{JournalIs, NamesOutcome, NoneFailed, Purpose}
+use Rattle.hose_offline.specs.AuditOutcome.{JournalIs, NamesOutcome, Purpose}
 use Rattle.hose_offline.specs.Auditing.{IsTextServable, PricedNames, named_text}
-use Rattle.hose_offline.specs.Ending.{IsLastLine, status_of_done}
+use Rattle.hose_offline.specs.Ending.{EndsAfter, NoneFailed}
 use Rattle.hose_offline.specs.Following.{HasFollowed, following_done}
 use Rattle.hose_offline.specs.Parts.{Parts, Tellings}
 use Rattle.hose_offline.specs.ServingOnDisk.{first_of}
@@ -30,24 +30,19 @@ IsOfNoPackets (Some stream) = ((packets : List Packet) → All IsPacket packets
     → stream.left ≢ packets_bytes packets) × (length stream.left ≤ follow_limit)
 
 module _ {I O C E : Type 0} (tells : Tellings I O C E) where
-  -- The input was followed by the journal, which left the output so, and then the last line was
-  -- put, which tells the first fault, if there is one.
-  pub record IsFollowed (journal : List ℕ) (before after : Parts I O C) (status : ℕ)
-      (network : Network) : Type 0 where
-    pub left : O
-    pub ended : FollowEnd
-    pub closing : Result ⊤ Failed
-    pub followed : HasFollowed tells journal before (record after { output = left }) network ended
-        closing
-    pub last_line : IsLastLine tells.sink left after.output
-        (first_of (following_done ended) closing)
-    pub is_status : status ≡ status_of_done (first_of (following_done ended) closing)
+  -- The input was followed by the journal, and the last line tells the first fault, if there is
+  -- one.
+  abbrev pub IsFollowed : List ℕ → Parts I O C → Parts I O C → ℕ → Network → Type 0
+  IsFollowed journal before after status network = EndsAfter tells.sink after.output status
+      (λ left done. (ended : FollowEnd) × (closing : Result ⊤ Failed)
+      × HasFollowed tells journal before (record after { output = left }) network ended closing
+      × (done ≡ first_of (following_done ended) closing))
 
   module _ (names : PricedNames) (before after : Parts I O C) where
     -- Following is to tell that the input was followed; where it was not, nothing was taken of it.
     abbrev pub to_follow : Purpose
     to_follow = record {
-      Tells = IsFollowed names.journal before after;
+      IsFulfilled = IsFollowed names.journal before after;
       Untouched = after.input ≡ before.input;
       OthersHeld = ¬ Rose (tells.source.frame before.input) (tells.source.frame after.input);
     }

@@ -1,15 +1,12 @@
 -- What stands after `gen`, by its status.
-use Rattle.std.specs.Prelude.{◌≡◌, ◌⊎◌, ℕ, List}
-use Rattle.hose_io.specs.Frame.{Rose}
-use Rattle.hose_io.specs.Stream.{Grows}
-use Rattle.hose_io.specs.Writing.{GrowsInPart}
+use Rattle.std.specs.Prelude.{◌≡◌, ◌⊎◌, ℕ, List, Ok, ⊤}
 use Rattle.hose_io.specs.declared.sink.Sink.{Ghosts as SinkGhosts}
 use Rattle.hose_graph.specs.declared.entry.Entry.{Entry}
 use Rattle.hose_graph.specs.declared.command.Reply.{Reply}
 use Rattle.hose_graph.specs.Network.{Network}
 use Rattle.hose_law.specs.History.{book_of}
 use Rattle.hose_gen.specs.Generated.{Order, generated_network, generated_script}
-use Rattle.hose_offline.specs.Ending.{IsOut, OutputWorked}
+use Rattle.hose_offline.specs.Ending.{EndsTold, IsOut}
 use Rattle.hose_offline.specs.Fault.{last_line}
 use Rattle.hose_offline.specs.Generating.{IsScriptOf}
 use Rattle.hose_offline.specs.Parts.{Parts, Tellings}
@@ -42,29 +39,17 @@ pub record IsSummary (sizes : Sizes) (line : List ℕ) : Type 0 where
       → IsScriptOf (network_of_sizes sizes) (script_of_sizes sizes) others other
       → line ≡ summary_of_replies sizes others other
 
-module _ (sizes : Sizes) {O : Type 0} (sink : SinkGhosts O) (output output' : O) where
-  -- the summary is out, and whole
-  abbrev pub IsSummaryOut : Type 0
-  IsSummaryOut = (line : List ℕ) × IsSummary sizes line
-      × Grows (sink.content output) (sink.content output') line
-      × OutputWorked sink output output'
+-- The summary is out; or the output failed in it; or there was no memory, and the last line says
+-- so.
+abbrev pub EndsSummary : Sizes → {O : Type 0} → SinkGhosts O → O → O → ℕ → Type 0
+EndsSummary sizes sink output output' status = ((line : List ℕ) × IsSummary sizes line
+    × EndsTold {T = ⊤} sink output output' status (Ok tt) line)
+    ⊎ ((status ≡ 7) × IsOut sink output output' (last_line Memory))
 
-  -- the output failed, and a part of the summary is out
-  abbrev pub IsSummaryCut : Type 0
-  IsSummaryCut = (line : List ℕ) × IsSummary sizes line
-      × GrowsInPart (sink.content output) (sink.content output') line
-      × Rose (sink.frame output) (sink.frame output')
-
-  -- The summary is out; or the output failed in it; or there was no memory, and the last line says
-  -- so.
-  abbrev pub EndsSummary : ℕ → Type 0
-  EndsSummary status = ((status ≡ 0) × IsSummaryOut)
-      ⊎ (((status ≡ 4) × IsSummaryCut)
-      ⊎ ((status ≡ 7) × IsOut sink output output' (last_line Memory)))
-
--- The summary of the script of these sizes was written, and nothing else was done.
-pub record GenOutcome {I O C E : Type 0} (tells : Tellings I O C E) (sizes : Sizes)
-    (before after : Parts I O C) (status : ℕ) : Type 0 where
-  pub ends : EndsSummary sizes tells.sink before.output after.output status
-  pub input : after.input ≡ before.input
-  pub cabinet : after.cabinet ≡ before.cabinet
+module _ {I O C E : Type 0} (tells : Tellings I O C E) (sizes : Sizes) (before after : Parts I O C)
+  where
+    -- The summary of the script of these sizes was written, and nothing else was done.
+    pub record GenOutcome (status : ℕ) : Type 0 where
+      pub ends : EndsSummary sizes tells.sink before.output after.output status
+      pub input : after.input ≡ before.input
+      pub cabinet : after.cabinet ≡ before.cabinet

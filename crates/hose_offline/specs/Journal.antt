@@ -12,13 +12,13 @@ use Rattle.hose_store.specs.Recovery.{IsHistoryOf}
 
 -- ---- the store on a disk
 
--- Each image that a stop may leave of a disk stands for the history. At each moment since its
--- opening each image is one that it had then, or stands for what it stood for as it was read.
-pub record IsLeftWith {E : Type 0} (disk : DiskGhosts E) (old : E) (network : Network)
-    (history : List Entry) (left : E) : Type 0 where
-  pub now : Images disk left (IsHistoryOf network history)
-  pub moments : (image : List ℕ) → disk.left_since left (disk.moment old) image
-      → IsAtOpening disk old network image
+module _ {E : Type 0} (disk : DiskGhosts E) (old : E) (network : Network) where
+  -- Each image that a stop may leave of a disk stands for the history. At each moment since its
+  -- opening each image is one that it had then, or stands for what it stood for as it was read.
+  pub record IsLeftWith (history : List Entry) (left : E) : Type 0 where
+    pub now : Images disk left (IsHistoryOf network history)
+    pub moments : (image : List ℕ) → disk.left_since left (disk.moment old) image
+        → IsAtOpening disk old network image
 
 -- ---- the disk in a cabinet
 

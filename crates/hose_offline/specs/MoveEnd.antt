@@ -7,8 +7,7 @@ use Rattle.hose_move.specs.declared.changing.Change.TheVariants as change
 use Rattle.hose_move.specs.declared.fault.MoveFault.{MoveFault}
 use Rattle.hose_move.specs.declared.fault.MoveFault.TheVariants as moving
 use Rattle.hose_proto.specs.ReplyText.{line_of}
-use Rattle.hose_offline.specs.AuditOutcome.{EndsTold}
-use Rattle.hose_offline.specs.Ending.{IsOut}
+use Rattle.hose_offline.specs.Ending.{EndsTold, IsOut}
 use Rattle.hose_offline.specs.Fault.{last_line, of_store, status_of}
 use Rattle.hose_offline.specs.declared.fault.Fault.TheVariants.{Cabinet, Memory}
 use Rattle.hose_offline.specs.declared.move_end.MoveStop.{MoveStop}

@@ -15,11 +15,11 @@ use Rattle.hose_move.specs.Changing.{GoesOnFrom}
 use Rattle.hose_move.specs.Moving.{StandsForPart}
 use Rattle.hose_move.specs.Stating.{stated_entries}
 use Rattle.hose_store.specs.Recovery.{IsHistoryOf}
-use Rattle.hose_offline.specs.AuditOutcome.{NoneFailed}
+use Rattle.hose_offline.specs.Ending.{NoneFailed}
 use Rattle.hose_offline.specs.CabinetText.{whole_text}
 use Rattle.hose_offline.specs.MoveEnd.{EndsMoved}
 use Rattle.hose_offline.specs.Moving.{MoveNames, MovesNamed}
-use Rattle.hose_offline.specs.OnDisk.{HadContent, JournalIsTold}
+use Rattle.hose_offline.specs.OnDisk.{HadContent, JournalIsTold, OfHeld}
 use Rattle.hose_offline.specs.Parts.{Parts, Tellings}
 use Rattle.hose_offline.specs.Run.{IsFor, IsServable}
 use Rattle.hose_offline.specs.TopologyTold.{TellsPriced, notation_of}
@@ -31,9 +31,8 @@ use Rattle.hose_offline.specs.declared.move_end.Moved.{Moved}
 abbrev pub IsOnlyRead : {C E : Type 0} → CabinetGhosts C E → DiskGhosts E → List ℕ → C → C
     → Type 0
 IsOnlyRead cabinet disk name before after = (cabinet.held after name ≡ cabinet.held before name)
-    ⊎ Has (cabinet.frame before).tells (cabinet.held before name) (λ was.
-    Has (cabinet.frame after).tells (cabinet.held after name) (λ left. (image : List ℕ) →
-    disk.left_since left (disk.moment was) image → disk.may_leave was image))
+    ⊎ OfHeld cabinet name before after (λ was left. (image : List ℕ) →
+    disk.left_since left (disk.moment was) image → disk.may_leave was image)
 
 module _ {C E : Type 0} (cabinet : CabinetGhosts C E) (disk : DiskGhosts E) (names : MoveNames)
     (before after : C) where
@@ -63,53 +62,50 @@ module _ {C E : Type 0} (cabinet : CabinetGhosts C E) (disk : DiskGhosts E) (nam
         (book_of 0 (take place (stated_entries names.journals.scope old history))) l
     pub carried : AreCarried new 0 (stated_entries names.journals.scope old history)
 
-module _ {C E : Type 0} (cabinet : CabinetGhosts C E) (disk : DiskGhosts E) where
-  -- the journal of a name is told, and this holds of the bytes that it held
-  abbrev pub IsHeldTold : C → List ℕ → (List ℕ → Type 0) → Type 0
-  IsHeldTold before name Is = JournalIsTold cabinet disk before (Some name) Is
+module _ {C E : Type 0} (cabinet : CabinetGhosts C E) (disk : DiskGhosts E) (names : MoveNames)
+    (before : C) where
+  -- What is moved of a history is sound on the new network, and the new journal stands for a part
+  -- of it, from the first entry on.
+  abbrev pub FitsMoved : Network → Network → List Entry → Type 0
+  FitsMoved old new history = IsSound new 0 (stated_entries names.journals.scope old history)
+      × JournalIsTold cabinet disk before (Some names.journals.new)
+      (StandsForPart new (stated_entries names.journals.scope old history))
 
-  module _ (names : MoveNames) (before : C) where
-    -- What is moved of a history is sound on the new network, and the new journal stands for a part
-    -- of it, from the first entry on.
-    abbrev pub FitsMoved : Network → Network → List Entry → Type 0
-    FitsMoved old new history = IsSound new 0 (stated_entries names.journals.scope old history)
-        × IsHeldTold before names.journals.new
-        (StandsForPart new (stated_entries names.journals.scope old history))
+  -- the old journal stands for a history of the old network, and what is moved of it fits
+  abbrev pub CanTake : Network → Network → Type 0
+  CanTake old new = JournalIsTold cabinet disk before (Some names.journals.old) (λ bytes.
+      (history : List Entry) × IsHistoryOf old history bytes × FitsMoved old new history)
 
-    -- the old journal stands for a history of the old network, and what is moved of it fits
-    abbrev pub CanTake : Network → Network → Type 0
-    CanTake old new = IsHeldTold before names.journals.old (λ bytes.
-        (history : List Entry) × IsHistoryOf old history bytes × FitsMoved old new history)
+  -- the text of a name is told, and this holds of each network that it tells, at the prices
+  abbrev pub EachNamed : List ℕ → (Network → Type 0) → Type 0
+  EachNamed name Is = IsFor (notation_of name) names.prices (whole_text cabinet before name) Is
 
-    -- the text of a name is told, and this holds of each network that it tells, at the prices
-    abbrev pub EachNamed : List ℕ → (Network → Type 0) → Type 0
-    EachNamed name Is = IsFor (notation_of name) names.prices (whole_text cabinet before name) Is
+  -- Nothing of what is named stands in the way of a move: both texts tell networks and are not
+  -- too long, the new network goes on from the old one, the journals are two, and the new one can
+  -- take what is moved.
+  pub record IsMovable : Type 0 where
+    pub servable : IsServable (notation_of names.topology)
+        (whole_text cabinet before names.topology)
+    pub new_servable : IsServable (notation_of names.new_topology)
+        (whole_text cabinet before names.new_topology)
+    pub apart : names.journals.new ≢ names.journals.old
+    pub moves : EachNamed names.topology (λ old. EachNamed names.new_topology (λ new.
+        GoesOnFrom old new × CanTake old new))
 
-    -- Nothing of what is named stands in the way of a move: both texts tell networks and are not
-    -- too long, the new network goes on from the old one, the journals are two, and the new one can
-    -- take what is moved.
-    pub record IsMovable : Type 0 where
-      pub servable : IsServable (notation_of names.topology)
-          (whole_text cabinet before names.topology)
-      pub new_servable : IsServable (notation_of names.new_topology)
-          (whole_text cabinet before names.new_topology)
-      pub apart : names.journals.new ≢ names.journals.old
-      pub moves : EachNamed names.topology (λ old. EachNamed names.new_topology (λ new.
-          GoesOnFrom old new × CanTake old new))
-
--- The topologies and the journals that were named were read and moved as far as that came, which
--- left the output so, and then the last line was put. Nothing is taken of the input.
-pub record MoveOutcome {I O C E : Type 0} (tells : Tellings I O C E) (names : MoveNames)
-    (before after : Parts I O C) (status : ℕ) : Type 0 where
-  pub left : O
-  pub done : Result Moved MoveStop
-  pub moves : MovesNamed tells names before (record after { output = left }) done
-  pub ends : EndsMoved tells.sink left after.output status done
-  pub whole : status ≡ 0
-      → IsMoved tells.cabinet tells.disk names before.cabinet after.cabinet
-  pub old_kept : names.journals.new ≢ names.journals.old
-      → IsOnlyRead tells.cabinet tells.disk names.journals.old before.cabinet after.cabinet
-  -- what can be moved is moved, but for want of memory and where a call failed
-  pub complete : IsMovable tells.cabinet tells.disk names before.cabinet
-      → NoneFailed tells before after ⊤ → (status ≡ 0) ⊎ (status ≡ 7)
-  pub input : after.input ≡ before.input
+module _ {I O C E : Type 0} (tells : Tellings I O C E) (names : MoveNames)
+    (before after : Parts I O C) where
+  -- The topologies and the journals that were named were read and moved as far as that came, which
+  -- left the output so, and then the last line was put. Nothing is taken of the input.
+  pub record MoveOutcome (status : ℕ) : Type 0 where
+    pub left : O
+    pub done : Result Moved MoveStop
+    pub moves : MovesNamed tells names before (record after { output = left }) done
+    pub ends : EndsMoved tells.sink left after.output status done
+    pub whole : status ≡ 0
+        → IsMoved tells.cabinet tells.disk names before.cabinet after.cabinet
+    pub old_kept : names.journals.new ≢ names.journals.old
+        → IsOnlyRead tells.cabinet tells.disk names.journals.old before.cabinet after.cabinet
+    -- what can be moved is moved, but for want of memory and where a call failed
+    pub complete : IsMovable tells.cabinet tells.disk names before.cabinet
+        → NoneFailed tells before after ⊤ → (status ≡ 0) ⊎ (status ≡ 7)
+    pub input : after.input ≡ before.input

@@ -52,6 +52,17 @@ pub record MoveNames : Type 1 where
   pub topology : List ℕ
   pub new_topology : List ℕ
 
+-- what a move names, at such prices: whether the live VPNs alone are moved, a topology and a
+-- journal of it, and a new topology and a new journal
+abbrev pub move_names : (Network → Network → Type 0) → Bool → List ℕ → List ℕ → List ℕ → List ℕ
+    → MoveNames
+move_names prices live topology journal new_topology new_journal = record {
+  prices = prices;
+  journals = record { scope = scope_of live; old = journal; new = new_journal };
+  topology = topology;
+  new_topology = new_topology;
+}
+
 -- what came of reading a journal that is moved, as a fault of the program
 abbrev pub read_done : Result Stated StoreFault → Result Stated Fault
 read_done (Ok stated) = Ok stated
@@ -72,7 +83,7 @@ IsComplete disk opened network entries moved = (bytes : List ℕ)
 pub record Lending (E R T : Type 0) : Type 1 where
   pub refused : R
   pub told : T → R
-  pub Does : T → E → E → Type 0
+  pub IsDone : T → E → E → Type 0
 
 module _ {C E : Type 0} (cabinet : CabinetGhosts C E) where
   -- no disk was taken out, and the cabinet failed
@@ -111,7 +122,7 @@ module _ {C E : Type 0} (cabinet : CabinetGhosts C E) (disk : DiskGhosts E) wher
   LendsDisk {T = T} name old new lending result =
       ((result ≡ lending.refused) × IsNotLent cabinet old new)
       ⊎ ((done : T) × (result ≡ lending.told done)
-      × IsLent name old new (lending.Does done))
+      × IsLent name old new (lending.IsDone done))
 
   -- What lending the disk of a name comes to, which has to be there.
   abbrev pub LendsOld : {R T : Type 0} → List ℕ → C → C → Lending E (Result R Fault) T
@@ -127,7 +138,7 @@ module _ {E : Type 0} (disk : DiskGhosts E) (network : Network) where
   to_read which = record {
     refused = Err Cabinet;
     told = read_done;
-    Does = λ read opened left.
+    IsDone = λ read opened left.
         ReadsJournal disk opened left network which read × IsUnchanged disk opened left;
   }
 
@@ -137,7 +148,7 @@ module _ {E : Type 0} (disk : DiskGhosts E) (network : Network) where
   to_move entries = record {
     refused = Err (New Cabinet);
     told = moved_done (length entries);
-    Does = λ moved opened left. Moves disk opened network entries left moved
+    IsDone = λ moved opened left. Moves disk opened network entries left moved
         × OnlyMoves disk opened network entries left
         × IsComplete disk opened network entries moved;
   }

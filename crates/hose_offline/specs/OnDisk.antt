@@ -23,18 +23,23 @@ opening_of disk network since was = record {
   tells = is_some (disk.content was);
 }
 
--- Failures of a disk were told no more often than the disk has failed. The cabinet failed where
--- closing did. What is left of the disk stands for the history, as `HasLeft` says, beside what it
--- had at its opening. Where an image of the disk has one entry more than a part of the history, one
--- of the lines asked for it.
-pub record KeptOnDisk {C E : Type 0} (cabinet : CabinetGhosts C E) (disk : DiskGhosts E)
-    (name : List ℕ) (old new : C) (closing : Result ⊤ Failed) (run : ScriptRun) : Type 0 where
-  pub told : TellsDisks 0 run.replies (cabinet.frame new).returned
-  pub met : Met (object_of (cabinet.frame old)) (object_of (cabinet.frame new)) closing
-  pub left : Has (cabinet.frame old).tells (cabinet.held old name) (λ was.
-      Has (cabinet.frame new).tells (cabinet.held new name) (λ left.
-      HasLeft disk (IsAskedBy run.lines run.replies) (disk.may_leave was)
-      (opening_of disk run.network run.since was) run.history left closing))
+-- where the cabinet tells, this holds of the disk of a name as it was held and as it is
+abbrev pub OfHeld : {C E : Type 0} → CabinetGhosts C E → List ℕ → C → C → (E → E → Type 0) → Type 0
+OfHeld cabinet name old new Is = Has (cabinet.frame old).tells (cabinet.held old name) (λ was.
+    Has (cabinet.frame new).tells (cabinet.held new name) (Is was))
+
+module _ {C E : Type 0} (cabinet : CabinetGhosts C E) (disk : DiskGhosts E) (name : List ℕ)
+    (old new : C) where
+  -- Failures of a disk were told no more often than the disk has failed. The cabinet failed where
+  -- closing did. What is left of the disk stands for the history, as `HasLeft` says, beside what it
+  -- had at its opening. Where an image of the disk has one entry more than a part of the history,
+  -- one of the lines asked for it.
+  pub record KeptOnDisk (closing : Result ⊤ Failed) (run : ScriptRun) : Type 0 where
+    pub told : TellsDisks 0 run.replies (cabinet.frame new).returned
+    pub met : Met (object_of (cabinet.frame old)) (object_of (cabinet.frame new)) closing
+    pub left : OfHeld cabinet name old new (λ was left. HasLeft disk
+        (IsAskedBy run.lines run.replies) (disk.may_leave was)
+        (opening_of disk run.network run.since was) run.history left closing)
 
 -- no call of the cabinet failed
 abbrev pub CabinetWorked : {C E : Type 0} → CabinetGhosts C E → C → C → Type 0
@@ -60,7 +65,7 @@ module _ {C E : Type 0} (cabinet : CabinetGhosts C E) (disk : DiskGhosts E) (old
   -- the book on the disk of this name, once closing came to this
   abbrev pub on_disk : List ℕ → Result ⊤ Failed → Keeping
   on_disk name closing = record {
-    Begins = λ network since. HadContent cabinet disk old name (IsHistoryOf network since);
+    IsBegunWith = λ network since. HadContent cabinet disk old name (IsHistoryOf network since);
     Keeps = KeptOnDisk cabinet disk name old new closing;
   }
 
@@ -73,9 +78,8 @@ module _ {C E : Type 0} (cabinet : CabinetGhosts C E) (disk : DiskGhosts E) (old
   -- had, or stands for what it stood for.
   abbrev pub IsUnopened : Network → List ℕ → Type 0
   IsUnopened network name = (cabinet.held new ≡ cabinet.held old)
-      ⊎ Has (cabinet.frame old).tells (cabinet.held old name) (λ was.
-      Has (cabinet.frame new).tells (cabinet.held new name) (λ left. (image : List ℕ) →
-      disk.left_since left (disk.moment was) image → IsAtOpening disk was network image))
+      ⊎ OfHeld cabinet name old new (λ was left. (image : List ℕ) →
+      disk.left_since left (disk.moment was) image → IsAtOpening disk was network image)
 
   -- The journal is not one of the network: it means this, and so it stands for no history.
   pub record IsRefusedOnDisk (network : Network) (name : List ℕ) (meaning : Meaning Entry) :

@@ -10,11 +10,9 @@ use Rattle.hose_cert.specs.Written.{GrowsByLines, GrowsByPart, GrowsByWhole, Has
 use Rattle.hose_proto.specs.Command.{AreEndsOf}
 use Rattle.hose_proto.specs.EndWords.{IsFirstUnknown}
 use Rattle.hose_proto.specs.ReplyText.{line_of}
-use Rattle.hose_offline.specs.Auditing.{TakesText}
-use Rattle.hose_offline.specs.Ending.{IsLastLine, OutputWorked, status_of_done}
-use Rattle.hose_offline.specs.Named.{NamesNetwork, NamesNone}
+use Rattle.hose_offline.specs.Ending.{EndsAfter, OutputWorked}
+use Rattle.hose_offline.specs.Named.{ReadsThen}
 use Rattle.hose_offline.specs.Parts.{Parts, Tellings}
-use Rattle.hose_offline.specs.TopologyTold.{notation_of}
 use Rattle.hose_offline.specs.declared.fault.Fault.{Fault}
 use Rattle.hose_offline.specs.declared.fault.Fault.TheVariants.{Memory, Words, Write}
 
@@ -64,47 +62,31 @@ pub record EndsFrom : Type 0 where
 abbrev pub ends_from : List (List ℕ) → ℕ → EndsFrom
 ends_from words first = record { words = words; first = first }
 
--- the word of this number is the first whose name is that of no node
-abbrev pub NamesNoNode : EndsFrom → Network → ℕ → Type 0
-NamesNoNode ends network word =
-    (place : ℕ) × (word ≡ ends.first + place) × IsFirstUnknown network ends.words place
-
--- why they are the endpoints of no hose: a name is that of no node, or memory was wanting
+-- why they are the endpoints of no hose: the word of this number is the first whose name is that of
+-- no node, or memory was wanting
 abbrev pub IsNoHose : EndsFrom → Network → Fault → Type 0
-IsNoHose ends network (Words word) = NamesNoNode ends network word
+IsNoHose ends network (Words word) =
+    (place : ℕ) × (word ≡ ends.first + place) × IsFirstUnknown network ends.words place
 IsNoHose ends network Memory = ⊤
 IsNoHose ends network _ = ⊥
 
--- The words are the endpoints of a hose, of whose certificate this is told; or they are those of
--- none, why is told, and nothing is out.
-abbrev pub ProvesWords : {O T : Type 0} → SinkGhosts O → EndsFrom → Network → O → O
-    → Result T Fault → Type 0
-ProvesWords sink ends network output output' result =
-    ((hose : List Endpoint) × AreEndsOf network ends.words hose
-    × PutsProof sink output output' network hose result)
-    ⊎ ((why : Fault) × (result ≡ Err why) × IsNoHose ends network why × (output' ≡ output))
+module _ {O : Type 0} (sink : SinkGhosts O) (ends : EndsFrom) (network : Network)
+    (output output' : O) where
+  -- The words are the endpoints of a hose, of whose certificate this is told; or they are those of
+  -- none, why is told, and nothing is out.
+  abbrev pub ProvesWords : {T : Type 0} → Result T Fault → Type 0
+  ProvesWords result = ((hose : List Endpoint) × AreEndsOf network ends.words hose
+      × PutsProof sink output output' network hose result)
+      ⊎ ((why : Fault) × (result ≡ Err why) × IsNoHose ends network why × (output' ≡ output))
 
 -- ---- the topology
 
 module _ {I O C E : Type 0} (tells : Tellings I O C E) (prices : Network → Network → Type 0)
     (topology : List ℕ) (ends : EndsFrom) (before after : Parts I O C) where
-  -- The topology that was named was read, and the endpoints taken as those of its network; or it
-  -- was not, and why, and then nothing is out. What was taken of its text is told too.
-  abbrev pub ProvesNamed : Result ⊤ Fault → Type 0
-  ProvesNamed = TakesText tells.cabinet before.cabinet after.cabinet (notation_of topology) topology
-      (λ left result. NamesNetwork tells prices topology before after left
-      (λ network. ProvesWords tells.sink ends network before.output after.output result)
-      ⊎ ((after.output ≡ before.output) × ((why : Fault) × (result ≡ Err why)
-      × NamesNone tells topology before after left why)))
-
--- A topology was read and the certificate written, or not, and the input left alone. That left the
--- output as `left` is, and then the last line was put, which tells the fault, if there is one.
-pub record ProveOutcome {I O C E : Type 0} (tells : Tellings I O C E)
-    (prices : Network → Network → Type 0) (topology : List ℕ) (ends : EndsFrom)
-    (before after : Parts I O C) (status : ℕ) : Type 0 where
-  pub done : Result ⊤ Fault
-  pub left : O
-  pub proves : ProvesNamed tells prices topology ends before (record after { output = left }) done
-  pub last_line : IsLastLine tells.sink left after.output done
-  pub is_status : status ≡ status_of_done done
-  pub input : after.input ≡ before.input
+  -- A topology was read, and the endpoints taken as those of its network and the certificate
+  -- written; or not. The input was left alone.
+  pub record ProveOutcome (status : ℕ) : Type 0 where
+    pub proves : EndsAfter tells.sink after.output status (λ left.
+        ReadsThen tells prices topology before (record after { output = left })
+        (λ network. ProvesWords tells.sink ends network before.output left))
+    pub input : after.input ≡ before.input

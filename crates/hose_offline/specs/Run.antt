@@ -1,5 +1,5 @@
 -- A run from its first byte to its last.
-use Rattle.std.specs.Prelude.{◌≡◌, ℕ, ◌≤◌, List, [], length, Option, None, Some, take}
+use Rattle.std.specs.Prelude.{◌≡◌, ℕ, ◌≤◌, List, [], length, Option, MatchOption, Some, take}
 use mathlib.Core.List.{IsPrefix}
 use Rattle.hose_io.specs.Stream.{Stream, Grows}
 use Rattle.hose_words.specs.Lines.{StopsAfterLines}
@@ -17,7 +17,7 @@ use Rattle.hose_topo.specs.TopologyText.{IsTopologyText}
 use Rattle.hose_words.specs.Reading.{WhereTold}
 use Rattle.hose_proto.specs.Replies.{CutsLast, texts_of}
 use Rattle.hose_words.specs.Saying.{IsAllTaken, IsLeftOver, SayLines}
-use Rattle.hose_offline.specs.Talking.{SaysNext}
+use Rattle.hose_offline.specs.Talking.{Says}
 use Rattle.hose_offline.specs.TopologyTold.{IsRefusedAs, Tells, TellsPriced, limit_of}
 use Rattle.hose_offline.specs.declared.notation.Notation.{Notation}
 use Rattle.hose_offline.specs.declared.notation.Refusal.{Refusal}
@@ -31,16 +31,21 @@ pub record ScriptRun : Type 0 where
   pub lines : List ReadLine
   pub replies : List Reply
 
+-- the run of a script, of its parts
+abbrev pub script_run : Network → List Entry → List Entry → List ReadLine → List Reply → ScriptRun
+script_run network since history lines replies =
+    record { network = network; since = since; history = history; lines = lines; replies = replies }
+
 -- Where a run keeps its book: the history with which it may begin, and what holds of a script that
 -- was run from there.
 pub record Keeping : Type 1 where
-  pub Begins : Network → List Entry → Type 0
+  pub IsBegunWith : Network → List Entry → Type 0
   pub Keeps : ScriptRun → Type 0
 
 -- a run keeps its book in memory: it begins with nothing, and no reply is for a failure of a disk
 abbrev pub in_memory : Keeping
 in_memory = record {
-  Begins = λ network since. since ≡ [];
+  IsBegunWith = λ network since. since ≡ [];
   Keeps = λ run. WithoutDisk run.replies;
 }
 
@@ -56,7 +61,7 @@ pub record IsRightFor (prices : Network → Network → Type 0) (network : Netwo
   pub history : List Entry
   pub topology : IsTopologyText input told rest
   pub priced : prices told network
-  pub said : SayLines (SaysNext network) rest lines []
+  pub said : SayLines (λ _. Says network) rest lines []
   pub left : Holdings
   pub script : IsScript network 0 lines replies (script_state since nothing_held)
       (script_state history left)
@@ -81,22 +86,16 @@ pub record HasRun (prices : Network → Network → Type 0) (keeping : Keeping)
   pub history : List Entry
   pub lines : List ReadLine
   pub replies : List Reply
-  pub begun : keeping.Begins network since
+  pub begun : keeping.IsBegunWith network since
   pub begins : IsPrefix since history
   pub text : WhereTold old new (λ input left. (lines_text rest : List ℕ)
-      × IsTopologyText input told lines_text × SayLines (SaysNext network) lines_text lines rest
+      × IsTopologyText input told lines_text × SayLines (λ _. Says network) lines_text lines rest
       × stops input rest left)
   pub left : Holdings
   pub script : IsScript network 0 lines replies (script_state since nothing_held)
       (script_state history left)
   pub decided : IsDecided network 0 (length since) history
-  pub keeps : keeping.Keeps (record {
-    network = network;
-    since = since;
-    history = history;
-    lines = lines;
-    replies = replies;
-  })
+  pub keeps : keeping.Keeps (script_run network since history lines replies)
   pub none_oversold : (place l : ℕ) → ¬ IsOversold network (book_of 0 (take place history)) l
   pub held : (place : ℕ) → place ≤ length history → AreLiveUnreleased 0 history place
   pub kept : (place : ℕ) → StaysLive 0 history place
@@ -139,16 +138,14 @@ IsRefusedText written _ _ = ⊥
 
 -- The text is told: it tells a network, and is not too long.
 abbrev pub IsServable : Notation → Option Stream → Type 0
-IsServable written None = ⊥
-IsServable written (Some stream) = (network : Network) × Tells written stream.left network
-    × (length stream.left ≤ limit_of written)
+IsServable written text = MatchOption text ⊥ (λ stream. (network : Network)
+    × Tells written stream.left network × (length stream.left ≤ limit_of written))
 
 -- The text is told, and this holds of each network that prices make of one that it tells.
 abbrev pub IsFor : Notation → (Network → Network → Type 0) → Option Stream → (Network → Type 0)
     → Type 0
-IsFor written prices None Is = ⊥
-IsFor written prices (Some stream) Is =
-    (network : Network) → TellsPriced written prices stream.left network → Is network
+IsFor written prices text Is = MatchOption text ⊥ (λ stream. (network : Network)
+    → TellsPriced written prices stream.left network → Is network)
 
 -- the text tells a network
 abbrev pub HasText : Notation → Option Stream → Option Stream → Type 0

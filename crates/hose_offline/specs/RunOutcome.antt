@@ -11,13 +11,13 @@ use Rattle.hose_graph.specs.declared.entry.Entry.{Entry}
 use Rattle.hose_journal.specs.Image.{Meaning, damaged, other}
 use Rattle.hose_store.specs.Recovery.{IsHistoryOf, digest_of}
 use Rattle.hose_topo.specs.Reading.{StopsInTopology}
-use Rattle.hose_offline.specs.Ending.{IsLastLine, OutputWorked, TakesWithinLimit, status_of_done}
+use Rattle.hose_offline.specs.Ending.{EndsAfter, NoneFailed, OutputWorked, TakesWithinLimit}
 use Rattle.hose_offline.specs.OnDisk.{CabinetFailed, IsRefusedOnDisk, JournalIsTold, IsUnopened, keeping_of}
 use Rattle.hose_offline.specs.Parts.{Parts, Tellings}
 use Rattle.hose_offline.specs.Run.{HasNetwork, HasText, IsCutOff, IsFor, IsRefusedText, IsRun, IsRunUpTo, IsServable, Keeping, TellsNoNetwork}
 use Rattle.hose_offline.specs.declared.fault.Fault.{Fault}
 use Rattle.hose_offline.specs.declared.notation.Notation.TheVariants.{Lines}
-use Rattle.hose_offline.specs.declared.fault.Fault.TheVariants.{Words, Topology, Read, Write, Other, Damaged, Cabinet, Memory, TooLong, Door, Packet}
+use Rattle.hose_offline.specs.declared.fault.Fault.TheVariants.{Topology, Read, Write, Other, Damaged, Cabinet, Memory, TooLong}
 
 module _ {I O C E : Type 0} (tells : Tellings I O C E) (before after : Parts I O C) where
   -- this holds of what the input told
@@ -48,10 +48,8 @@ module _ {I O C E : Type 0} (tells : Tellings I O C E) (before after : Parts I O
       ⊎ (((status ≡ 3) × InputStops line.Read) ⊎ ((status ≡ 8) × InputStops line.TooLong)))
 
   -- no call failed
-  pub record NothingFailed : Type 0 where
-    pub reading : ¬ InputFailed
-    pub writing : ¬ Rose (tells.sink.frame before.output) (tells.sink.frame after.output)
-    pub keeping_it : ¬ CabinetFailed tells.cabinet before.cabinet after.cabinet
+  abbrev pub NothingFailed : Type 0
+  NothingFailed = NoneFailed tells before after (¬ InputFailed)
 
 module _ {I O C E : Type 0} (tells : Tellings I O C E) (prices : Network → Network → Type 0)
     (journal : Option (List ℕ)) (before after : Parts I O C) where
@@ -95,7 +93,6 @@ module _ {I O C E : Type 0} (tells : Tellings I O C E) (prices : Network → Net
   abbrev pub RunLeaves : {T : Type 0} → Result T Fault → Type 0
   RunLeaves (Ok _) = OfText tells before after (IsRun prices (keeping (Ok tt)))
       × InputWorked tells before after × OutputWorked tells.sink before.output after.output
-  RunLeaves (Err (Words _)) = ⊥
   RunLeaves (Err (Topology refusal)) = OfInput tells before after (TellsNoNetwork Lines refusal)
       × InputWorked tells before after × (after.output ≡ before.output)
       × (after.cabinet ≡ before.cabinet)
@@ -118,8 +115,7 @@ module _ {I O C E : Type 0} (tells : Tellings I O C E) (prices : Network → Net
   RunLeaves (Err Memory) =
       IsStarved × InputWorked tells before after × (after.output ≡ before.output)
   RunLeaves (Err TooLong) = IsInterrupted line.TooLong × InputWorked tells before after
-  RunLeaves (Err Door) = ⊥
-  RunLeaves (Err (Packet at)) = ⊥
+  RunLeaves (Err _) = ⊥
 
   -- the journal, if there is one, is told, and is so for each network with whose text the input
   -- begins
@@ -127,16 +123,12 @@ module _ {I O C E : Type 0} (tells : Tellings I O C E) (prices : Network → Net
   AnyJournalIs Is = IsFor Lines prices (tells.source.content before.input) (λ network.
       JournalIsTold tells.cabinet tells.disk before.cabinet journal (Is network))
 
--- The run left the output as `left` is, and then the last line was put, which tells the fault, if
--- there is one.
+-- What the run left, and then the last line was put, which tells the fault, if there is one.
 pub record RunOutcome {I O C E : Type 0} (tells : Tellings I O C E)
     (prices : Network → Network → Type 0) (journal : Option (List ℕ)) (before after : Parts I O C)
     (status : ℕ) : Type 0 where
-  pub done : Result ⊤ Fault
-  pub left : O
-  pub leaves : RunLeaves tells prices journal before (record after { output = left }) done
-  pub last_line : IsLastLine tells.sink left after.output done
-  pub is_status : status ≡ status_of_done done
+  pub ends : EndsAfter tells.sink after.output status (λ left.
+      RunLeaves tells prices journal before (record after { output = left }))
   pub takes : TakesWithinLimit Lines (tells.source.content before.input)
       (tells.source.content after.input) status
   -- no text is asked for, and without a journal nothing is done to the cabinet

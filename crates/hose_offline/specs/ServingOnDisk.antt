@@ -18,16 +18,15 @@ first_of (Err why) (Err failed) = Err why
 
 -- ---- in a cabinet
 
--- no line was answered, and why
-abbrev pub IsNotServed : {C E : Type 0} → CabinetGhosts C E → DiskGhosts E → List ℕ → C → C
-    → Network → Result ⊤ Fault → Type 0
-IsNotServed cabinet disk name old new network (Err fault.Cabinet) =
-    IsUnopened cabinet disk old new network name
-    × CabinetFailed cabinet old new
-IsNotServed cabinet disk name old new network (Err (fault.Other kept given)) =
-    (given ≡ digest_of network) × IsRefusedOnDisk cabinet disk old new network name (other kept)
-IsNotServed cabinet disk name old new network (Err (fault.Damaged at)) =
-    IsRefusedOnDisk cabinet disk old new network name (damaged at)
-IsNotServed cabinet disk name old new network (Err fault.Memory) =
-    IsUnopened cabinet disk old new network name
-IsNotServed cabinet disk name old new network _ = ⊥
+module _ {C E : Type 0} (cabinet : CabinetGhosts C E) (disk : DiskGhosts E) (name : List ℕ)
+    (old new : C) (network : Network) where
+  -- no line was answered, and why
+  abbrev pub IsNotServed : Result ⊤ Fault → Type 0
+  IsNotServed (Err fault.Cabinet) =
+      IsUnopened cabinet disk old new network name × CabinetFailed cabinet old new
+  IsNotServed (Err (fault.Other kept given)) =
+      (given ≡ digest_of network) × IsRefusedOnDisk cabinet disk old new network name (other kept)
+  IsNotServed (Err (fault.Damaged at)) =
+      IsRefusedOnDisk cabinet disk old new network name (damaged at)
+  IsNotServed (Err fault.Memory) = IsUnopened cabinet disk old new network name
+  IsNotServed _ = ⊥

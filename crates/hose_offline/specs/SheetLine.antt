@@ -28,25 +28,21 @@ pub record IsPricing (network : Network) (line customer : List ℕ) (hose : List
 abbrev pub sheet_form : Network → Form
 sheet_form network = place IsName (ends_form network)
 
--- What is answered to a line of bytes on a network: the prices of the hose that it asks for, or
--- that there is no plan of it; the first word that is not allowed, where it asks for none; that it
--- is too long; or that there was no memory for it.
-abbrev pub AnswersSheet : Network → Sheet → List ℕ → SheetAnswer → Type 0
-AnswersSheet network sheet bytes (Priced customer line) = (hose : List Endpoint)
-    × (length bytes ≤ line_limit) × IsPricing network bytes customer hose
+-- What is answered to a line of bytes: the prices of the hose that it asks for, or that there is no
+-- plan of it; the first word that is not allowed, where it asks for none; that it is too long; or
+-- that there was no memory for it.
+abbrev pub AnswersSheet : Sheet → List ℕ → SheetAnswer → Type 0
+AnswersSheet sheet bytes (Priced customer line) = (hose : List Endpoint)
+    × (length bytes ≤ line_limit) × IsPricing sheet.network bytes customer hose
     × IsPriceLine sheet hose line
-AnswersSheet network sheet bytes (NoPlan customer) = (hose : List Endpoint)
-    × (length bytes ≤ line_limit) × IsPricing network bytes customer hose
+AnswersSheet sheet bytes (NoPlan customer) = (hose : List Endpoint)
+    × (length bytes ≤ line_limit) × IsPricing sheet.network bytes customer hose
     × HasNoPricedPlan sheet.network hose
-AnswersSheet network sheet bytes (Bad word) = (length bytes ≤ line_limit)
-    × IsFirstNotAllowed (grammar_of (sheet_form network)) [] (words_of bytes) word
-    × ((customer : List ℕ) (hose : List Endpoint) → ¬ IsPricing network bytes customer hose)
-AnswersSheet network sheet bytes Long = line_limit < length bytes
-AnswersSheet network sheet bytes Memory = length bytes ≤ line_limit
-
--- what is answered to a line rests on no line before it
-abbrev pub AnswersNext : Sheet → List SheetAnswer → List ℕ → SheetAnswer → Type 0
-AnswersNext sheet before = AnswersSheet sheet.network sheet
+AnswersSheet sheet bytes (Bad word) = (length bytes ≤ line_limit)
+    × IsFirstNotAllowed (grammar_of (sheet_form sheet.network)) [] (words_of bytes) word
+    × ((customer : List ℕ) (hose : List Endpoint) → ¬ IsPricing sheet.network bytes customer hose)
+AnswersSheet sheet bytes Long = line_limit < length bytes
+AnswersSheet sheet bytes Memory = length bytes ≤ line_limit
 
 -- ---- how that is written
 

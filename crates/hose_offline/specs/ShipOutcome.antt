@@ -6,7 +6,6 @@ use Rattle.hose_io.specs.Writing.{GrowsInPart}
 use Rattle.hose_graph.specs.Network.{Network}
 use Rattle.hose_graph.specs.declared.entry.Entry.{Entry}
 use Rattle.hose_law.specs.History.{IsSound}
-use Rattle.hose_disk.specs.Cabinet.{Has}
 use Rattle.hose_journal.specs.Opening.{AddsNoRecord}
 use Rattle.hose_store.specs.Entries.{BeginsWith}
 use Rattle.hose_store.specs.Recovery.{IsHistoryOf, digest_of}
@@ -14,8 +13,8 @@ use Rattle.hose_store.specs.Replaying.{KeepsRead}
 use Rattle.hose_follow.specs.Packet.{packets_bytes, packets_from}
 use Rattle.hose_offline.specs.AuditOutcome.{NamedOutcome, Purpose}
 use Rattle.hose_offline.specs.Auditing.{PricedNames}
-use Rattle.hose_offline.specs.Ending.{IsLastLine, OutputWorked, status_of_done}
-use Rattle.hose_offline.specs.OnDisk.{HadContent, IsUnopened}
+use Rattle.hose_offline.specs.Ending.{EndsAfter, OutputWorked}
+use Rattle.hose_offline.specs.OnDisk.{HadContent, IsUnopened, OfHeld}
 use Rattle.hose_offline.specs.Parts.{Parts, Tellings}
 use Rattle.hose_offline.specs.ServingOnDisk.{IsNotServed}
 use Rattle.hose_offline.specs.declared.fault.Fault.{Fault}
@@ -26,21 +25,16 @@ module _ {I O C E : Type 0} (tells : Tellings I O C E) (journal : List ℕ) (fro
   -- What is read of the journal's disk is as before; or none was begun there, and it is a journal
   -- of the newest version without a record. So no seal was written.
   abbrev pub IsReadAsBefore : Network → Type 0
-  IsReadAsBefore network =
-      Has (tells.cabinet.frame before.cabinet).tells (tells.cabinet.held before.cabinet journal)
-      (λ was. Has (tells.cabinet.frame after.cabinet).tells
-      (tells.cabinet.held after.cabinet journal) (λ left. KeepsRead tells.disk was left network))
+  IsReadAsBefore network = OfHeld tells.cabinet journal before.cabinet after.cabinet (λ was left.
+      KeepsRead tells.disk was left network)
 
   -- The journal's disk was not taken; or no record was written on it: what is read of it is as
   -- before, or none was begun there, and none is there, or one that was begun and has no record.
   abbrev pub IsLeftWithoutRecord : Network → Type 0
   IsLeftWithoutRecord network =
       (tells.cabinet.held after.cabinet ≡ tells.cabinet.held before.cabinet)
-      ⊎ Has (tells.cabinet.frame before.cabinet).tells (tells.cabinet.held before.cabinet journal)
-      (λ was. Has (tells.cabinet.frame after.cabinet).tells
-      (tells.cabinet.held after.cabinet journal)
-      (λ left. AddsNoRecord (tells.disk.content was) (tells.disk.content left)
-      (digest_of network)))
+      ⊎ OfHeld tells.cabinet journal before.cabinet after.cabinet (λ was left.
+      AddsNoRecord (tells.disk.content was) (tells.disk.content left) (digest_of network))
 
   -- The packets, from an epoch on, of all entries of the journal are out, as it was read at its
   -- opening. No call on its disk failed.
@@ -80,28 +74,21 @@ module _ {I O C E : Type 0} (tells : Tellings I O C E) (journal : List ℕ) (fro
       × OutputWorked tells.sink before.output after.output
       × IsLeftWithoutRecord network
 
--- The journal was shipped, which left the output so, and then the last line was put, which tells
--- the fault, if there is one. Nothing was entered in the journal.
-pub record IsShipped {I O C E : Type 0} (tells : Tellings I O C E) (journal : List ℕ) (from : ℕ)
-    (before after : Parts I O C) (status : ℕ) (network : Network) : Type 0 where
-  pub left : O
-  pub done : Result ⊤ Fault
-  pub ships : ShipsJournal tells journal from before (record after { output = left }) network done
-  pub unopened : IsUnopened tells.cabinet tells.disk before.cabinet after.cabinet network journal
-  pub last_line : IsLastLine tells.sink left after.output done
-  pub is_status : status ≡ status_of_done done
+module _ {I O C E : Type 0} (tells : Tellings I O C E) (journal : List ℕ) (from : ℕ)
+    (before after : Parts I O C) where
+  -- The journal was shipped, and nothing was entered in it.
+  pub record IsShipped (status : ℕ) (network : Network) : Type 0 where
+    pub ends : EndsAfter tells.sink after.output status (λ left.
+        ShipsJournal tells journal from before (record after { output = left }) network)
+    pub unopened : IsUnopened tells.cabinet tells.disk before.cabinet after.cabinet network journal
 
--- shipping is to tell the entries of the journal as packets
-abbrev pub to_ship : {I O C E : Type 0} → Tellings I O C E → List ℕ → ℕ → Parts I O C → Parts I O C
-    → Purpose
-to_ship tells journal from before after = record {
-  Tells = IsShipped tells journal from before after;
-  Untouched = ⊤;
-  OthersHeld = ⊤;
-}
+  -- shipping is to tell the entries of the journal as packets
+  abbrev pub to_ship : Purpose
+  to_ship = record { IsFulfilled = IsShipped; Untouched = ⊤; OthersHeld = ⊤ }
 
--- what stands after the entries of a journal that is named were shipped
-abbrev pub ShipOutcome : {I O C E : Type 0} → Tellings I O C E → PricedNames → ℕ → Parts I O C
-    → Parts I O C → ℕ → Type 0
-ShipOutcome tells names from before after =
-    NamedOutcome tells names before after (to_ship tells names.journal from before after)
+module _ {I O C E : Type 0} (tells : Tellings I O C E) (names : PricedNames) (from : ℕ)
+    (before after : Parts I O C) where
+  -- what stands after the entries of a journal that is named were shipped
+  abbrev pub ShipOutcome : ℕ → Type 0
+  ShipOutcome =
+      NamedOutcome tells names before after (to_ship tells names.journal from before after)

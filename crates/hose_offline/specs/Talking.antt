@@ -25,10 +25,6 @@ Says network bytes (IsBad word) = (length bytes ≤ line_limit)
 Says network bytes IsLong = line_limit < length bytes
 Says network bytes Unread = (length bytes ≤ line_limit) × WantsMemory (words_of bytes)
 
--- what a line of a script says rests on no line before it
-abbrev pub SaysNext : Network → List ReadLine → List ℕ → ReadLine → Type 0
-SaysNext network before = Says network
-
 -- Failures of a disk were told at most as often as a count rose, or it stands at its type's end.
 abbrev pub TellsDisks : ℕ → List Reply → ℕ → Type 0
 TellsDisks before replies after = (before + disks_in replies ≤ after) ⊎ (2 ^ 64 - 1 ≤ after)

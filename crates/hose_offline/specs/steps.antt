@@ -1,7 +1,6 @@
 -- Steps of proofs: what no clause of the top calls names.
 pub mod AuditOutcome
 pub mod CabinetText
-pub mod CheckOutcome
 pub mod Ending
 pub mod Fault
 pub mod Following
@@ -12,7 +11,6 @@ pub mod JsonRead
 pub mod LastLine
 pub mod Moving
 pub mod Parts
-pub mod PriceOutcome
 pub mod ProveOutcome
 pub mod ServingOnDisk
 pub mod SheetLine

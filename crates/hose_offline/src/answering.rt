@@ -166,7 +166,7 @@ fn answer_in_memory<S: Source, O: Sink>(
         core: Core::with_rows(alloc, Plain { book }, table),
         rows: RowsInAdvance::new(),
     };
-    answer_all(&mut clerk, lines, output)
+    done_of_talk(converse(&mut clerk, lines, output))
 }
 
 // Answers all lines by a store that was just opened, whose disk is out of the cabinet. The first
@@ -205,7 +205,7 @@ fn answer_by_journal<S: Source, O: Sink, C: Cabinet>(
         core: core_over(alloc, store, table),
         rows: RowsInAdvance::new(),
     };
-    let answered = answer_all(&mut clerk, lines, output);
+    let answered = done_of_talk(converse(&mut clerk, lines, output));
     let closed = close_journal(clerk.core.into_books(), cabinet);
     first_fault(answered, closed.0)
 }
@@ -280,28 +280,6 @@ impl<K: Books + Drop, R: RowMaker> Answers for Clerk<K, R> {
     fn is_over(&self) -> bool {
         false
     }
-}
-
-// Answers all lines that are to come.
-fn answer_all<S: Source, O: Sink, K: Books + Drop, R: RowMaker>(
-    clerk: &mut Clerk<K, R>,
-    lines: &mut LineReader<S>,
-    output: &mut O,
-) -> Result<(), Fault>
-    requires limit { lines.old.taken ≤ INPUT_LIMIT }
-    requires no_fault { lines.old.fault ≡ None }
-    ensures talks { (since : List Entry)
-        → IsSound (K.ledger clerk.old.core.books).network 0 since
-        → FitsHistory K.Books clerk.old.core 0 since nothing_held
-        → Talks (talk_tellings S.Source O.Sink K.Books) (K.ledger clerk.old.core.books).network
-        since (talk lines.old output.old clerk.old.core.books)
-        (talk lines.new output.new clerk.new.core.books) result }
-    ensures too_long { (result ≡ Err Fault.TooLong) ↔ (INPUT_LIMIT < lines.new.taken) }
-    ensures reads_on { ReadsOn S.Source lines.old lines.new }
-    ensures limit { lines.new.taken ≤ INPUT_LIMIT + 1 }
-    ensures output { Stays (O.frame output.old) (O.frame output.new) }
-{
-    done_of_talk(converse(clerk, lines, output))
 }
 
 // The reply to a line.

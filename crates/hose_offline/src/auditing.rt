@@ -1,7 +1,8 @@
 // An audit: the book of a journal, as a text.
 ghost use Rattle.std.specs.Prelude.{◌≡◌, ◌≢◌, IsSome, IsTrue, None};
 ghost use Rattle.hose_audit.specs.Audit.{audit_text};
-ghost use Rattle.hose_offline.specs.AuditOutcome.{AuditOutcome, EndsTold};
+ghost use Rattle.hose_offline.specs.AuditOutcome.{AuditOutcome};
+ghost use Rattle.hose_offline.specs.Ending.{EndsTold};
 ghost use Rattle.hose_offline.specs.steps.AuditOutcome.{AuditsJournal};
 ghost use Rattle.hose_offline.specs.Auditing.{ReadsText, ReadsTopology, priced_names};
 ghost use Rattle.hose_offline.specs.steps.Ending.{Wrote};

@@ -1,11 +1,10 @@
 // A check: the certificate of an input, judged by the topology of a text.
-ghost use Rattle.std.specs.Prelude.{◌≡◌, ◌≢◌, ◌↔◌, ◌+◌, ◌<◌, ◌≤◌, [], Err, IfOk, None};
+ghost use Rattle.std.specs.Prelude.{◌≡◌, ◌≢◌, ◌↔◌, ◌+◌, ◌<◌, ◌≤◌, [], Err, IfOk, None, Ok};
 ghost use Rattle.hose_io.specs.Frame.{Rose};
 ghost use Rattle.hose_cert.specs.Verdict.{AreCheapestFound, IsVerdict};
 ghost use Rattle.hose_words.specs.Reading.{WhereTold};
 ghost use Rattle.hose_words.specs.steps.Reading.{ReadsOn};
-ghost use Rattle.hose_offline.specs.CheckOutcome.{CheckOutcome, EndsVerdict, JudgesNamed};
-ghost use Rattle.hose_offline.specs.steps.CheckOutcome.{JudgesInput};
+ghost use Rattle.hose_offline.specs.CheckOutcome.{CheckOutcome, EndsChecked, JudgesInput, JudgesNamed};
 ghost use Rattle.hose_offline.specs.steps.Ending.{Wrote};
 ghost use Rattle.hose_offline.specs.Parts.{tellings};
 ghost use Rattle.hose_offline.specs.steps.Parts.{KeepsAll, held};
@@ -102,7 +101,7 @@ fn judge_lines<S: Source>(
 // Writes what was found, and gives the exit status.
 fn tell_verdict<O: Sink>(verdict: &Verdict, output: &mut O) -> u8
     ensures { Wrote O.Sink output.old output.new
-        (EndsVerdict O.Sink output.old output.new result verdict.now) }
+        (EndsChecked O.Sink output.old output.new result (Ok verdict.now)) }
 {
     match verdict {
         Verdict::Yes { cost, .. } => match put_numbered(output, b"yes ", *cost) {

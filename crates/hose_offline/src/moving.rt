@@ -3,7 +3,7 @@ ghost use Rattle.std.specs.Prelude.{◌≡◌, ◌≢◌, All, IfOk, None};
 ghost use Rattle.hose_graph.specs.steps.Ranges.{IsInRanges};
 ghost use Rattle.hose_offline.specs.steps.Journal.{IsBack};
 ghost use Rattle.hose_offline.specs.MoveOutcome.{MoveOutcome};
-ghost use Rattle.hose_offline.specs.Moving.{EntersStated, LendsDisk, LendsOld, MovesFrom, MovesBetween, MovesStated, read_done, scope_of, to_move, to_read};
+ghost use Rattle.hose_offline.specs.Moving.{EntersStated, LendsDisk, LendsOld, MovesFrom, MovesBetween, read_done, scope_of, to_move, to_read};
 ghost use Rattle.hose_offline.specs.steps.Moving.{journals_of, names_of};
 ghost use Rattle.hose_offline.specs.Parts.{tellings};
 ghost use Rattle.hose_offline.specs.steps.Parts.{KeepsAll, held};
@@ -78,7 +78,8 @@ fn move_from<P: Prices, I: Source, O: Sink, C: Cabinet>(
     }
 }
 
-// Moves what the journal of a network holds to another network, once both topologies were read.
+// Moves what the journal of a network holds to another network, which has to go on from it, once
+// both topologies were read.
 fn move_on<I: Source, O: Sink, C: Cabinet>(
     alloc: Global,
     of: Move<'_>,
@@ -96,29 +97,10 @@ fn move_on<I: Source, O: Sink, C: Cabinet>(
 {
     match first_change(old, new) {
         Some(change) => Err(MoveStop::Network(change)),
-        None => move_stated(alloc, of, old, new, outside),
-    }
-}
-
-// Moves what the journal of a network states to another network, which goes on from it.
-fn move_stated<I: Source, O: Sink, C: Cabinet>(
-    alloc: Global,
-    of: Move<'_>,
-    old: &Topology,
-    new: &Topology,
-    outside: &mut Outside<'_, I, O, C>,
-) -> Result<Moved, MoveStop>
-    requires { (C.frame (held outside.old).cabinet).out ≡ None }
-    ensures moves { MovesStated (tellings I.Source O.Sink C.Cabinet C.Disk.Disk)
-        (journals_of of.entry) (held outside.old) (held outside.new) old.now new.now result }
-    ensures input { (held outside.new).input ≡ (held outside.old).input }
-    ensures back { (C.frame (held outside.new).cabinet).out ≡ None }
-    ensures keeps { KeepsAll (tellings I.Source O.Sink C.Cabinet C.Disk.Disk)
-        outside.old outside.new }
-{
-    match read_old(alloc, of.from.journal, old, of.live, outside.cabinet) {
-        Ok(stated) => enter(alloc, of.to.journal, new, &stated, outside),
-        Err(why) => Err(MoveStop::Old(why)),
+        None => match read_old(alloc, of.from.journal, old, of.live, outside.cabinet) {
+            Ok(stated) => enter(alloc, of.to.journal, new, &stated, outside),
+            Err(why) => Err(MoveStop::Old(why)),
+        },
     }
 }
 

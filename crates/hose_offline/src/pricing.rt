@@ -4,8 +4,7 @@ ghost use Rattle.hose_words.specs.steps.Lines.{Shows};
 ghost use Rattle.hose_law.specs.steps.Plan.{AreNodes};
 ghost use Rattle.hose_offline.specs.Parts.{tellings};
 ghost use Rattle.hose_offline.specs.steps.Parts.{KeepsAll, held};
-ghost use Rattle.hose_offline.specs.PriceOutcome.{PriceOutcome, pricing_of};
-ghost use Rattle.hose_offline.specs.steps.PriceOutcome.{PricesInput};
+ghost use Rattle.hose_offline.specs.PriceOutcome.{PriceOutcome, PricesInput, pricing_of};
 ghost use Rattle.hose_offline.specs.SheetLine.{AnswersSheet};
 ghost use Rattle.hose_offline.specs.steps.SheetLine.{PricesHose};
 
@@ -107,7 +106,7 @@ impl<'a, R: RowMaker> Answers for Pricer<'a, R> {
 
     ghost about = { λ pricer. (pricer.sheet.now, map (λ tariff. tariff.name) pricer.tariffs.now) };
 
-    ghost says = { λ subject before. AnswersSheet subject.0.network subject.0 };
+    ghost says = { λ subject before. AnswersSheet subject.0 };
 
     ghost text = { λ subject answer. line_of (answer_text subject.1 answer) };
 
@@ -142,7 +141,7 @@ fn answer_to<R: RowMaker>(
     line: Line<'_>,
 ) -> SheetAnswer
     ensures { (bytes : List ℕ) → Shows line.entry bytes
-        → AnswersSheet sheet.now.network sheet.now bytes result }
+        → AnswersSheet sheet.now bytes result }
 {
     let Line::Text(text) = line else {
         return SheetAnswer::Long;

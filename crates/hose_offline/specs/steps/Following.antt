@@ -11,12 +11,13 @@ use Rattle.hose_offline.specs.Following.{following_done, HasFollowed}
 
 -- ---- by the journal of a name
 
--- no packet was answered, and why; or the input was followed, and the first fault is told
-abbrev pub FollowsJournal : {I O C E : Type 0} → Tellings I O C E → List ℕ → Parts I O C
-    → Parts I O C → Network → Result ⊤ Fault → Type 0
-FollowsJournal tells name before after network result =
-    (IsNotServed tells.cabinet tells.disk name before.cabinet after.cabinet network result
-    × (after.input ≡ before.input) × (after.output ≡ before.output))
-    ⊎ ((ended : FollowEnd) × (closing : Result ⊤ Failed)
-    × HasFollowed tells name before after network ended closing
-    × (result ≡ first_of (following_done ended) closing))
+module _ {I O C E : Type 0} (tells : Tellings I O C E) (name : List ℕ)
+    (before after : Parts I O C) (network : Network) where
+  -- no packet was answered, and why; or the input was followed, and the first fault is told
+  abbrev pub FollowsJournal : Result ⊤ Fault → Type 0
+  FollowsJournal result =
+      (IsNotServed tells.cabinet tells.disk name before.cabinet after.cabinet network result
+      × (after.input ≡ before.input) × (after.output ≡ before.output))
+      ⊎ ((ended : FollowEnd) × (closing : Result ⊤ Failed)
+      × HasFollowed tells name before after network ended closing
+      × (result ≡ first_of (following_done ended) closing))

@@ -24,17 +24,18 @@ pub record AreSizes (nodes links hoses : ℕ) : Type 0 where
   pub few_links : links ≤ most_links
   pub few_hoses : hoses ≤ most_hoses
 
--- Orders were answered one after another from the empty history on, where no customer held a quote,
--- none of them for want of memory, and this is the tally of the replies; the epoch is not told yet.
-pub record HaveBeenAnswered {K R : Type 0} (books : BooksGhosts K R) (first last : State K)
-    (orders : List Order) (tally : Tally) : Type 0 where
-  pub replies : List Reply
-  pub answered : AreAnswered books (books.ledger first.books).network [] first.books last.books
-      (asked orders) replies
-  pub fits : FitsHistory books last 0 answered.history answered.left
-  pub network : (books.ledger last.books).network ≡ (books.ledger first.books).network
-  pub memory : WithoutMemory replies
-  pub is_tally : tally ≡ tally_of replies 0
+module _ {K R : Type 0} (books : BooksGhosts K R) (first last : State K) where
+  -- Orders were answered one after another from the empty history on, where no customer held a
+  -- quote, none of them for want of memory, and this is the tally of the replies; the epoch is not
+  -- told yet.
+  pub record HaveBeenAnswered (orders : List Order) (tally : Tally) : Type 0 where
+    pub replies : List Reply
+    pub answered : AreAnswered books (books.ledger first.books).network [] first.books last.books
+        (asked orders) replies
+    pub fits : FitsHistory books last 0 answered.history answered.left
+    pub network : (books.ledger last.books).network ≡ (books.ledger first.books).network
+    pub memory : WithoutMemory replies
+    pub is_tally : tally ≡ tally_of replies 0
 
 -- this is the tally of the replies to orders on a network
 pub record IsTallyOf (network : Network) (orders : List Order) (tally : Tally) : Type 0 where

@@ -5,10 +5,10 @@ use Rattle.hose_io.specs.declared.sink.Sink.{Ghosts}
 use Rattle.hose_offline.specs.Ending.{IsLastLine, status_of_done}
 use Rattle.hose_offline.specs.declared.fault.Fault.{Fault}
 
--- The status is that of what was done, and its last line is out, if it has one. The output is the
--- object that it was.
-pub record EndsDone {T O : Type 0} (sink : Ghosts O) (was now : O) (done : Result T Fault)
-    (result : ℕ) : Type 0 where
-  pub status : result ≡ status_of_done done
-  pub last_line : IsLastLine sink was now done
-  pub output : Stays (sink.frame was) (sink.frame now)
+module _ {T O : Type 0} (sink : Ghosts O) (was now : O) where
+  -- The status is that of what was done, and its last line is out, if it has one. The output is the
+  -- object that it was.
+  pub record EndsDone (done : Result T Fault) (result : ℕ) : Type 0 where
+    pub status : result ≡ status_of_done done
+    pub last_line : IsLastLine sink was now done
+    pub output : Stays (sink.frame was) (sink.frame now)

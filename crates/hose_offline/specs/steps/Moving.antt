@@ -1,7 +1,7 @@
 -- What moving a journal to another network comes to, step by step: steps of proofs.
 use Rattle.hose_graph.specs.Network.{Network}
 use Rattle.hose_offline.specs.declared.moving.Move.{Move}
-use Rattle.hose_offline.specs.Moving.{MovedJournals, MoveNames, scope_of}
+use Rattle.hose_offline.specs.Moving.{MovedJournals, MoveNames, move_names, scope_of}
 
 -- ---- what is moved
 
@@ -15,9 +15,5 @@ journals_of of = record {
 
 -- what a move of the program names, at such prices
 abbrev pub names_of : (Network → Network → Type 0) → Move → MoveNames
-names_of prices of = record {
-  prices = prices;
-  journals = journals_of of;
-  topology = of.from.topology.now;
-  new_topology = of.to.topology.now;
-}
+names_of prices of = move_names prices of.live of.from.topology.now of.from.journal.now
+    of.to.topology.now of.to.journal.now

@@ -18,17 +18,17 @@ Refuses disk old network meaning = IfSome (disk.content old) (λ bytes.
     IsRecoveredAs network bytes meaning
     × ((history : List Entry) → ¬ IsHistoryOf network history bytes))
 
--- why no store was opened
-abbrev pub IsWhy : {E : Type 0} → DiskGhosts E → E → E → Network → Result ⊤ Fault → Type 0
-IsWhy disk old left network (Err fault.Cabinet) = (disk.frame left).has_failed ≡ true
-IsWhy disk old left network (Err (fault.Other kept given)) =
-    (given ≡ digest_of network) × Refuses disk old network (other kept)
-IsWhy disk old left network (Err (fault.Damaged at)) = Refuses disk old network (damaged at)
-IsWhy disk old left network (Err fault.Memory) = ⊤
-IsWhy disk old left network _ = ⊥
+module _ {E : Type 0} (disk : DiskGhosts E) (old left : E) (network : Network) where
+  -- why no store was opened
+  abbrev pub IsWhy : Result ⊤ Fault → Type 0
+  IsWhy (Err fault.Cabinet) = (disk.frame left).has_failed ≡ true
+  IsWhy (Err (fault.Other kept given)) =
+      (given ≡ digest_of network) × Refuses disk old network (other kept)
+  IsWhy (Err (fault.Damaged at)) = Refuses disk old network (damaged at)
+  IsWhy (Err fault.Memory) = ⊤
+  IsWhy _ = ⊥
 
--- No store was opened, and nothing was entered.
-pub record IsNotOpened {E : Type 0} (disk : DiskGhosts E) (old left : E) (network : Network)
-    (result : Result ⊤ Fault) : Type 0 where
-  pub why : IsWhy disk old left network result
-  pub images : LeavesOnly disk old left (IsAtOpening disk old network)
+  -- No store was opened, and nothing was entered.
+  pub record IsNotOpened (result : Result ⊤ Fault) : Type 0 where
+    pub why : IsWhy result
+    pub images : LeavesOnly disk old left (IsAtOpening disk old network)

@@ -8,12 +8,11 @@ use Rattle.hose_offline.specs.declared.sheet_answer.SheetAnswer.TheVariants.{Pri
 
 -- ---- what a line asks
 
--- what is answered to a customer who asks for this hose
-abbrev pub PricesHose : Sheet → List ℕ → List Endpoint → SheetAnswer → Type 0
-PricesHose sheet customer hose (Priced other line) =
-    (other ≡ customer) × IsPriceLine sheet hose line
-PricesHose sheet customer hose (NoPlan other) =
-    (other ≡ customer) × HasNoPricedPlan sheet.network hose
-PricesHose sheet customer hose (Bad word) = ⊥
-PricesHose sheet customer hose Long = ⊥
-PricesHose sheet customer hose Memory = ⊤
+module _ (sheet : Sheet) (customer : List ℕ) (hose : List Endpoint) where
+  -- what is answered to a customer who asks for this hose
+  abbrev pub PricesHose : SheetAnswer → Type 0
+  PricesHose (Priced other line) = (other ≡ customer) × IsPriceLine sheet hose line
+  PricesHose (NoPlan other) = (other ≡ customer) × HasNoPricedPlan sheet.network hose
+  PricesHose (Bad word) = ⊥
+  PricesHose Long = ⊥
+  PricesHose Memory = ⊤

@@ -107,28 +107,27 @@ abbrev pub talk_tellings : {S O K R : Type 0} → Ghosts S → SinkGhosts O → 
     → TalkTellings S O K R
 talk_tellings source sink books = record { source = source; sink = sink; books = books }
 
--- the terms of a talk whose replies are those of books, on a network and from a history on: each
--- line says one thing at most, but for being left unread
-abbrev pub book_terms : {S O K R : Type 0} → TalkTellings S O K R → Network → List Entry
-    → Talk (Reader S) O K → Talk (Reader S) O K → Terms ReadLine ⊤ Reply
-book_terms tells network since before after = record {
-  tells = λ stops lines.
-      SaysUpTo tells.source before.lines after.lines (λ _. SaysAlone network) lines stops;
-  comes = λ lines replies _.
-      AreAnswered tells.books network since before.by after.by lines replies;
-  over = λ _. false;
-  text = λ reply. line_of (reply_text network reply);
-}
+module _ {S O K R : Type 0} (tells : TalkTellings S O K R) (network : Network)
+    (since : List Entry) (before after : Talk (Reader S) O K) where
+  -- the terms of a talk whose replies are those of books, on a network and from a history on: each
+  -- line says one thing at most, but for being left unread
+  abbrev pub book_terms : Terms ReadLine ⊤ Reply
+  book_terms = record {
+    tells = λ stops lines.
+        SaysUpTo tells.source before.lines after.lines (λ _. SaysAlone network) lines stops;
+    comes = λ lines replies _.
+        AreAnswered tells.books network since before.by after.by lines replies;
+    over = λ _. false;
+    text = λ reply. line_of (reply_text network reply);
+  }
 
--- What answering all lines comes to, as a talk on these terms. The reader keeps a fault of reading
--- that ended it.
-abbrev pub Talks : {S O K R : Type 0} → TalkTellings S O K R → Network → List Entry
-    → Talk (Reader S) O K → Talk (Reader S) O K → Result ⊤ Fault → Type 0
-Talks tells network since before after result = (ended : Result TalkEnd TalkFault)
-    × (result ≡ done_of_talk ended) × KeepsFault before.lines after.lines ended
-    × TalksTo tells.source tells.sink (book_terms tells network since before after)
-    (talk before.lines.source before.output (tt {0}))
-    (talk after.lines.source after.output (tt {0})) ended
+  -- What answering all lines comes to, as a talk on these terms. The reader keeps a fault of
+  -- reading that ended it.
+  abbrev pub Talks : Result ⊤ Fault → Type 0
+  Talks result = (ended : Result TalkEnd TalkFault) × (result ≡ done_of_talk ended)
+      × KeepsFault before.lines after.lines ended × TalksTo tells.source tells.sink book_terms
+      (talk before.lines.source before.output (tt {0}))
+      (talk after.lines.source after.output (tt {0})) ended
 
 -- a book in memory as books
 abbrev pub plain_books : BooksGhosts Plain ⊤

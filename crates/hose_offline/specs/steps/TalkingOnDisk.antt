@@ -12,6 +12,7 @@ use Rattle.hose_store.specs.Recovery.{IsHistoryOf}
 use Rattle.hose_store.specs.steps.Store.{KeptStore}
 use Rattle.hose_offline.specs.OnDisk.{HadContent, KeptOnDisk}
 use Rattle.hose_offline.specs.Parts.{Parts, Tellings}
+use Rattle.hose_offline.specs.Run.{script_run}
 use Rattle.hose_offline.specs.ServingOnDisk.{IsNotServed, first_of}
 use Rattle.hose_talk.specs.Talk.{talk}
 use Rattle.hose_offline.specs.Talking.{IsAskedBy, TellsDisks}
@@ -35,13 +36,8 @@ module _ {S O C E : Type 0} (tells : Tellings S O C E) (name : List ℕ)
         → GoesOn (store_books tells.disk) (IsAskedBy lines replies) network since first history last
         → TellsDisks (tells.disk.frame first.journal.disk).faults replies
         (tells.disk.frame last.journal.disk).faults
-        → KeptOnDisk tells.cabinet tells.disk name before.cabinet after.cabinet closing (record {
-          network = network;
-          since = since;
-          history = history;
-          lines = lines;
-          replies = replies;
-        })
+        → KeptOnDisk tells.cabinet tells.disk name before.cabinet after.cabinet closing
+        (script_run network since history lines replies)
 
   -- no store was opened, and nothing was read or written; or lines were answered by its book
   abbrev pub TalksInCabinet : Result ⊤ Fault → Type 0

@@ -1,8 +1,14 @@
-use Rattle.std.proofs.Common.{inl, inr, List, refl}
+use Rattle.std.proofs.Common.{◌≡◌, ◌↔◌, ◌<◌, inl, inr, Err, List, refl}
 use Rattle.hose_words.proofs.OnReading.{ReadsOn-start}
 use Rattle.hose_graph.specs.declared.command.Reply.{Reply}
 use Rattle.hose_law.specs.History.{IsDecidedAt}
 use Rattle.hose_law.specs.Script.{ReadLine}
+use Rattle.hose_store.specs.steps.Commit.{store_books}
+use Rattle.hose_words.specs.declared.lines.TheConstants.{INPUT_LIMIT}
+use Rattle.hose_offline.specs.declared.fault.Fault.TheVariants.{TooLong}
+use Rattle.hose_offline.proofs.BookTalks.{talks_told}
+use Rattle.hose_offline.proofs.Exchanges.{answered_none}
+use Rattle.hose_offline.proofs.TalksTold.{too_long_told}
 use Rattle.hose_offline.proofs.Journals.{first_long, first_sound, talked_in, unused_in}
 use Rattle.hose_offline.proofs.answering.answer_by_journal.Goals as goal
 
@@ -17,16 +23,22 @@ pub returns-clause-talks : goal.returns-clause-talks
 returns-clause-talks g c = λ name before network opens.
     let since = opens.opens.opened.history in
     let first = c.core_over in
-    let served = c.answer_all-answered in
+    let held = c.converse in
+    let answered = c.done_of_talk-answered in
     let closed = c.close_journal-closed in
     let sound = first_sound first.result.books c.args.store since first.ensures.books opens.opens.opened.has.sound in
     let asked = λ (lines : List ReadLine) (replies : List Reply). first.ensures.leaves lines replies opens.was network opens.opens in
-    let has = talked_in g.C.Cabinet g.C.Disk.Disk name before c.args.cabinet.now closed.new.cabinet network c.args.store g.S.Source g.O.Sink c.args.lines.now served.new.lines c.args.output.now served.new.output first.result.books served.new.clerk.core.books served.result closed.result.0
-    opens (rw c.into_books.ensures at closed.ensures.closes) asked first.ensures.books (served.ensures.talks since sound (first.ensures.fits since opens.opens.opened.has.book)) in
-    inr (served.result, closed.result.0, has, c.first_fault.ensures)
+    let begun = record held.new.answers { core = first.result } in
+    let talks = talks_told g.S.Source g.O.Sink (store_books g.C.Disk.Disk) since first.result (λ clerk. clerk.core) c.args.lines.now held.new.lines c.args.output.now held.new.output held.new.answers held.new.answers answered.result held.result answered.ensures held.ensures.fault
+    (held.ensures.talks (since, begun) (answered_none (store_books g.C.Disk.Disk) since first.result sound (first.ensures.fits since opens.opens.opened.has.book))) in
+    let has = talked_in g.C.Cabinet g.C.Disk.Disk name before c.args.cabinet.now closed.new.cabinet network c.args.store g.S.Source g.O.Sink c.args.lines.now held.new.lines c.args.output.now held.new.output first.result.books held.new.answers.core.books answered.result closed.result.0
+    opens (rw c.into_books.ensures at closed.ensures.closes) asked first.ensures.books talks in
+    inr (answered.result, closed.result.0, has, c.first_fault.ensures)
 
 pub returns-clause-too_long : goal.returns-clause-too_long
 returns-clause-too_long g c =
-    let long = first_long c.answer_all-answered.result c.close_journal-closed.result.0 in
-    let told = c.answer_all-answered.ensures.too_long in
+    let answered = c.done_of_talk-answered in
+    let long = first_long answered.result c.close_journal-closed.result.0 in
+    let told : (answered.result ≡ Err TooLong) ↔ (INPUT_LIMIT < c.converse.new.lines.taken) =
+    rw answered.ensures (too_long_told c.converse.result (INPUT_LIMIT < c.converse.new.lines.taken) c.converse.ensures.too_long) in
     rw c.first_fault.ensures ((λ is. told.0 (long.0 is)), (λ more. long.1 (told.1 more)))

@@ -25,11 +25,7 @@ returns-clause-outcome g c =
       ((λ is. run.takes.3.0 (too_long_at_8 done is)), λ long. ap status_of_done (run.takes.3.1 long)),
     ) in
     record {
-      done = done;
-      left = left.output;
-      leaves = run.leaves;
-      last_line = c.end.ensures.last_line;
-      is_status = status;
+      ends = record { left = left.output; done = done; leaves = run.leaves; last_line = c.end.ensures.last_line; is_status = status };
       takes = rw status takes;
       absent = run.absent;
       in_memory = λ none. run.in_memory (none_named (λ name. name.now) c.args.journal none);

@@ -6,7 +6,7 @@ use Rattle.hose_talk.proofs.Retold.{talks_as}
 use Rattle.hose_proto.specs.ReplyText.{line_of}
 use Rattle.hose_offline.specs.Parts.{tellings}
 use Rattle.hose_offline.specs.steps.Parts.{held}
-use Rattle.hose_offline.specs.SheetLine.{AnswersNext, answer_text}
+use Rattle.hose_offline.specs.SheetLine.{AnswersSheet, answer_text}
 use Rattle.hose_offline.specs.declared.fault.Fault.TheVariants.{Memory}
 use Rattle.hose_offline.specs.declared.sheet_answer.SheetAnswer.{SheetAnswer}
 use Rattle.hose_offline.proofs.Priced.{starved}
@@ -32,7 +32,7 @@ returns-clause-prices g c =
     let made = c.in_ok-sheet.ensures in
     let names = map (λ tariff. tariff.name) c.args.tariffs.now in
     let before = c.args.outside.now in
-    let tells = TellsOf (AnswersNext c.in_ok-sheet.sheet) (g.I.Source.content before.input.now) (g.I.Source.content talk.new.source) in
+    let tells = TellsOf (λ _. AnswersSheet c.in_ok-sheet.sheet) (g.I.Source.content before.input.now) (g.I.Source.content talk.new.source) in
     let answers = talks_as g.I.Source g.O.Sink (record { tells = tells; comes = λ (said : List SheetAnswer) (answers : List SheetAnswer) _. said ≡ answers; over = λ _. false; text = λ answer. line_of (answer_text names answer) }) tells (λ (said : List SheetAnswer) (answers : List SheetAnswer) _. said ≡ answers) (λ _. false)
     before.input.now talk.new.source before.output.now talk.new.output talk.new.answers talk.new.answers (tt {0}) (tt {0}) (λ stops lines says. says) (λ said answers same. same) refl talk.result (talk.ensures.talks (tt {0}) refl) in
     record {
