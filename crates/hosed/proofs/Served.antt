@@ -8,9 +8,9 @@ use Rattle.hose_graph.specs.Network.{Network}
 use Rattle.hose_graph.specs.declared.entry.Entry.{Entry}
 use Rattle.hose_audit.specs.Audit.{audit_text}
 use Rattle.hose_store.specs.Recovery.{IsHistoryOf}
-use Rattle.hose_offline.specs.AuditOutcome.{EndsTold, NoneFailed, Purpose}
+use Rattle.hose_offline.specs.AuditOutcome.{Purpose}
 use Rattle.hose_offline.specs.Auditing.{PricedNames, ReadsTopology}
-use Rattle.hose_offline.specs.Ending.{IsOut}
+use Rattle.hose_offline.specs.Ending.{EndsTold, IsOut, NoneFailed}
 use Rattle.hose_offline.specs.Fault.{last_line, status_of}
 use Rattle.hose_offline.specs.OnDisk.{CabinetFailed, JournalIsTold}
 use Rattle.hose_offline.specs.Parts.{Tellings}
@@ -48,7 +48,7 @@ served_status sink port before after left status (Ok end) speaks ends other no_0
 module _ {I O C E : Type 0} (tells : Tellings I O C E) (names : PricedNames) (task : DoorTask) (before after : OutsideDoor I O C) where
   abbrev purpose : Purpose
   purpose = record {
-    Tells = IsServed tells names.journal task before after;
+    IsFulfilled = IsServed tells names.journal task before after;
     Untouched = after.door ≡ before.door;
     OthersHeld = ¬ Rose before.door.frame after.door.frame;
   }

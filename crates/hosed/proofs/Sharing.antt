@@ -44,12 +44,12 @@ pub given_up : (network : Network) (IsKept : ServerProgress → Result ⊤ Faile
 given_up network IsKept faults Along came why is stays = subst (ServesBook network IsKept faults Along) (sym is) stays
 
 -- and it says why the door was not opened or not announced
-pub not_announced : {O : Type 0} (sink : SinkGhosts O) (port : ℕ) (before after : OutputDoor O) (why : Fault) → IsAnnounced {T = ⊤} sink port before after (Err why) → Speaks sink port before after (Err why)
+pub not_announced : {O : Type 0} (sink : SinkGhosts O) (port : ℕ) (before after : OutputDoor O) (why : Fault) → IsAnnounced sink port before after {T = ⊤} (Err why) → Speaks sink port before after (Err why)
 not_announced sink port before after Memory is = absurd is
 not_announced sink port before after another is = is
 
 -- also where the store was closed then, with the door as it was
-pub gave_up : {O : Type 0} (sink : SinkGhosts O) (port : ℕ) (before mid after : OutputDoor O) (came : Result ServerEnd Fault) (why : Fault) → came ≡ Err why → after ≡ mid → IsAnnounced {T = ⊤} sink port before mid (Err why) → Speaks sink port before after came
+pub gave_up : {O : Type 0} (sink : SinkGhosts O) (port : ℕ) (before mid after : OutputDoor O) (came : Result ServerEnd Fault) (why : Fault) → came ≡ Err why → after ≡ mid → IsAnnounced sink port before mid {T = ⊤} (Err why) → Speaks sink port before after came
 gave_up {O} sink port before mid after came why is same announced =
     subst (Speaks sink port before after) (sym is) (subst (λ (now : OutputDoor O). Speaks sink port before now (Err why)) (sym same) (not_announced sink port before mid why announced))
 

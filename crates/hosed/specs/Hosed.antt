@@ -11,29 +11,28 @@ use Rattle.hosed.specs.ServeOutcome.{ServeOutcome}
 use Rattle.hosed.specs.ServerDoor.{OutsideDoor}
 use Rattle.hose_offline.specs.declared.fault.Fault.TheVariants.{Words}
 
--- A server did what its task says, at the prices of the tariff that is chosen.
-abbrev pub Serves : {I O C E : Type 0} → Tellings I O C E → Offer → OutsideDoor I O C
-    → OutsideDoor I O C → ℕ → Task command.Serve → Type 0
-Serves tells offer before after status
-    (tariff, topology, (journal, (port, (connections, (workers, _))))) =
-    ServeOutcome tells (priced_names (offer.prices tariff) topology journal)
-    (record { port = port; connections = connections }) before after status
+module _ {I O C E : Type 0} (tells : Tellings I O C E) (offer : Offer)
+    (before after : OutsideDoor I O C) (status : ℕ) where
+  -- A server did what its task says, at the prices of the tariff that is chosen.
+  abbrev pub Serves : Task command.Serve → Type 0
+  Serves (tariff, topology, (journal, (port, (connections, (workers, _))))) =
+      ServeOutcome tells (priced_names (offer.prices tariff) topology journal)
+      (record { port = port; connections = connections }) before after status
 
--- Words that do not begin with `serve` come to what they come to for every command that waits for
--- nobody, and nothing is done to the door. Of those that do, wrong ones end with the status 1 and
--- take nothing; the last line tells the first of them that is not allowed. Right ones do what a
--- server does.
-pub record HosedOutcome {I O C E : Type 0} (tells : Tellings I O C E) (offer : Offer)
-    (before after : OutsideDoor I O C) (status : ℕ) (words : List (List ℕ)) : Type 0 where
-  pub offline : ¬ AsksToServe words
-      → OfflineOutcome tells offer before.others after.others status words
-      × (after.door ≡ before.door)
-  pub words_at_1 : AsksToServe words → (status ≡ 1) ↔ AreWrongWords offer.pricing.names words
-  pub wrong_words : AsksToServe words → status ≡ 1
-      → (after.others.input ≡ before.others.input)
-      × (after.others.cabinet ≡ before.others.cabinet) × (after.door ≡ before.door)
-      × ((word : ℕ) × IsFirstWrong offer.pricing.names words word
-      × IsOut tells.sink before.others.output after.others.output (last_line (Words word)))
-  pub serves : (task : Task command.Serve)
-      → AreWords offer.pricing.names words command.Serve task
-      → Serves tells offer before after status task
+  -- Words that do not begin with `serve` come to what they come to for every command that waits for
+  -- nobody, and nothing is done to the door. Of those that do, wrong ones end with the status 1 and
+  -- take nothing; the last line tells the first of them that is not allowed. Right ones do what a
+  -- server does.
+  pub record HosedOutcome (words : List (List ℕ)) : Type 0 where
+    pub offline : ¬ AsksToServe words
+        → OfflineOutcome tells offer before.others after.others status words
+        × (after.door ≡ before.door)
+    pub words_at_1 : AsksToServe words → (status ≡ 1) ↔ AreWrongWords offer.pricing.names words
+    pub wrong_words : AsksToServe words → status ≡ 1
+        → (after.others.input ≡ before.others.input)
+        × (after.others.cabinet ≡ before.others.cabinet) × (after.door ≡ before.door)
+        × ((word : ℕ) × IsFirstWrong offer.pricing.names words word
+        × IsOut tells.sink before.others.output after.others.output (last_line (Words word)))
+    pub serves : (task : Task command.Serve)
+        → AreWords offer.pricing.names words command.Serve task
+        → Serves task

@@ -1,5 +1,5 @@
 -- What the program's words come to, for every command that waits for nobody.
-use Rattle.std.specs.Prelude.{◌≡◌, ◌↔◌, ℕ, List, Bool, Option, ⊤}
+use Rattle.std.specs.Prelude.{◌≡◌, ◌↔◌, ℕ, List, Option, ⊤}
 use Rattle.hose_graph.specs.Network.{Network}
 use Rattle.hose_offline.specs.AuditOutcome.{AuditOutcome}
 use Rattle.hose_offline.specs.Auditing.{priced_names}
@@ -9,7 +9,7 @@ use Rattle.hose_offline.specs.Fault.{last_line}
 use Rattle.hose_offline.specs.FollowOutcome.{FollowOutcome}
 use Rattle.hose_offline.specs.GenOutcome.{GenOutcome}
 use Rattle.hose_offline.specs.MoveOutcome.{MoveOutcome}
-use Rattle.hose_offline.specs.Moving.{MoveNames, scope_of}
+use Rattle.hose_offline.specs.Moving.{move_names}
 use Rattle.hose_offline.specs.Parts.{Parts, Tellings}
 use Rattle.hose_offline.specs.PriceOutcome.{PriceOutcome, Pricing, pricing_of}
 use Rattle.hose_offline.specs.ProveOutcome.{ProveOutcome, ends_from}
@@ -28,24 +28,14 @@ pub record Offer : Type 1 where
   pub prices : Option ℕ → Network → Network → Type 0
   pub pricing : Pricing
 
--- that of tariffs with such prices, names and bounds
-abbrev pub offer_of : {T : Type 0} → (T → Network → Network → Type 0) → (T → List ℕ) → (T → ℕ)
-    → (T → ℕ) → List T → Offer
-offer_of prices name base per tariffs = record {
-  prices = costs_at prices tariffs;
-  pricing = pricing_of prices name base per tariffs;
-}
-
--- what a move names, at such prices: whether the live VPNs alone are moved, a topology and a
--- journal of it, and a new topology and a new journal
-abbrev pub moved_by : (Network → Network → Type 0) → Bool → List ℕ → List ℕ → List ℕ → List ℕ
-    → MoveNames
-moved_by prices live topology journal new_topology new_journal = record {
-  prices = prices;
-  journals = record { scope = scope_of live; old = journal; new = new_journal };
-  topology = topology;
-  new_topology = new_topology;
-}
+module _ {T : Type 0} (prices : T → Network → Network → Type 0) (name : T → List ℕ)
+    (base per : T → ℕ) (tariffs : List T) where
+  -- that of tariffs with such prices, names and bounds
+  abbrev pub offer_of : Offer
+  offer_of = record {
+    prices = costs_at prices tariffs;
+    pricing = pricing_of prices name base per tariffs;
+  }
 
 -- ---- what comes of a command
 
@@ -73,7 +63,7 @@ module _ {I O C E : Type 0} (tells : Tellings I O C E) (offer : Offer)
       FollowOutcome tells (priced_names (offer.prices tariff) topology journal) before after status
   Does command.Move ((tariff, live), topology, (journal, (new_topology, (new_journal, _)))) =
       MoveOutcome tells
-      (moved_by (offer.prices tariff) live topology journal new_topology new_journal)
+      (move_names (offer.prices tariff) live topology journal new_topology new_journal)
       before after status
   Does command.Serve task = ⊤
 

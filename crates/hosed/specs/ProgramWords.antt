@@ -57,16 +57,15 @@ chosen_of [] (Some which) = None
 chosen_of (tariff ∷ tariffs) (Some zero) = Some tariff
 chosen_of (tariff ∷ tariffs) (Some (suc which)) = chosen_of tariffs (Some which)
 
--- what a tariff makes of a network; its own costs where there is none
-abbrev pub prices_of : {T : Type 0} → (T → Network → Network → Type 0) → Option T → Network
-    → Network → Type 0
-prices_of prices None = own_costs
-prices_of prices (Some tariff) = prices tariff
+module _ {T : Type 0} (prices : T → Network → Network → Type 0) where
+  -- what a tariff makes of a network; its own costs where there is none
+  abbrev pub prices_of : Option T → Network → Network → Type 0
+  prices_of None = own_costs
+  prices_of (Some tariff) = prices tariff
 
--- what the tariff that is chosen makes of a network
-abbrev pub costs_at : {T : Type 0} → (T → Network → Network → Type 0) → List T → Option ℕ → Network
-    → Network → Type 0
-costs_at prices tariffs tariff = prices_of prices (chosen_of tariffs tariff)
+  -- what the tariff that is chosen makes of a network
+  abbrev pub costs_at : List T → Option ℕ → Network → Network → Type 0
+  costs_at tariffs tariff = prices_of (chosen_of tariffs tariff)
 
 -- ---- the table
 
@@ -136,12 +135,14 @@ abbrev pub generated_numbers : Operands
 generated_numbers = number_and 0 (2 ^ 64 - 1) (λ seed. number_and least_nodes most_nodes (λ nodes.
     number_and (nodes - 1) most_links (λ links. number_and 0 most_hoses (λ hoses. no_more))))
 
--- The word that each command begins with, and what stands after it. Entries are shipped from an
--- epoch on; the first one's is 1.
+-- The word that each command begins with, and what stands after it, in the order of the usage text;
+-- the name of each operand is its name there. Entries are shipped from an epoch on; the first one's
+-- is 1.
 abbrev pub program_line : ProgramVerb → List ℕ × Arguments
 program_line command.Run = (codes "run", tariff_and_any_file)
 program_line command.Audit = (codes "audit", options_and_file by_tariff (journal_and no_more))
-program_line command.Generate = (codes "gen", only_operands generated_numbers)
+program_line command.Serve =
+    (codes "serve", options_and_file by_tariff (journal_and server_numbers))
 program_line command.Prove = (codes "prove", options_and_file by_tariff (λ topology. end_words))
 program_line command.Check = (codes "check", options_and_file by_tariff (λ topology. no_more))
 program_line command.Price = (codes "price", options_and_file without (λ topology. no_more))
@@ -152,8 +153,7 @@ program_line command.Ship = (
 )
 program_line command.Follow = (codes "follow", options_and_file by_tariff (journal_and no_more))
 program_line command.Move = (codes "move", options_and_file by_tariff_and_live moved_names)
-program_line command.Serve =
-    (codes "serve", options_and_file by_tariff (journal_and server_numbers))
+program_line command.Generate = (codes "gen", only_operands generated_numbers)
 
 -- the word that a command begins with
 abbrev pub program_word : ProgramVerb → List ℕ
@@ -270,14 +270,14 @@ ArePriceable names = IsWithin 1 most_tariffs (length names)
 abbrev pub IsAvailable : List (List ℕ) → ProgramVerb → Type 0
 IsAvailable names command.Run = ⊤
 IsAvailable names command.Audit = ⊤
-IsAvailable names command.Generate = ⊤
+IsAvailable names command.Serve = ⊤
 IsAvailable names command.Prove = ⊤
 IsAvailable names command.Check = ⊤
 IsAvailable names command.Price = ArePriceable names
 IsAvailable names command.Ship = ⊤
 IsAvailable names command.Follow = ⊤
 IsAvailable names command.Move = ⊤
-IsAvailable names command.Serve = ⊤
+IsAvailable names command.Generate = ⊤
 
 -- The words are that of the command, which there is, and then those of its task, which it may be
 -- given.

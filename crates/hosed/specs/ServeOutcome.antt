@@ -5,9 +5,9 @@ use Rattle.hose_io.specs.declared.Failed.{Failed}
 use Rattle.hose_io.specs.declared.sink.Sink.{Ghosts as SinkGhosts}
 use Rattle.hose_graph.specs.Network.{Network}
 use Rattle.hose_audit.specs.Audit.{audit_text}
-use Rattle.hose_offline.specs.AuditOutcome.{EndsTold, NamedOutcome}
+use Rattle.hose_offline.specs.AuditOutcome.{NamedOutcome}
 use Rattle.hose_offline.specs.Auditing.{PricedNames}
-use Rattle.hose_offline.specs.Ending.{IsOut}
+use Rattle.hose_offline.specs.Ending.{EndsTold, IsOut}
 use Rattle.hose_offline.specs.Fault.{last_line, status_of}
 use Rattle.hose_offline.specs.Parts.{Tellings}
 use Rattle.hose_offline.specs.declared.fault.Fault.{Fault}
@@ -21,36 +21,35 @@ first_failed (Err failed) closing = Err Door
 first_failed (Ok _) (Err failed) = Err Cabinet
 first_failed (Ok _) (Ok _) = Ok tt
 
--- How the output ends once a store was opened. Where connections were served, the text of the book
--- is told, and the last line of a fault of accepting or closing follows it; else there is the last
--- line alone, and none after an output that failed.
-abbrev pub EndsServed : {O : Type 0} → SinkGhosts O → O → O → ℕ → Result ServerEnd Fault → Type 0
-EndsServed sink output output' status (Ok end) =
-    EndsTold sink output output' status (first_failed end.accepting end.closing)
-    (audit_text end.book.network end.book.book)
-EndsServed sink output output' status (Err Write) =
-    (status ≡ status_of Write) × (output' ≡ output)
-EndsServed sink output output' status (Err why) =
-    (status ≡ status_of why) × IsOut sink output output' (last_line why)
+module _ {O : Type 0} (sink : SinkGhosts O) (output output' : O) (status : ℕ) where
+  -- How the output ends once a store was opened. Where connections were served, the text of the
+  -- book is told, and the last line of a fault of accepting or closing follows it; else there is
+  -- the last line alone, and none after an output that failed.
+  abbrev pub EndsServed : Result ServerEnd Fault → Type 0
+  EndsServed (Ok end) = EndsTold sink output output' status
+      (first_failed end.accepting end.closing) (audit_text end.book.network end.book.book)
+  EndsServed (Err Write) = (status ≡ status_of Write) × (output' ≡ output)
+  EndsServed (Err why) = (status ≡ status_of why) × IsOut sink output output' (last_line why)
 
--- A store was opened on the journal and served connections, or not, which left the output as `mid`
--- is, and then the rest was told.
-pub record IsServed {I O C E : Type 0} (tells : Tellings I O C E) (name : List ℕ) (task : DoorTask)
-    (before after : OutsideDoor I O C) (status : ℕ) (network : Network) : Type 0 where
-  pub mid : O
-  pub came : Result ServerEnd Fault
-  pub serves : ServesByJournal tells name before.others.cabinet after.others.cabinet network
-      (AreServedAlongPass task.connections before.door after.door) came
-  pub speaks : Speaks tells.sink task.port (spoken before) (record (spoken after) { output = mid })
-      came
-  pub ends : EndsServed tells.sink mid after.others.output status came
+module _ {I O C E : Type 0} (tells : Tellings I O C E) (name : List ℕ) (task : DoorTask)
+    (before after : OutsideDoor I O C) where
+  -- A store was opened on the journal and served connections, or not, which left the output as
+  -- `mid` is, and then the rest was told.
+  pub record IsServed (status : ℕ) (network : Network) : Type 0 where
+    pub mid : O
+    pub came : Result ServerEnd Fault
+    pub serves : ServesByJournal tells name before.others.cabinet after.others.cabinet network
+        (AreServedAlongPass task.connections before.door after.door) came
+    pub speaks : Speaks tells.sink task.port (spoken before)
+        (record (spoken after) { output = mid }) came
+    pub ends : EndsServed tells.sink mid after.others.output status came
 
--- A server tells the book of the journal as it was after the last connection.
-abbrev pub ServeOutcome : {I O C E : Type 0} → Tellings I O C E → PricedNames → DoorTask
-    → OutsideDoor I O C → OutsideDoor I O C → ℕ → Type 0
-ServeOutcome tells names task before after status =
-    NamedOutcome tells names before.others after.others (record {
-      Tells = IsServed tells names.journal task before after;
-      Untouched = after.door ≡ before.door;
-      OthersHeld = ¬ Rose before.door.frame after.door.frame;
-    }) status
+module _ {I O C E : Type 0} (tells : Tellings I O C E) (names : PricedNames) (task : DoorTask)
+    (before after : OutsideDoor I O C) where
+  -- A server tells the book of the journal as it was after the last connection.
+  abbrev pub ServeOutcome : ℕ → Type 0
+  ServeOutcome = NamedOutcome tells names before.others after.others (record {
+    IsFulfilled = IsServed tells names.journal task before after;
+    Untouched = after.door ≡ before.door;
+    OthersHeld = ¬ Rose before.door.frame after.door.frame;
+  })

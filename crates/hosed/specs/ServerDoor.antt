@@ -15,14 +15,14 @@ use Rattle.hose_law.specs.History.{IsDecided, IsDecidedAt, book_of}
 use Rattle.hose_law.specs.Live.{AreLiveUnreleased, StaysLive}
 use Rattle.hose_book.specs.Ledger.{IsLedgerOf}
 use Rattle.hose_crew.specs.Crew.{AreServed}
-use Rattle.hose_disk.specs.Cabinet.{Has, object_of}
+use Rattle.hose_disk.specs.Cabinet.{object_of}
 use Rattle.hose_proto.specs.ReplyText.{line_of}
 use Rattle.hose_store.specs.Beginning.{HasLeft}
 use Rattle.hose_store.specs.Recovery.{IsHistoryOf}
 use Rattle.hose_turn.specs.Faults.{end_of_count}
 use Rattle.hose_turn.specs.Known.{Known}
 use Rattle.hose_turn.specs.Places.{HasPlaces}
-use Rattle.hose_offline.specs.OnDisk.{HadContent, opening_of}
+use Rattle.hose_offline.specs.OnDisk.{HadContent, OfHeld, opening_of}
 use Rattle.hose_offline.specs.Parts.{Parts, Tellings, parts}
 use Rattle.hose_offline.specs.declared.fault.Fault.{Fault}
 use Rattle.hose_offline.specs.declared.fault.Fault.TheVariants.{Door, Memory, Write}
@@ -75,34 +75,32 @@ with_door input output cabinet door =
 abbrev pub spoken : {I O C : Type 0} → OutsideDoor I O C → OutputDoor O
 spoken outside = output_door outside.others.output outside.door
 
--- The door was opened at this port, and the line that the server is ready is out; or the door did
--- not open, and nothing was written; or it was opened, a part of the line alone is out, and the
--- output failed.
-abbrev pub IsAnnounced : {O T : Type 0} → SinkGhosts O → ℕ → OutputDoor O → OutputDoor O
-    → Result T Fault → Type 0
-IsAnnounced sink port before after (Ok _) = (after.door ≡ record before.door { port = Some port })
-    × Grows (sink.content before.output) (sink.content after.output) ready_line
-    × (sink.frame after.output ≡ sink.frame before.output)
-IsAnnounced sink port before after (Err Door) = (after.output ≡ before.output)
-    × (after.door.told ≡ before.door.told) × (after.door.port ≡ before.door.port)
-    × Rose before.door.frame after.door.frame
-IsAnnounced sink port before after (Err Write) =
-    (after.door ≡ record before.door { port = Some port })
-    × GrowsInPart (sink.content before.output) (sink.content after.output) ready_line
-    × Rose (sink.frame before.output) (sink.frame after.output)
-IsAnnounced sink port before after (Err another) = ⊥
+module _ {O : Type 0} (sink : SinkGhosts O) (port : ℕ) (before after : OutputDoor O) where
+  -- The door was opened at this port, and the line that the server is ready is out; or the door did
+  -- not open, and nothing was written; or it was opened, a part of the line alone is out, and the
+  -- output failed.
+  abbrev pub IsAnnounced : {T : Type 0} → Result T Fault → Type 0
+  IsAnnounced (Ok _) = (after.door ≡ record before.door { port = Some port })
+      × Grows (sink.content before.output) (sink.content after.output) ready_line
+      × (sink.frame after.output ≡ sink.frame before.output)
+  IsAnnounced (Err Door) = (after.output ≡ before.output)
+      × (after.door.told ≡ before.door.told) × (after.door.port ≡ before.door.port)
+      × Rose before.door.frame after.door.frame
+  IsAnnounced (Err Write) = (after.door ≡ record before.door { port = Some port })
+      × GrowsInPart (sink.content before.output) (sink.content after.output) ready_line
+      × Rose (sink.frame before.output) (sink.frame after.output)
+  IsAnnounced (Err another) = ⊥
 
--- What a server that opened its store has said, and what became of its door, which was opened at
--- this port where connections were served. Where there was no memory to begin with, it said
--- nothing, and the door is as it was.
-abbrev pub Speaks : {O : Type 0} → SinkGhosts O → ℕ → OutputDoor O → OutputDoor O
-    → Result ServerEnd Fault → Type 0
-Speaks sink port before after (Ok end) = Met before.door.frame after.door.frame end.accepting
-    × (after.door.port ≡ Some port)
-    × Grows (sink.content before.output) (sink.content after.output) ready_line
-    × (sink.frame after.output ≡ sink.frame before.output)
-Speaks sink port before after (Err Memory) = after ≡ before
-Speaks sink port before after (Err why) = IsAnnounced {T = ⊤} sink port before after (Err why)
+  -- What a server that opened its store has said, and what became of its door, which was opened at
+  -- this port where connections were served. Where there was no memory to begin with, it said
+  -- nothing, and the door is as it was.
+  abbrev pub Speaks : Result ServerEnd Fault → Type 0
+  Speaks (Ok end) = Met before.door.frame after.door.frame end.accepting
+      × (after.door.port ≡ Some port)
+      × Grows (sink.content before.output) (sink.content after.output) ready_line
+      × (sink.frame after.output ≡ sink.frame before.output)
+  Speaks (Err Memory) = after ≡ before
+  Speaks (Err why) = IsAnnounced {T = ⊤} (Err why)
 
 -- connections of a door were served along a pass, so many at most, and accepting came to this
 abbrev pub AreServedAlongPass : ℕ → DoorSeen → DoorSeen → Known → Result ⊤ Failed → Type 0
@@ -129,31 +127,29 @@ pub record IsMadeAlong (made : ServerProgress) (pass : Known) (faults : ℕ) : T
   pub own : HasPlaces (length made.since) (length made.history) pass.own
   pub met : (pass.faults ≤ faults) ⊎ (end_of_count ≤ faults)
 
--- Connections were served along a pass, and its entries are in the journal, which is kept so. The
--- book is that of its history.
-pub record ServesDoorAlong (network : Network) (IsKept : ServerProgress → Result ⊤ Failed → Type 0)
-    (faults : ℕ) (Along : Known → Type 0) (end : ServerEnd) : Type 0 where
-  pub since : List Entry
-  pub history : List Entry
-  pub pass : Known
-  pub kept : IsKept (from_to network since history) end.closing
-  pub along : IsMadeAlong (from_to network since history) pass faults
-  pub served : Along pass
-  pub is : IsLedgerOf network 0 history end.book
+module _ (network : Network) (IsKept : ServerProgress → Result ⊤ Failed → Type 0) where
+  -- Connections were served along a pass, and its entries are in the journal, which is kept so. The
+  -- book is that of its history.
+  pub record ServesDoorAlong (faults : ℕ) (Along : Known → Type 0) (end : ServerEnd) : Type 0 where
+    pub since : List Entry
+    pub history : List Entry
+    pub pass : Known
+    pub kept : IsKept (from_to network since history) end.closing
+    pub along : IsMadeAlong (from_to network since history) pass faults
+    pub served : Along pass
+    pub is : IsLedgerOf network 0 history end.book
 
--- The journal was opened and closed, and stands for what it stood for.
-pub record StaysAsRead (network : Network) (IsKept : ServerProgress → Result ⊤ Failed → Type 0) :
-    Type 0 where
-  pub since : List Entry
-  pub closing : Result ⊤ Failed
-  pub kept : IsKept (from_to network since since) closing
+  -- The journal was opened and closed, and stands for what it stood for.
+  pub record StaysAsRead : Type 0 where
+    pub since : List Entry
+    pub closing : Result ⊤ Failed
+    pub kept : IsKept (from_to network since since) closing
 
--- what serving by a store that was opened comes to: connections were served, or nothing was entered
-abbrev pub ServesBook : Network → (ServerProgress → Result ⊤ Failed → Type 0) → ℕ
-    → (Known → Result ⊤ Failed → Type 0) → Result ServerEnd Fault → Type 0
-ServesBook network IsKept faults Along (Ok end) =
-    ServesDoorAlong network IsKept faults (λ pass. Along pass end.accepting) end
-ServesBook network IsKept faults Along (Err why) = StaysAsRead network IsKept
+  -- what serving by a store that was opened comes to: connections were served, or nothing was
+  -- entered
+  abbrev pub ServesBook : ℕ → (Known → Result ⊤ Failed → Type 0) → Result ServerEnd Fault → Type 0
+  ServesBook faults Along (Ok end) = ServesDoorAlong faults (λ pass. Along pass end.accepting) end
+  ServesBook faults Along (Err why) = StaysAsRead
 
 -- ---- in a cabinet
 
@@ -170,10 +166,9 @@ module _ {I O C E : Type 0} (tells : Tellings I O C E) (name : List ℕ) (old ne
     pub decided : IsDecided made.network 0 (length made.since) made.history
     pub met : Met (object_of (tells.cabinet.frame old)) (object_of (tells.cabinet.frame new))
         closing
-    pub left : Has (tells.cabinet.frame old).tells (tells.cabinet.held old name) (λ was.
-        Has (tells.cabinet.frame new).tells (tells.cabinet.held new name) (λ left.
-        HasLeft tells.disk IsDecidedAt (tells.disk.may_leave was)
-        (opening_of tells.disk made.network made.since was) made.history left closing))
+    pub left : OfHeld tells.cabinet name old new (λ was left. HasLeft tells.disk IsDecidedAt
+        (tells.disk.may_leave was) (opening_of tells.disk made.network made.since was)
+        made.history left closing)
     pub none_oversold : (place l : ℕ)
         → ¬ IsOversold made.network (book_of 0 (take place made.history)) l
     pub held : (place : ℕ) → place ≤ length made.history

@@ -30,7 +30,6 @@ ghost use Rattle.std.specs.Prelude.{◌≡◌, None, map};
 ghost use Rattle.std.specs.String.{string_bytes};
 ghost use Rattle.hose_io.specs.Frame.{Stays};
 ghost use Rattle.hose_offline.specs.Parts.{AllStay, parts, tellings};
-ghost use Rattle.hose_offline.specs.steps.Parts.{KeepsAll, held};
 ghost use Rattle.hosed.specs.Hosed.{HosedOutcome};
 ghost use Rattle.hosed.specs.Offline.{OfflineOutcome, offer_of};
 ghost use Rattle.hosed.specs.ProgramWords.{AsksToServe};
@@ -160,57 +159,37 @@ pub fn offline<I: Source, O: Sink, C: Cabinet>(
         (parts input.old output.old cabinet.old) (parts input.new output.new cabinet.new) }
 {
     let mut outside = Outside::of(input, output, cabinet);
-    do_command(alloc, words, tariffs, &mut outside)
-}
-
-// Does what the words say with what is beside the program, where no customer is to be served.
-fn do_command<I: Source, O: Sink, C: Cabinet>(
-    alloc: Global,
-    words: &[String],
-    tariffs: &[Tariff],
-    outside: &mut Outside<'_, I, O, C>,
-) -> u8
-    requires none_out { (C.frame outside.old.cabinet.now).out ≡ None }
-    requires waits_for_nobody { ¬ AsksToServe (map string_bytes words.now) }
-    ensures outcome { OfflineOutcome (tellings I.Source O.Sink C.Cabinet C.Disk.Disk)
-        (offer_of ⟦<Tariff as Prices>⟧.prices (λ tariff. tariff.name) (λ tariff. tariff.base)
-        (λ tariff. tariff.per) tariffs.now)
-        (held outside.old) (held outside.new) result (map string_bytes words.now) }
-    ensures back { (C.frame outside.new.cabinet.now).out ≡ None }
-    ensures keeps { KeepsAll (tellings I.Source O.Sink C.Cabinet C.Disk.Disk)
-        outside.old outside.new }
-{
     match request_of(words, tariffs) {
         Ok(Request::Run { tariff, journal }) => {
             let by = costs_of(tariffs, tariff);
-            run(alloc, &by, journal, outside)
+            run(alloc, &by, journal, &mut outside)
         }
         Ok(Request::Audit(of)) => {
             let by = costs_of(tariffs, of.tariff);
-            audit(alloc, &by, of.names, outside)
+            audit(alloc, &by, of.names, &mut outside)
         }
-        Ok(Request::Generate(sizes)) => run_generated(alloc, sizes, outside),
+        Ok(Request::Generate(sizes)) => run_generated(alloc, sizes, &mut outside),
         Ok(Request::Prove { of, ends, first }) => {
             let by = costs_of(tariffs, of.tariff);
             let ends = EndWords { words: ends, first };
-            prove(alloc, &by, of.topology, ends, outside)
+            prove(alloc, &by, of.topology, ends, &mut outside)
         }
         Ok(Request::Check(of)) => {
             let by = costs_of(tariffs, of.tariff);
-            check(alloc, &by, of.topology, outside)
+            check(alloc, &by, of.topology, &mut outside)
         }
-        Ok(Request::Price { topology }) => price(alloc, tariffs, topology, outside),
+        Ok(Request::Price { topology }) => price(alloc, tariffs, topology, &mut outside),
         Ok(Request::Ship { of, from }) => {
             let by = costs_of(tariffs, of.tariff);
-            ship(alloc, &by, of.names, from, outside)
+            ship(alloc, &by, of.names, from, &mut outside)
         }
         Ok(Request::Follow(of)) => {
             let by = costs_of(tariffs, of.tariff);
-            follow(alloc, &by, of.names, outside)
+            follow(alloc, &by, of.names, &mut outside)
         }
         Ok(Request::Move { tariff, of }) => {
             let by = costs_of(tariffs, tariff);
-            move_journal(alloc, &by, of, outside)
+            move_journal(alloc, &by, of, &mut outside)
         }
         Err(wrong) => end(Err(Fault::Words(wrong)), outside.output),
     }

@@ -1,47 +1,49 @@
 // The commands of the program, by their first word.
-ghost use Rattle.std.specs.Prelude.{◌↔◌, IfNone, IfSome, IsTrue, map};
+ghost use Rattle.std.specs.Prelude.{◌≡◌, ◌↔◌, IfNone, IfSome, IsTrue, map};
 ghost use Rattle.std.specs.String.{string_bytes};
 ghost use Rattle.hosed.specs.ProgramWords.{AsksFor, AsksToServe};
+ghost use Rattle.hosed.specs.declared.verb.ProgramVerb.TheVariants as command;
 
 use hose_proto::{HasWord, with_word};
 
-/// What the first word of the program says is to be done, with the words that follow. Which options
-/// may stand between them is told by `program_line` of the definitions.
+/// What the first word of the program says is to be done, with the words that follow: each command's
+/// line of the usage text, in its order. A test of `tools/` compares both with `program_line` of the
+/// definitions.
 #[derive(Clone, Copy)]
 pub enum ProgramVerb {
-    /// `run [JOURNAL]`
+    /// `run [--tariff NAME] [JOURNAL] < FILE`
     Run,
-    /// `audit TOPOLOGY JOURNAL`
+    /// `audit [--tariff NAME] TOPOLOGY JOURNAL`
     Audit,
+    /// `serve [--tariff NAME] TOPOLOGY JOURNAL PORT CONNECTIONS WORKERS`
+    Serve,
+    /// `prove [--tariff NAME] TOPOLOGY NAME:RATE ..`
+    Prove,
+    /// `check [--tariff NAME] TOPOLOGY < CERTIFICATE`
+    Check,
+    /// `price TOPOLOGY < SHEET`
+    Price,
+    /// `ship [--tariff NAME] TOPOLOGY JOURNAL FROM > PACKETS`
+    Ship,
+    /// `follow [--tariff NAME] TOPOLOGY JOURNAL < PACKETS`
+    Follow,
+    /// `move [--tariff NAME] [--live] TOPOLOGY JOURNAL NEW_TOPOLOGY NEW_JOURNAL`
+    Move,
     /// `gen SEED NODES LINKS HOSES`
     Generate,
-    /// `prove TOPOLOGY NAME:RATE ..`
-    Prove,
-    /// `check TOPOLOGY`
-    Check,
-    /// `price TOPOLOGY`
-    Price,
-    /// `ship TOPOLOGY JOURNAL FROM`
-    Ship,
-    /// `follow TOPOLOGY JOURNAL`
-    Follow,
-    /// `move [--live] TOPOLOGY JOURNAL NEW_TOPOLOGY NEW_JOURNAL`
-    Move,
-    /// `serve TOPOLOGY JOURNAL PORT CONNECTIONS WORKERS`
-    Serve,
 }
 
 const PROGRAM_VERBS: [ProgramVerb; 10] = [
     ProgramVerb::Run,
     ProgramVerb::Audit,
-    ProgramVerb::Generate,
+    ProgramVerb::Serve,
     ProgramVerb::Prove,
     ProgramVerb::Check,
     ProgramVerb::Price,
     ProgramVerb::Ship,
     ProgramVerb::Follow,
     ProgramVerb::Move,
-    ProgramVerb::Serve,
+    ProgramVerb::Generate,
 ];
 
 impl HasWord for ProgramVerb {
@@ -53,14 +55,14 @@ impl HasWord for ProgramVerb {
         match self {
             ProgramVerb::Run => b"run",
             ProgramVerb::Audit => b"audit",
-            ProgramVerb::Generate => b"gen",
+            ProgramVerb::Serve => b"serve",
             ProgramVerb::Prove => b"prove",
             ProgramVerb::Check => b"check",
             ProgramVerb::Price => b"price",
             ProgramVerb::Ship => b"ship",
             ProgramVerb::Follow => b"follow",
             ProgramVerb::Move => b"move",
-            ProgramVerb::Serve => b"serve",
+            ProgramVerb::Generate => b"gen",
         }
     }
 }
@@ -77,12 +79,19 @@ pub fn verb_of(words: &[String]) -> Option<ProgramVerb>
     }
 }
 
-/// Whether the first word is `serve`.
+/// Whether the first word is that of a server.
 pub fn asks_to_serve(words: &[String]) -> bool
     ensures { IsTrue result ↔ AsksToServe (map string_bytes words.now) }
 {
-    match words {
-        [first, ..] => first.as_str() == "serve",
-        [] => false,
+    match verb_of(words) {
+        Some(verb) => is_serve(verb),
+        None => false,
     }
+}
+
+// Whether a command is to serve.
+fn is_serve(verb: ProgramVerb) -> bool
+    ensures { IsTrue result ↔ (verb ≡ command.Serve) }
+{
+    matches!(verb, ProgramVerb::Serve)
 }

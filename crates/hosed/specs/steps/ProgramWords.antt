@@ -15,41 +15,31 @@ use Rattle.hosed.specs.ProgramWords.{AreWords, Task, first_end}
 abbrev pub journal_task : OfJournal → Task command.Audit
 journal_task of = (of.tariff, of.names.topology.now, (of.names.journal.now, tt))
 
--- the words are those of this request
-abbrev pub AreWordsOf : List (List ℕ) → List (List ℕ) → Request → Type 0
-AreWordsOf names words (Run tariff journal) =
-    AreWords names words command.Run (tariff, option_map (λ name. name.now) journal)
-AreWordsOf names words (Audit of) = AreWords names words command.Audit (journal_task of)
-AreWordsOf names words (Generate sizes) = AreWords names words command.Generate
-    (sizes.seed, (sizes.nodes, (sizes.links, (sizes.hoses, tt))))
-AreWordsOf names words (Prove of ends first) = AreWords names words command.Prove
-    (of.tariff, of.topology.now, map string_bytes ends.now) × (first ≡ first_end of.tariff)
-AreWordsOf names words (Check of) =
-    AreWords names words command.Check (of.tariff, of.topology.now, tt)
-AreWordsOf names words (Price topology) =
-    AreWords names words command.Price (tt {0}, topology.now, tt)
-AreWordsOf names words (Ship of from) = AreWords names words command.Ship
-    (of.tariff, of.names.topology.now, (of.names.journal.now, (from, tt)))
-AreWordsOf names words (Follow of) = AreWords names words command.Follow (journal_task of)
-AreWordsOf names words (Move tariff of) = AreWords names words command.Move (
-  (tariff, of.live),
-  of.from.topology.now,
-  (of.from.journal.now, (of.to.topology.now, (of.to.journal.now, tt))),
-)
+module _ (names words : List (List ℕ)) where
+  -- the words are those of this request
+  abbrev pub AreWordsOf : Request → Type 0
+  AreWordsOf (Run tariff journal) =
+      AreWords names words command.Run (tariff, option_map (λ name. name.now) journal)
+  AreWordsOf (Audit of) = AreWords names words command.Audit (journal_task of)
+  AreWordsOf (Generate sizes) = AreWords names words command.Generate
+      (sizes.seed, (sizes.nodes, (sizes.links, (sizes.hoses, tt))))
+  AreWordsOf (Prove of ends first) = AreWords names words command.Prove
+      (of.tariff, of.topology.now, map string_bytes ends.now) × (first ≡ first_end of.tariff)
+  AreWordsOf (Check of) = AreWords names words command.Check (of.tariff, of.topology.now, tt)
+  AreWordsOf (Price topology) = AreWords names words command.Price (tt {0}, topology.now, tt)
+  AreWordsOf (Ship of from) = AreWords names words command.Ship
+      (of.tariff, of.names.topology.now, (of.names.journal.now, (from, tt)))
+  AreWordsOf (Follow of) = AreWords names words command.Follow (journal_task of)
+  AreWordsOf (Move tariff of) = AreWords names words command.Move (
+    (tariff, of.live),
+    of.from.topology.now,
+    (of.from.journal.now, (of.to.topology.now, (of.to.journal.now, tt))),
+  )
 
 -- what a server is to do
 abbrev pub task_of : ServeRequest → Task command.Serve
-task_of request = (
-  request.tariff,
-  request.topology.now,
-  (
-    request.journal.now,
-    (
-      request.port,
-      (request.connections, (request.workers, tt)),
-    ),
-  ),
-)
+task_of of =
+    (of.tariff, of.topology.now, (of.journal.now, (of.port, (of.connections, (of.workers, tt)))))
 
 -- the words are those of a server
 abbrev pub AreServeWords : List (List ℕ) → List (List ℕ) → ServeRequest → Type 0

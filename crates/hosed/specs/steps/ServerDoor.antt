@@ -42,34 +42,27 @@ door_beside outside door = record { others = held outside; door = door }
 
 -- ---- the store that is shared
 
--- the store was just opened on a disk, which stood for this history as it was read
-pub record IsOpening {E : Type 0} (disk : DiskGhosts E) (was : E) (network : Network)
-    (since : List Entry) (store : KeptStore E) : Type 0 where
-  pub read : IfSome (disk.content was) (IsHistoryOf network since)
-  pub stands : StandsFor disk IsDecidedAt (disk.may_leave was) (opening_of disk network since was)
-      since store
+module _ {E : Type 0} (disk : DiskGhosts E) where
+  -- A store was just opened on a disk that had these images and this content at this moment, and
+  -- stood for this history.
+  pub record OpensAt (Had : List ℕ → Type 0) (content : Option (List ℕ)) (moment : ℕ)
+      (network : Network) (since : List Entry) (store : KeptStore E) : Type 0 where
+    pub read : IfSome content (IsHistoryOf network since)
+    pub stands : StandsFor disk IsDecidedAt Had
+        (record { since = since; network = network; moment = moment; tells = is_some content })
+        since store
 
--- A store was just opened on a disk that had these images and this content at this moment, and
--- stood for this history.
-pub record OpensAt {E : Type 0} (disk : DiskGhosts E) (Had : List ℕ → Type 0)
-    (content : Option (List ℕ)) (moment : ℕ) (network : Network) (since : List Entry)
-    (store : KeptStore E) : Type 0 where
-  pub read : IfSome content (IsHistoryOf network since)
-  pub stands : StandsFor disk IsDecidedAt Had (record {
-    since = since;
-    network = network;
-    moment = moment;
-    tells = is_some content;
-  }) since store
+  -- the store was just opened on a disk, which stood for this history as it was read
+  abbrev pub IsOpening : E → Network → List Entry → KeptStore E → Type 0
+  IsOpening was = OpensAt (disk.may_leave was) (disk.content was) (disk.moment was)
 
--- A store was closed, which left the disk so and came to this. Where the store stood for a history,
--- the disk is left with it.
-pub record IsClosedOn {E : Type 0} (disk : DiskGhosts E) (store : KeptStore E) (left : E)
-    (closing : Result ⊤ Failed) : Type 0 where
-  pub call : IsCalled (disk.frame store.journal.disk) (disk.frame left) closing
-  pub leaves : (was : E) (beginning : Beginning) (history : List Entry)
-      → StandsFor disk IsDecidedAt (disk.may_leave was) beginning history store
-      → HasLeft disk IsDecidedAt (disk.may_leave was) beginning history left closing
+  -- A store was closed, which left the disk so and came to this. Where the store stood for a
+  -- history, the disk is left with it.
+  pub record IsClosedOn (store : KeptStore E) (left : E) (closing : Result ⊤ Failed) : Type 0 where
+    pub call : IsCalled (disk.frame store.journal.disk) (disk.frame left) closing
+    pub leaves : (was : E) (beginning : Beginning) (history : List Entry)
+        → StandsFor disk IsDecidedAt (disk.may_leave was) beginning history store
+        → HasLeft disk IsDecidedAt (disk.may_leave was) beginning history left closing
 
 -- ---- on a disk
 
@@ -92,12 +85,13 @@ ServesByStore disk was left network Along came =
 
 -- ---- in a cabinet
 
--- No store was opened on the journal, which is told why, and nothing was said; or one was.
-abbrev pub ServesConnections : {I O C E : Type 0} → Tellings I O C E → List ℕ → DoorTask
-    → OutsideDoor I O C → OutsideDoor I O C → Network → Result ServerEnd Fault → Type 0
-ServesConnections tells name task before after network came =
-    ((why : Fault) × (came ≡ Err why) × IsNotServed tells.cabinet tells.disk name
-    before.others.cabinet after.others.cabinet network (Err why) × (spoken after ≡ spoken before))
-    ⊎ (ServesByJournal tells name before.others.cabinet after.others.cabinet network
-    (AreServedAlongPass task.connections before.door after.door) came
-    × Speaks tells.sink task.port (spoken before) (spoken after) came)
+module _ {I O C E : Type 0} (tells : Tellings I O C E) (name : List ℕ) (task : DoorTask)
+    (before after : OutsideDoor I O C) (network : Network) where
+  -- No store was opened on the journal, which is told why, and nothing was said; or one was.
+  abbrev pub ServesConnections : Result ServerEnd Fault → Type 0
+  ServesConnections came = ((why : Fault) × (came ≡ Err why)
+      × IsNotServed tells.cabinet tells.disk name before.others.cabinet after.others.cabinet network
+      (Err why) × (spoken after ≡ spoken before))
+      ⊎ (ServesByJournal tells name before.others.cabinet after.others.cabinet network
+      (AreServedAlongPass task.connections before.door after.door) came
+      × Speaks tells.sink task.port (spoken before) (spoken after) came)

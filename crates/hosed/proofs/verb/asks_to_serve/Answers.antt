@@ -1,15 +1,18 @@
-use Rattle.std.proofs.Common.{◌∙◌, sym}
-use Rattle.std.specs.Prelude.{codes}
+use Rattle.std.proofs.Common.{map, subst}
 use Rattle.std.specs.String.{string_bytes}
-use Rattle.std.proofs.lemmas.Slice.Eq.{bytes_eq-Decides}
-use Rattle.hosed.proofs.Commands.{first_and_rest}
+use Rattle.hosed.specs.ProgramWords.{AsksFor}
+use Rattle.hosed.specs.declared.verb.ProgramVerb.{ProgramVerb}
+use Rattle.hosed.specs.declared.verb.ProgramVerb.TheVariants as command
+use Rattle.hosed.proofs.Commands.{one_verb}
 use Rattle.hosed.proofs.verb.asks_to_serve.Goals as goal
 
-pub returns-in-len1-up : goal.returns-in-len1-up
-returns-in-len1-up c =
-    let decides = bytes_eq-Decides c.as_str.result.now (codes "serve") in
-    let is = first_and_rest string_bytes c.args.words.now c.first-item.result c.in-len1-up.len_at_least c.first-item.is in
-    rw is (
-      (λ yes. sym c.as_str.ensures.value ∙ decides.0 (sym c.eq.ensures ∙ yes)),
-      (λ asks. c.eq.ensures ∙ decides.1 (c.as_str.ensures.value ∙ asks)),
+pub returns-in-Some : goal.returns-in-Some
+returns-in-Some c =
+    let words = map string_bytes c.args.words.now in
+    let told = c.in-Some.ensures.some in (
+      (λ yes. subst (λ (verb : ProgramVerb). AsksFor verb words) (c.is_serve.ensures.0 yes) told),
+      (λ asks. c.is_serve.ensures.1 (one_verb c.in-Some.verb command.Serve words told asks)),
     )
+
+pub returns-in-None : goal.returns-in-None
+returns-in-None c = ((λ yes. absurd (cc yes)), (λ asks. absurd (c.in-None.ensures.none command.Serve asks)))
