@@ -39,8 +39,8 @@ sys.path.insert(0, os.path.join(TOP, "tools"))
 import definitions  # noqa: E402
 import rust_source  # noqa: E402
 
-NOT_PRODUCT = ("cases_common", "cases_parts", "cases_plans", "cases_disks", "cases_program",
-               "cases_words", "tests_threads")
+NOT_PRODUCT = ("cases_common", "cases_files", "cases_stage", "cases_parts", "cases_plans",
+               "cases_disks", "cases_program", "cases_words", "tests_threads")
 PARTS = definitions.ENDINGS
 CRATES = definitions.crates_of(TOP)
 PRODUCT = [crate for crate in CRATES if crate not in NOT_PRODUCT]

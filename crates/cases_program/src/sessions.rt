@@ -2,31 +2,21 @@
 ghost use Rattle.std.specs.Prelude.{◌≡◌, IfOk};
 ghost use Rattle.hose_shared.specs.steps.Sharing.{IsPassOf, IsSamePass};
 
-use crate::case::{Case, Connection};
-use crate::run::{Outcome, disk_of, sink_of, source_of};
-use crate::streams::{LongSource, NarrowSink};
-use crate::trouble::Trouble;
+use cases_files::{Case, Connection, Trouble};
+use cases_stage::{Ends, LongSource, NarrowSink, Outcome, disk_of, ends_of, network_of, peer_ends};
 use hose_disk::MemDisk;
-use hose_io::{MemSink, MemSource, Sink, Source};
+use hose_graph::Topology;
+use hose_io::{Sink, Source};
 use hose_paths::PlainRows;
 use hose_pool::PlainGate;
 use hose_session::{Session, SessionEnd, serve_session};
 use hose_shared::{AnyStore, Context, Shared};
 use hose_store::Store;
-use hose_topo::read;
 use hose_turn::{ALL_SHARES, Pass};
-use hose_words::LineReader;
 use std::alloc::{AllocError, Global};
 use std::sync::Wait;
 
 pub type Book = Shared<MemDisk, AnyStore>;
-
-/// The two ends of a session.
-#[derive(Drop)]
-pub struct Ends<S: Source, O: Sink> {
-    pub source: S,
-    pub sink: O,
-}
 
 /// Serves the session of a case, after that of its first connection if it has one. One more call of
 /// the output fails, if its number is not 0.
@@ -36,22 +26,21 @@ pub fn run_session<W: Wait>(
     case: &Case,
     cut: u64,
 ) -> Result<Outcome, Trouble> {
-    let mut ends = ends_of(alloc, case, cut)?;
     let mut outcome = Outcome::new(alloc, 0, None);
-    serve_case(rt, alloc, case, &mut ends, &mut outcome)?;
-    outcome.taken = ends.source.taken();
-    outcome.output.extend_from_slice(ends.sink.bytes())?;
+    serve_ends(rt, alloc, case, cut, &mut outcome)?;
     Ok(outcome)
 }
 
-fn ends_of(
+fn serve_ends<W: Wait>(
+    rt: &W,
     alloc: Global,
     case: &Case,
     cut: u64,
-) -> Result<Ends<LongSource, NarrowSink>, AllocError> {
-    let source = source_of(alloc, case)?;
-    let sink = sink_of(alloc, &case.output, cut)?;
-    Ok(Ends { source, sink })
+    outcome: &mut Outcome,
+) -> Result<(), Trouble> {
+    let mut ends = ends_of(alloc, case, cut)?;
+    serve_case(rt, alloc, case, &mut ends, outcome)?;
+    Ok(outcome.tell_ends(&ends)?)
 }
 
 fn serve_case<W: Wait>(
@@ -62,18 +51,11 @@ fn serve_case<W: Wait>(
     outcome: &mut Outcome,
 ) -> Result<(), Trouble> {
     let (book, pass) = share(alloc, case)?;
-    let pass = serve_before(
-        rt,
-        alloc,
-        &case.door.connections,
-        &book,
-        pass,
-        &mut outcome.given,
-    )?;
+    let (before, pass) = serve_before(rt, alloc, case, &book, pass, outcome);
     let (end, pass) = serve(rt, alloc, ends, &book, pass);
     outcome.status = status_of(end);
     outcome.disk = Some(close(book, pass)?);
-    Ok(())
+    Ok(before?)
 }
 
 // The status that stands for the end of a session: where one comes of the same in the program, its.
@@ -93,11 +75,15 @@ pub fn share(alloc: Global, case: &Case) -> Result<(Book, Pass), Trouble>
     ensures of { IfOk result (λ made. IsPassOf made.0 made.1) }
     ensures share { IfOk result (λ made. made.1.share ≡ ALL_SHARES) }
 {
-    let source = MemSource::new(alloc, &case.text, 4_096)?;
-    let Ok(top) = read(alloc, &mut LineReader::new(source)) else {
-        return Err(Trouble::Opening);
-    };
-    match Store::open(alloc, disk_of(alloc, &case.journal)?, top) {
+    let disk = disk_of(alloc, &case.journal)?;
+    share_on(alloc, disk, network_of(alloc, case)?)
+}
+
+fn share_on(alloc: Global, disk: MemDisk, top: Topology) -> Result<(Book, Pass), Trouble>
+    ensures of { IfOk result (λ made. IsPassOf made.0 made.1) }
+    ensures share { IfOk result (λ made. made.1.share ≡ ALL_SHARES) }
+{
+    match Store::open(alloc, disk, top) {
         Ok(store) => Ok(Shared::new(alloc, store)?),
         Err(_) => Err(Trouble::Opening),
     }
@@ -115,27 +101,42 @@ pub fn close(book: Book, pass: Pass) -> Result<MemDisk, Trouble>
     Ok(disk)
 }
 
-// Serves the first of these, and adds what it is given.
+// Serves the first connection of a case, if it has one, and tells what it is given.
 fn serve_before<W: Wait>(
     rt: &W,
     alloc: Global,
-    connections: &[Connection],
+    case: &Case,
     book: &Book,
     pass: Pass,
-    given: &mut Vec<Vec<u8>>,
-) -> Result<Pass, Trouble>
+    outcome: &mut Outcome,
+) -> (Result<(), AllocError>, Pass)
     requires { IsPassOf book.now pass }
-    ensures { IfOk result (IsSamePass pass) }
+    ensures { IsSamePass pass result.1 }
 {
-    let Some(connection) = connections.first() else {
-        return Ok(pass);
-    };
-    let source = MemSource::new(alloc, &connection.bytes, 4_096)?;
-    let sink = MemSink::new(alloc)?;
-    let mut ends = Ends { source, sink };
-    let (_, pass) = serve(rt, alloc, &mut ends, book, pass);
-    given.push(Vec::from_slice(alloc, ends.sink.bytes())?)?;
-    Ok(pass)
+    match case.door.connections.first() {
+        Some(connection) => serve_peer(rt, alloc, connection, book, pass, outcome),
+        None => (Ok(()), pass),
+    }
+}
+
+fn serve_peer<W: Wait>(
+    rt: &W,
+    alloc: Global,
+    connection: &Connection,
+    book: &Book,
+    pass: Pass,
+    outcome: &mut Outcome,
+) -> (Result<(), AllocError>, Pass)
+    requires { IsPassOf book.now pass }
+    ensures { IsSamePass pass result.1 }
+{
+    match peer_ends(alloc, connection) {
+        Ok(mut ends) => {
+            let (_, pass) = serve(rt, alloc, &mut ends, book, pass);
+            (outcome.add_given(alloc, ends.sink.bytes()), pass)
+        }
+        Err(error) => (Err(error), pass),
+    }
 }
 
 /// Serves a session.

@@ -2,7 +2,7 @@
 use crate::case::Case;
 use crate::line::Line;
 use crate::trouble::Trouble;
-use std::alloc::Global;
+use std::alloc::{AllocError, Global};
 
 /// Where a file of cases is refused, and why.
 #[derive(Drop)]
@@ -16,7 +16,7 @@ pub struct Refusal {
 pub fn read_cases(alloc: Global, text: &str) -> Result<Vec<Case>, Refusal> {
     let mut head = Head {
         lines: Vec::new(alloc),
-        case: Case::new(alloc),
+        case: Case::new(alloc, String::new(alloc)),
     };
     let mut cases = Vec::new(alloc);
     let mut last = 0;
@@ -41,6 +41,14 @@ struct Head<'a> {
     case: Case,
 }
 
+impl<'a> Head<'a> {
+    fn add(&mut self, alloc: Global, line: &'a str, read: Line<'_>) -> Result<(), Trouble> {
+        self.case.add(alloc, read)?;
+        self.lines.push(line)?;
+        Ok(())
+    }
+}
+
 // Reads a line of the file. What it says goes to the last case, or to all where there is none yet.
 fn read_line<'a>(
     alloc: Global,
@@ -48,35 +56,41 @@ fn read_line<'a>(
     cases: &mut Vec<Case>,
     line: &'a str,
 ) -> Result<(), Trouble> {
-    let read = Line::read(line)?;
-    if let Line::Case(name) = read {
-        end_case(cases)?;
-        cases.push(begin(alloc, &head.lines, name)?)?;
-        return Ok(());
-    }
-    match cases.last_mut() {
-        Some(case) => case.add(alloc, read),
-        None => {
-            head.case.add(alloc, read)?;
-            head.lines.push(line)?;
-            Ok(())
-        }
+    match Line::read(line)? {
+        Line::Case(name) => begin(alloc, &head.lines, cases, name),
+        read => match cases.last_mut() {
+            Some(case) => case.add(alloc, read),
+            None => head.add(alloc, line, read),
+        },
     }
 }
 
-// A case of this name, with what the lines say that hold for all.
-fn begin(alloc: Global, lines: &[&str], name: &str) -> Result<Case, Trouble> {
-    let mut case = Case::new(alloc);
-    case.name = String::from_str(alloc, name)?;
-    add_lines(alloc, &mut case, lines)?;
-    Ok(case)
+// Begins a case of this name after the last one, with what the lines say that hold for all.
+fn begin(alloc: Global, lines: &[&str], cases: &mut Vec<Case>, name: &str) -> Result<(), Trouble> {
+    end_case(cases)?;
+    add_case(alloc, cases, name)?;
+    match cases.last_mut() {
+        Some(case) => add_lines(alloc, case, lines),
+        None => Ok(()),
+    }
+}
+
+fn add_case(alloc: Global, cases: &mut Vec<Case>, name: &str) -> Result<(), AllocError> {
+    let name = String::from_str(alloc, name)?;
+    cases.push(Case::new(alloc, name))?;
+    Ok(())
 }
 
 fn add_lines(alloc: Global, case: &mut Case, lines: &[&str]) -> Result<(), Trouble> {
     for line in lines {
-        case.add(alloc, Line::read(line)?)?;
+        add_line(alloc, case, line)?;
     }
     Ok(())
+}
+
+fn add_line(alloc: Global, case: &mut Case, line: &str) -> Result<(), Trouble> {
+    let read = Line::read(line)?;
+    case.add(alloc, read)
 }
 
 // Refuses a last case that says nothing of what must come of it.

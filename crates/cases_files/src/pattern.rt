@@ -1,6 +1,7 @@
 // A line of bytes by a short rule: how often it comes, whether a line feed ends it, and what stands
 // in braces.
 use crate::trouble::Trouble;
+use cases_common::first;
 use itoa::Buffer;
 
 /// What stands after `<`, `>` or `=` in a case file.
@@ -15,15 +16,11 @@ impl<'a> Pattern<'a> {
     /// Reads ` TEXT`, `20001 TEXT`, `. TEXT` or `20001. TEXT`. The text may be left out, and
     /// then the space before it too.
     pub fn read(rest: &'a str) -> Result<Pattern<'a>, Trouble> {
-        let (rule, text) = rest.split_once(' ').unwrap_or((rest, ""));
-        let (times, ends_line) = match rule.strip_suffix('.') {
-            Some(times) => (times, false),
-            None => (rule, true),
-        };
-        let times = if times.is_empty() { 1 } else { number(times)? };
+        let (rule, text) = first(rest);
+        let times = rule.strip_suffix('.');
         Ok(Pattern {
-            times,
-            ends_line,
+            times: times_of(times.unwrap_or(rule))?,
+            ends_line: times.is_none(),
             text,
         })
     }
@@ -38,6 +35,13 @@ impl<'a> Pattern<'a> {
         }
         Ok(())
     }
+}
+
+fn times_of(digits: &str) -> Result<u64, Trouble> {
+    if digits.is_empty() {
+        return Ok(1);
+    }
+    number(digits)
 }
 
 /// The number that these digits write.

@@ -1,8 +1,15 @@
 // The streams of a case: those in memory, with more bytes than are stored, and in pieces.
 ghost use Rattle.std.specs.Prelude.{◌≤◌, None};
 
-use crate::case::Piece;
+use cases_files::Piece;
 use hose_io::{Failed, MemSink, MemSource, Sink, Source};
+
+/// The two ends of a session.
+#[derive(Drop)]
+pub struct Ends<S: Source, O: Sink> {
+    pub source: S,
+    pub sink: O,
+}
 
 /// A source in memory, and after its bytes a text again and again, as long as bytes are left.
 #[derive(Drop)]

@@ -1,10 +1,10 @@
 // A case: one call of the server, and what must come of it.
 ghost use Rattle.std.specs.Prelude.{◌≡◌, ◌≤◌, ◌↔◌, IfOk, IsErr};
 
-use crate::line::Line;
+use crate::line::{Line, Place};
 use crate::pattern::{Pattern, number};
 use crate::trouble::Trouble;
-use cases_common::disk_call;
+use cases_common::{disk_call, first};
 use hose_disk::DiskCall;
 use std::alloc::{AllocError, Global};
 
@@ -300,10 +300,10 @@ impl Wanted {
 }
 
 impl Case {
-    /// A case without a name, of which no line is read yet.
-    pub fn new(alloc: Global) -> Case {
+    /// A case of which no line is read yet.
+    pub fn new(alloc: Global, name: String) -> Case {
         Case {
-            name: String::new(alloc),
+            name,
             call: Call::Program,
             words: Vec::new(alloc),
             input: Input::new(alloc),
@@ -323,20 +323,31 @@ impl Case {
     pub fn add(&mut self, alloc: Global, line: Line<'_>) -> Result<(), Trouble> {
         match line {
             Line::Nothing | Line::Case(_) => Ok(()),
-            Line::Input(pattern) => pattern.add_to(&mut self.input.bytes),
-            Line::Text(pattern) => pattern.add_to(&mut self.text),
-            Line::NewText(pattern) => pattern.add_to(&mut self.moved.text),
-            Line::Says(nth, pattern) => self.door.add_said(alloc, nth, pattern),
-            Line::Book(nth, pattern) => { add_audited(alloc, &mut self.wanted.books, nth, pattern) }
-            Line::Output(pattern) => {
+            Line::Bytes(place, pattern) => self.add_bytes(alloc, place, pattern),
+            Line::Setting(word, rest) => self.set(alloc, word, rest),
+        }
+    }
+
+    fn add_bytes(
+        &mut self,
+        alloc: Global,
+        place: Place,
+        pattern: Pattern<'_>,
+    ) -> Result<(), Trouble> {
+        match place {
+            Place::Input => pattern.add_to(&mut self.input.bytes),
+            Place::Text => pattern.add_to(&mut self.text),
+            Place::NewText => pattern.add_to(&mut self.moved.text),
+            Place::Says(nth) => self.door.add_said(alloc, nth, pattern),
+            Place::Book(nth) => add_audited(alloc, &mut self.wanted.books, nth, pattern),
+            Place::Output => {
                 self.wanted.is_said = true;
                 pattern.add_to(&mut self.output.bytes)
             }
-            Line::Told(nth, pattern) => {
+            Place::Told(nth) => {
                 self.wanted.is_said = true;
                 self.door.add_told(alloc, nth, pattern)
             }
-            Line::Setting(word, rest) => self.set(alloc, word, rest),
         }
     }
 
@@ -433,18 +444,19 @@ fn add_audited(
 
 // The stops of a line: the first and the last number of calls, and the numbers of books.
 fn stop_of(alloc: Global, rest: &str) -> Result<Stop, Trouble> {
-    let (from, rest) = rest.split_once(' ').unwrap_or((rest, ""));
-    let (to, books) = rest.split_once(' ').unwrap_or((rest, ""));
+    let (from, rest) = first(rest);
+    let (to, books) = first(rest);
+    let books = calls_of(alloc, books)?;
     Ok(Stop {
         from: number(from)?,
         to: number(to)?,
-        books: calls_of(alloc, books)?,
+        books,
     })
 }
 
 // Has a call of a connection fail. The words are the numbers of both.
 fn set_failing(connections: &mut [Connection], rest: &str) -> Result<(), Trouble> {
-    let (connection, call) = rest.split_once(' ').unwrap_or((rest, ""));
+    let (connection, call) = first(rest);
     let (nth, call) = (number(connection)?, number(call)?);
     match connections.get_mut(nth.wrapping_sub(1) as usize) {
         Some(connection) => {
@@ -493,7 +505,7 @@ fn add_disk_calls(
     failing: &mut Vec<(DiskCall, u64)>,
     rest: &str,
 ) -> Result<(), Trouble> {
-    let (kind, numbers) = rest.split_once(' ').unwrap_or((rest, ""));
+    let (kind, numbers) = first(rest);
     let kind = disk_call(kind).ok_or(Trouble::Kind)?;
     for nth in &calls_of(alloc, numbers)? {
         failing.push((kind, *nth))?;

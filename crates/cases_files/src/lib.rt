@@ -1,0 +1,14 @@
+//! What files of cases say: the cases of a file, what must come of each, and why a file is refused.
+//! `cases_stage` runs them, and compares what comes of them. It promises nothing. The file
+//! `data/README.md` of `cases_program` describes the files.
+#![tactic(auto)]
+
+mod case;
+mod file;
+mod line;
+mod pattern;
+mod trouble;
+
+pub use case::{Call, Case, Connection, Door, Input, Journal, Moved, Output, Piece, Stop, Wanted};
+pub use file::{Refusal, read_cases};
+pub use trouble::Trouble;

@@ -1,0 +1,285 @@
+// What came of a case beside what must come of it.
+ghost use Rattle.std.specs.Prelude.{◌≤◌, length};
+
+use crate::outcome::Outcome;
+use crate::places::{admitted, never_go_back};
+use crate::running::Runs;
+use crate::stops::{cuts_that_differ, epoch_of, stops_that_differ, topology_of};
+use cases_common::Told;
+use cases_files::{Call, Case, Trouble};
+use std::alloc::{AllocError, Global};
+
+// How many bytes of an output are shown, and how many of them stand before the first that differs.
+const SHOWN: usize = 72;
+
+const BEFORE: usize = 24;
+
+/// Runs a case, and gives a line for each thing that is not as it says.
+pub fn differences<C: Runs>(runs: &C, alloc: Global, case: &Case) -> Result<String, Trouble> {
+    let mut told = Told::new(alloc);
+    add_differences(runs, alloc, &mut told, case)?;
+    Ok(told.finish()?)
+}
+
+fn add_differences<C: Runs>(
+    runs: &C,
+    alloc: Global,
+    told: &mut Told,
+    case: &Case,
+) -> Result<(), Trouble> {
+    add_run(runs, alloc, told, case)?;
+    let lost = cuts_that_differ(runs, alloc, case)?;
+    add_lost(alloc, told, lost, "failed calls something else comes");
+    Ok(())
+}
+
+fn add_run<C: Runs>(runs: &C, alloc: Global, told: &mut Told, case: &Case) -> Result<(), Trouble> {
+    let mut outcome = runs.run(alloc, case, 0)?;
+    add_outcome(runs, alloc, told, case, &mut outcome)
+}
+
+// Adds what is otherwise in what came of a case.
+fn add_outcome<C: Runs>(
+    runs: &C,
+    alloc: Global,
+    told: &mut Told,
+    case: &Case,
+    outcome: &mut Outcome,
+) -> Result<(), Trouble> {
+    add_numbers(alloc, told, case, outcome);
+    add_output(alloc, told, case, outcome);
+    add_rules(alloc, told, case, &outcome.given)?;
+    add_given(alloc, told, case, &outcome.given);
+    add_stops(runs, alloc, told, case, outcome)?;
+    add_journal(runs, alloc, told, case, outcome)
+}
+
+// Adds how many stops or failed calls lost something, if any did.
+fn add_lost(alloc: Global, told: &mut Told, lost: u64, what: &str) {
+    if lost > 0 {
+        told.add(format!(in alloc; "after {lost} {what}\n"));
+    }
+}
+
+// Adds how many stops leave another book than one of those that are wanted.
+fn add_stops<C: Runs>(
+    runs: &C,
+    alloc: Global,
+    told: &mut Told,
+    case: &Case,
+    outcome: &Outcome,
+) -> Result<(), Trouble> {
+    let Some(disk) = &outcome.disk else {
+        return Ok(());
+    };
+    let lost = stops_that_differ(runs, alloc, case, disk)?;
+    add_lost(alloc, told, lost, "stops another book is found");
+    Ok(())
+}
+
+// Adds a line where the sessions of a case were not beside each other, one for the status, and one
+// for how much is taken.
+fn add_numbers(alloc: Global, told: &mut Told, case: &Case, outcome: &Outcome) {
+    if outcome.is_alone {
+        told.put("a session went on before the other had come so far\n");
+    }
+    let (status, wanted) = (outcome.status, case.wanted.status);
+    if status != wanted {
+        told.add(format!(in alloc; "the status is {status}, and {wanted} is wanted\n"));
+    }
+    let taken = outcome.taken;
+    let wanted = case.wanted.taken.unwrap_or(taken);
+    if taken != wanted {
+        told.add(format!(in alloc;
+            "{taken} bytes of the input are taken, and {wanted} are wanted\n"
+        ));
+    }
+}
+
+// Adds a line for the output. Of connections that are judged the last line alone can be known.
+fn add_output(alloc: Global, told: &mut Told, case: &Case, outcome: &Outcome) {
+    let (output, wanted) = (outcome.output.as_slice(), case.output.bytes.as_slice());
+    if case.is_judged && output.ends_with(wanted) {
+        return;
+    }
+    add_bytes(alloc, told, "the output", output, wanted);
+}
+
+// Adds a line for how many connections do not keep the rules.
+fn add_rules(
+    alloc: Global,
+    told: &mut Told,
+    case: &Case,
+    given: &[Vec<u8>],
+) -> Result<(), AllocError> {
+    let wrong = match case.call {
+        Call::Conversation(_) => going_back(given),
+        _ if case.is_judged => wrongly_answered(alloc, given)?,
+        _ => 0,
+    };
+    if wrong > 0 {
+        told.add(format!(in alloc; "{wrong} connections are answered against the rules\n"));
+    }
+    Ok(())
+}
+
+// Adds a line for each connection that was given other bytes than it must be, where they are not
+// judged.
+fn add_given(alloc: Global, told: &mut Told, case: &Case, given: &[Vec<u8>]) {
+    if case.is_judged {
+        return;
+    }
+    for place in 0..case.door.connections.len() {
+        let wanted = case.door.connections[place].wanted.as_slice();
+        add_connection(alloc, told, place, given_at(given, place), wanted);
+    }
+}
+
+fn add_connection(alloc: Global, told: &mut Told, place: usize, given: &[u8], wanted: &[u8]) {
+    let number = place.saturating_add(1);
+    match format!(in alloc; "connection {number}") {
+        Ok(name) => add_bytes(alloc, told, name.as_str(), given, wanted),
+        Err(error) => told.add(Err(error)),
+    }
+}
+
+fn given_at(given: &[Vec<u8>], place: usize) -> &[u8] {
+    match given.get(place) {
+        Some(bytes) => bytes,
+        None => &[],
+    }
+}
+
+// How many of these tell a place before one that they told.
+fn going_back(given: &[Vec<u8>]) -> usize {
+    let mut wrong = 0usize;
+    for output in given {
+        if !never_go_back(output) {
+            wrong = wrong.saturating_add(1);
+        }
+    }
+    wrong
+}
+
+// How many of these are not told one admission each, of an id that no other is told.
+fn wrongly_answered(alloc: Global, given: &[Vec<u8>]) -> Result<usize, AllocError> {
+    let mut ids = Vec::new(alloc);
+    for output in given {
+        if let Some(id) = admitted(output) {
+            if !ids.contains(&id) {
+                ids.push(id)?;
+            }
+        }
+    }
+    Ok(given.len().saturating_sub(ids.len()))
+}
+
+// Adds a line for what each journal has in place of what it should, and one for the epoch that is
+// found.
+fn add_journal<C: Runs>(
+    runs: &C,
+    alloc: Global,
+    told: &mut Told,
+    case: &Case,
+    outcome: &mut Outcome,
+) -> Result<(), Trouble> {
+    let left = outcome.left(alloc)?;
+    add_left(alloc, told, "the journal", &case.wanted.left, &left);
+    add_left(
+        alloc,
+        told,
+        "the new journal",
+        &case.moved.left,
+        &outcome.moved,
+    );
+    add_epoch(runs, alloc, told, case, &left)
+}
+
+// Adds a line where bytes are wanted, and others are left.
+fn add_left(alloc: Global, told: &mut Told, name: &str, wanted: &Option<Vec<u8>>, left: &[u8]) {
+    if let Some(wanted) = wanted {
+        if wanted.as_slice() != left {
+            add_hex(alloc, told, name, left);
+        }
+    }
+}
+
+fn add_hex(alloc: Global, told: &mut Told, name: &str, left: &[u8]) {
+    match hex::encode(alloc, left) {
+        Ok(is) => told.add(format!(in alloc; "{name} has {is}\n")),
+        Err(error) => told.add(Err(error)),
+    }
+}
+
+fn add_epoch<C: Runs>(
+    runs: &C,
+    alloc: Global,
+    told: &mut Told,
+    case: &Case,
+    journal: &[u8],
+) -> Result<(), Trouble> {
+    let Some(at) = case.wanted.at else {
+        return Ok(());
+    };
+    let found = epoch_of(runs, alloc, topology_of(&case.text), journal)?;
+    if found != Some(at) {
+        told.add(format!(in alloc; "the book is found at {found:?}, and {at} is wanted\n"));
+    }
+    Ok(())
+}
+
+// Adds a line for where what was written differs first, and what stands there.
+fn add_bytes(alloc: Global, told: &mut Told, name: &str, output: &[u8], wanted: &[u8]) {
+    if output != wanted {
+        told.add(difference(alloc, name, output, wanted));
+    }
+}
+
+fn difference(
+    alloc: Global,
+    name: &str,
+    output: &[u8],
+    wanted: &[u8],
+) -> Result<String, AllocError> {
+    let place = common(output, wanted);
+    let line = line_at(output, place);
+    let is = shown(alloc, output, place)?;
+    let wanted = shown(alloc, wanted, place)?;
+    format!(in alloc; "line {line} of {name} has {is:?}, and {wanted:?} is wanted\n")
+}
+
+// The number of the line in which a place stands, counted from 1.
+fn line_at(bytes: &[u8], place: usize) -> usize
+    requires { place ≤ length bytes.now }
+{
+    let mut line = 1usize;
+    for byte in &bytes[..place] {
+        if *byte == b'\n' {
+            line = line.saturating_add(1);
+        }
+    }
+    line
+}
+
+// How many bytes they begin with in common.
+fn common(one: &[u8], other: &[u8]) -> usize
+    ensures one { result ≤ length one.now }
+    ensures other { result ≤ length other.now }
+{
+    let shorter = one.len().min(other.len());
+    for place in 0..shorter {
+        if one[place] != other[place] {
+            return place;
+        }
+    }
+    shorter
+}
+
+// What stands round a place.
+fn shown(alloc: Global, bytes: &[u8], place: usize) -> Result<String, AllocError>
+    requires { place ≤ length bytes.now }
+{
+    let start = place.saturating_sub(BEFORE);
+    let end = bytes.len().min(start.saturating_add(SHOWN));
+    String::from_utf8_lossy(alloc, &bytes[start..end])
+}
