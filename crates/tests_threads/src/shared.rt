@@ -4,18 +4,16 @@ ghost use Rattle.std.specs.Prelude.{◌≡◌, IfOk};
 ghost use Rattle.hose_law.specs.steps.Plan.{AreNodes};
 ghost use Rattle.hose_shared.specs.steps.Sharing.{IsPassOf};
 
+use cases_common::{hose, name, named};
 use hose_core::Quotes;
 use hose_disk::MemDisk;
-use hose_graph::{Endpoint, Hose, Name, Reply, Row, Topology};
-use hose_io::MemSource;
+use hose_graph::{Hose, Name, Reply, Row, Topology};
 use hose_links::LinkSet;
 use hose_paths::{PlainRows, RowMaker};
 use hose_pool::{Gate, PlainGate};
 use hose_shared::{AnyStore, Caller, Context, Shared};
 use hose_store::Store;
-use hose_topo::read;
 use hose_turn::{ALL_SHARES, Pass};
-use hose_words::LineReader;
 use std::alloc::{AllocError, Global};
 use std::fmt::Debug;
 use std::sync::Wait;
@@ -24,71 +22,37 @@ use std::test::Fail;
 use std::thread;
 use std::thread::Threads;
 
-/// Three nodes around a fourth.
-const STAR: &str =
-    "node a\nnode b\nnode c\nnode h\nlink a h 10 1\nlink b h 10 2\nlink c h 10 3\nend\n";
-
-/// Towns and the cables between them, by their lengths.
-const BACKBONE: &str = "node sea\nnode svl\nnode lax\nnode den\nnode kcy\nnode hou\n\
-    node ind\nnode chi\nnode atl\nnode was\nnode nyc\n\
-    link sea svl 10000 8\nlink sea den 10000 13\nlink svl lax 10000 4\n\
-    link svl den 10000 11\nlink lax hou 10000 17\nlink den kcy 10000 7\n\
-    link kcy hou 10000 9\nlink kcy ind 10000 6\nlink hou atl 10000 9\n\
-    link ind chi 10000 2\nlink ind atl 10000 6\nlink chi nyc 10000 9\n\
-    link atl was 10000 7\nlink nyc was 10000 3\nend\n";
-
 /// How often a thread looks at a flag before it gives up. Another thread has long raised the flag
 /// by then, where it does not wait for the one that looks.
 const MOST_LOOKS: u32 = 1_000_000_000;
 
-/// The rates 3, 4 and 5 at `a`, `b` and `c`. The links `a h`, `b h` and `c h` reserve 3, 4 and 5
-/// for them, which costs 3·1 + 4·2 + 5·3 = 26.
-const LARGE: [Endpoint; 3] = [(0, 3), (1, 4), (2, 5)];
+/// The rates 3, 4 and 5 at `a`, `b` and `c` of the star. The links `a h`, `b h` and `c h` reserve
+/// 3, 4 and 5 for them, which costs 3·1 + 4·2 + 5·3 = 26.
+const LARGE: &str = "admit a:3 b:4 c:5";
 
 /// The rate 1 at `a` and `b`, which costs 1·1 + 1·2 = 3.
-const SMALL: [Endpoint; 2] = [(0, 1), (1, 1)];
+const SMALL: &str = "admit a:1 b:1";
 
 /// A book on a disk in memory that many passes use.
 pub type Book = Shared<MemDisk, AnyStore>;
 
-pub fn star(alloc: Global) -> Result<Topology, Fail> {
-    network(alloc, STAR)
-}
-
-pub fn backbone(alloc: Global) -> Result<Topology, Fail> {
-    network(alloc, BACKBONE)
-}
-
-fn network(alloc: Global, text: &str) -> Result<Topology, Fail> {
-    let source = MemSource::new(alloc, text.as_bytes(), 4_096)?;
-    Ok(read(alloc, &mut LineReader::new(source))?)
-}
-
-pub fn acme() -> Result<Name, Fail> {
-    Ok(Name::read(b"acme").ok_or("no name")?)
-}
-
 /// A network's empty book on a disk in memory, and its first pass.
-pub fn shared(alloc: Global, text: &str) -> Result<(Book, Pass), Fail>
+pub fn shared(alloc: Global, top: Topology) -> Result<(Book, Pass), Fail>
     ensures of { IfOk result (λ made. IsPassOf made.0 made.1) }
     ensures share { IfOk result (λ made. made.1.share ≡ ALL_SHARES) }
 {
-    match Store::open(alloc, MemDisk::new(alloc)?, network(alloc, text)?) {
+    let disk = MemDisk::new(alloc)?;
+    share(alloc, disk, top)
+}
+
+fn share(alloc: Global, disk: MemDisk, top: Topology) -> Result<(Book, Pass), Fail>
+    ensures of { IfOk result (λ made. IsPassOf made.0 made.1) }
+    ensures share { IfOk result (λ made. made.1.share ≡ ALL_SHARES) }
+{
+    match Store::open(alloc, disk, top) {
         Ok(store) => Ok(Shared::new(alloc, store)?),
         Err(refused) => Err(Fail::from(refused.0)),
     }
-}
-
-/// The hose of these endpoints, where they are nodes of the network.
-pub fn hose(alloc: Global, top: &Topology, ends: &[Endpoint]) -> Result<Hose, Fail>
-    ensures { IfOk result (AreNodes top.now) }
-{
-    let hose = Hose::build(alloc, ends)?;
-    let nodes = top.nodes();
-    if !hose.ends().iter().all(|end| end.0 < nodes) {
-        return Err(Fail::from("no node"));
-    }
-    Ok(hose)
 }
 
 /// A customer at a book, with what its calls wait by and where they take memory.
@@ -275,14 +239,45 @@ fn ask_beside<W: Wait + Threads + Sync>(
     alloc: Global,
     asked: Asked,
 ) -> Result<(Answered, Answered), Fail> {
-    let name = acme()?;
-    let (star, mut pass) = shared(alloc, STAR)?;
-    let large = hose(alloc, star.topology(), &LARGE)?;
-    let small = hose(alloc, star.topology(), &SMALL)?;
-    let other = star.split(&mut pass);
+    let (book, pass) = shared(alloc, named(alloc, "star")?)?;
+    ask_on(rt, alloc, &book, pass, asked)
+}
+
+fn ask_on<W: Wait + Threads + Sync>(
+    rt: &W,
+    alloc: Global,
+    book: &Book,
+    pass: Pass,
+    asked: Asked,
+) -> Result<(Answered, Answered), Fail>
+    requires of { IsPassOf book.now pass }
+    requires share { pass.share ≡ ALL_SHARES }
+{
+    let acme = name("acme")?;
+    let large = hose(alloc, book.topology(), LARGE)?;
+    let small = hose(alloc, book.topology(), SMALL)?;
+    Ok(ask_at_once(rt, alloc, book, &acme, pass, asked, large, small))
+}
+
+fn ask_at_once<W: Wait + Threads + Sync>(
+    rt: &W,
+    alloc: Global,
+    book: &Book,
+    customer: &Name,
+    pass: Pass,
+    asked: Asked,
+    large: Hose,
+    small: Hose,
+) -> (Answered, Answered)
+    requires of { IsPassOf book.now pass }
+    requires share { pass.share ≡ ALL_SHARES }
+    requires large { AreNodes book.now.network large }
+    requires small { AreNodes book.now.network small }
+{
+    let mut pass = pass;
+    let other = book.split(&mut pass);
     let flags = Flags::new();
-    let (book, customer) = (&star, &name);
-    Ok(thread::join(
+    thread::join(
         rt,
         || ask_slowly(
             &Scene {
@@ -307,7 +302,7 @@ fn ask_beside<W: Wait + Threads + Sync>(
             small,
             &flags,
         ),
-    ))
+    )
 }
 
 /// Fails where a value is printed otherwise for those who look for faults.
@@ -319,25 +314,40 @@ pub fn tells<T: Debug>(alloc: Global, value: &T, want: &str) -> Result<(), Fail>
     Ok(())
 }
 
+/// What the thread is answered that is admitted meanwhile.
+const MEANWHILE: &str = "Answered { reply: Admitted { id: 1, cost: 3, at: 1, \
+    amounts: Amounts { pairs: [(0, 1), (1, 1)] } }, is_met: true }";
+
+/// What the other one is answered then.
+const ADMITTED: &str = "Answered { reply: Admitted { id: 2, cost: 26, at: 2, \
+    amounts: Amounts { pairs: [(0, 3), (1, 4), (2, 5)] } }, is_met: true }";
+
+const QUOTED: &str = "Answered { reply: Quoted { quote: 1, cost: 26, at: 0, \
+    amounts: Amounts { pairs: [(0, 3), (1, 4), (2, 5)] } }, is_met: true }";
+
+fn is_asked_beside<W: Wait + Threads + Sync>(
+    rt: &W,
+    alloc: Global,
+    asked: Asked,
+    want: &str,
+) -> Result<(), Fail> {
+    let (first, second) = ask_beside(rt, alloc, asked)?;
+    are_answered(alloc, &first, want, &second)
+}
+
+fn are_answered(
+    alloc: Global,
+    first: &Answered,
+    want: &str,
+    second: &Answered,
+) -> Result<(), Fail> {
+    tells(alloc, second, MEANWHILE)?;
+    tells(alloc, first, want)
+}
+
 #[test]
 fn a_plan_is_made_outside_of_the_lock(rt: HostRuntime) -> Result<(), Fail> {
-    let small = "Answered { reply: Admitted { id: 1, cost: 3, at: 1, \
-        amounts: Amounts { pairs: [(0, 1), (1, 1)] } }, is_met: true }";
-    for (asked, large) in [
-        (
-            Asked::Admission,
-            "Answered { reply: Admitted { id: 2, cost: 26, at: 2, \
-                amounts: Amounts { pairs: [(0, 3), (1, 4), (2, 5)] } }, is_met: true }",
-        ),
-        (
-            Asked::Quote,
-            "Answered { reply: Quoted { quote: 1, cost: 26, at: 0, \
-                amounts: Amounts { pairs: [(0, 3), (1, 4), (2, 5)] } }, is_met: true }",
-        ),
-    ] {
-        let (first, second) = ask_beside(&rt, rt.alloc(), asked)?;
-        tells(rt.alloc(), &second, small)?;
-        tells(rt.alloc(), &first, large)?;
-    }
-    Ok(())
+    let alloc = rt.alloc();
+    is_asked_beside(&rt, alloc, Asked::Admission, ADMITTED)?;
+    is_asked_beside(&rt, alloc, Asked::Quote, QUOTED)
 }

@@ -4,12 +4,13 @@ ghost use Rattle.hose_graph.specs.declared.limits.TheConstants.{MOST_EPOCH};
 ghost use Rattle.hose_law.specs.steps.Plan.{AreNodes};
 ghost use Rattle.hose_shared.specs.steps.Sharing.{IsPassOf};
 
-use crate::shared::{Scene, acme, admit, hose, shared, tells};
-use hose_graph::{Endpoint, Hose, Reply};
+use crate::shared::{Book, Scene, admit, shared, tells};
+use cases_common::{hose, name, network};
+use hose_graph::{Hose, Name, Reply};
 use hose_paths::PlainRows;
 use hose_pool::{Gate, PlainGate, Point};
 use hose_shared::{Caller, Context};
-use hose_turn::Pass;
+use hose_turn::{ALL_SHARES, Pass};
 use std::alloc::Global;
 use std::sync::Wait;
 use std::sync::atomic::{AtomicU64, Ordering};
@@ -22,10 +23,10 @@ const LANES: &str = "node a\nnode b\nlink a b 10 1\nlink a b 10 5\nend\n";
 
 /// The rate 6 at `a` and `b`: it reserves 6 of the cheap link, for 6, and where that has less than
 /// 6 free, of the dear link, for 6·5 = 30.
-const WIDE: [Endpoint; 2] = [(0, 6), (1, 6)];
+const WIDE: &str = "admit a:6 b:6";
 
 /// The rate 5 at `a` and `b`: it reserves 5 of the cheap link, for 5, and leaves 5 of it free.
-const NARROW: [Endpoint; 2] = [(0, 5), (1, 5)];
+const NARROW: &str = "admit a:5 b:5";
 
 /// How often a thread looks at a count before it gives up.
 const MOST_LOOKS: u32 = 1_000_000_000;
@@ -141,19 +142,54 @@ fn spoil<W: Wait>(
 }
 
 /// What the two were answered, and how many plans were made outside of the lock.
-fn admit_on_spoilt_plans<W: Wait + Threads + Sync>(
+#[derive(Drop)]
+struct Answers {
+    wide: Reply,
+    spoilt: Spoilt,
+    made: u64,
+}
+
+fn admit_on_spoilt_plans<W: Wait + Threads + Sync>(rt: &W, alloc: Global) -> Result<Answers, Fail> {
+    let (lanes, pass) = shared(alloc, network(alloc, LANES)?)?;
+    admit_on_lanes(rt, alloc, &lanes, pass)
+}
+
+fn admit_on_lanes<W: Wait + Threads + Sync>(
     rt: &W,
     alloc: Global,
-) -> Result<(Reply, Spoilt, u64), Fail> {
-    let name = acme()?;
-    let (lanes, mut pass) = shared(alloc, LANES)?;
-    let wide = hose(alloc, lanes.topology(), &WIDE)?;
-    let narrow = hose(alloc, lanes.topology(), &NARROW)?;
-    let again = hose(alloc, lanes.topology(), &NARROW)?;
-    let other = lanes.split(&mut pass);
+    book: &Book,
+    pass: Pass,
+) -> Result<Answers, Fail>
+    requires of { IsPassOf book.now pass }
+    requires share { pass.share ≡ ALL_SHARES }
+{
+    let acme = name("acme")?;
+    let wide = hose(alloc, book.topology(), WIDE)?;
+    let narrow = hose(alloc, book.topology(), NARROW)?;
+    let again = hose(alloc, book.topology(), NARROW)?;
+    Ok(admit_at_once(rt, alloc, book, &acme, pass, wide, narrow, again))
+}
+
+fn admit_at_once<W: Wait + Threads + Sync>(
+    rt: &W,
+    alloc: Global,
+    book: &Book,
+    customer: &Name,
+    pass: Pass,
+    wide: Hose,
+    narrow: Hose,
+    again: Hose,
+) -> Answers
+    requires of { IsPassOf book.now pass }
+    requires share { pass.share ≡ ALL_SHARES }
+    requires wide { AreNodes book.now.network wide }
+    requires narrow { AreNodes book.now.network narrow }
+    requires again { AreNodes book.now.network again }
+{
+    let mut pass = pass;
+    let other = book.split(&mut pass);
     let plans = Plans::new();
-    let (book, customer) = (&lanes, &name);
-    let (reply, spoilt) = thread::join(
+    let (wide, spoilt) = thread::join(
         rt,
         || admit_wide(
             &Scene {
@@ -179,16 +215,21 @@ fn admit_on_spoilt_plans<W: Wait + Threads + Sync>(
             &plans,
         ),
     );
-    Ok((reply, spoilt, plans.made.load(Ordering::SeqCst)))
+    let made = plans.made.load(Ordering::SeqCst);
+    Answers { wide, spoilt, made }
 }
 
 /// After the third plan the hose is decided under the lock, where no plan can go stale.
 #[test]
 fn three_plans_go_stale(rt: HostRuntime) -> Result<(), Fail> {
-    let (reply, spoilt, made) = admit_on_spoilt_plans(&rt, rt.alloc())?;
+    let answers = admit_on_spoilt_plans(&rt, rt.alloc())?;
+    are_told(rt.alloc(), &answers)
+}
+
+fn are_told(alloc: Global, answers: &Answers) -> Result<(), Fail> {
     tells(
-        rt.alloc(),
-        &spoilt,
+        alloc,
+        &answers.spoilt,
         "Spoilt { first: Admitted { id: 1, cost: 5, at: 1, \
             amounts: Amounts { pairs: [(0, 5)] } }, \
             second: Released { id: 1, at: 2 }, \
@@ -196,9 +237,9 @@ fn three_plans_go_stale(rt: HostRuntime) -> Result<(), Fail> {
             amounts: Amounts { pairs: [(0, 5)] } } }",
     )?;
     tells(
-        rt.alloc(),
-        &reply,
+        alloc,
+        &answers.wide,
         "Admitted { id: 4, cost: 30, at: 4, amounts: Amounts { pairs: [(1, 6)] } }",
     )?;
-    tells(rt.alloc(), &made, "3")
+    tells(alloc, &answers.made, "3")
 }
