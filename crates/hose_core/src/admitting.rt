@@ -48,8 +48,8 @@ pub fn admit_now<K: Books, R: RowMaker>(
     admit_with_rows(alloc, books, customer, asked, None, rows)
 }
 
-/// Plans a hose and admits it, as `admit_now` does. Where there is a table of the rows of the books'
-/// network, it is asked first.
+/// Plans a hose and admits it, as `admit_now` does. Where there is a table of the rows of the
+/// books' network, it is asked first.
 pub fn admit_with_rows<K: Books, R: RowMaker>(
     alloc: Global,
     books: &mut K,
