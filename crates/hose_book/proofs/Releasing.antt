@@ -11,7 +11,7 @@ use Rattle.std.proofs.lemmas.List.Sums.{sum_by-remove}
 use Rattle.hose_graph.specs.declared.entry.Vpn.{Vpn}
 use Rattle.hose_graph.specs.declared.entry.Entry.TheVariants.{Release}
 use Rattle.hose_graph.specs.Network.{Network}
-use Rattle.hose_law.specs.Book.{Book, HasVpn, IsLiveVpn, amount_on, load_of}
+use Rattle.hose_law.specs.Book.{Book, IsLiveVpn, amount_on, load_of}
 use Rattle.hose_law.specs.History.{is_vpn, next_book, touched_links}
 use Rattle.hose_law.specs.Live.{Rise}
 use Rattle.hose_graph.specs.Ascending.{firsts}
@@ -147,11 +147,6 @@ pub taken_in : (seen book : Book) (customer : List ℕ) (id place : ℕ) (vpn : 
 taken_in seen book customer id place vpn same rise asked read =
     let here = subst (λ (b : Book). IsSomeAnd (slice_get b.live place) (IsLiveVpn b customer id)) (sym same) asked in
     taken_at book customer id place vpn rise here read
-
--- what is found is a VPN of the customer
-pub has_vpn : (book : Book) (customer : List ℕ) (id : ℕ) (found : Option Vpn) → IsSomeAnd found (IsLiveVpn book customer id) → HasVpn book customer id
-has_vpn book customer id None some = absurd some
-has_vpn book customer id (Some vpn) is = (vpn, is)
 
 -- what a release leaves is kept as before
 pub kept_left : (network : Network) (book : Book) (customer : List ℕ) (id : ℕ) → All (IsKept network) book.live → All (IsKept network) (next_book book (Release customer id)).live

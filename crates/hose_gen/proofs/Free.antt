@@ -1,7 +1,7 @@
 -- The node that is found for an endpoint: it is one of the network, and no other endpoint is at it.
 use Rattle.std.proofs.Common.{◌≡◌, ◌≢◌, ◌∙◌, ◌⊎◌, ℕ, zero, suc, ◌+◌, ◌-◌, ◌%◌, ◌<◌, eqb, true, false, List, [], ◌∷◌, ◌++◌, length, get_or, refl, sym, ap, subst, inl, inr, arith}
 use Rattle.std.specs.List.{list_any}
-use Rattle.std.proofs.Math.Nat.{mod-eq_of_lt, mod-lt, mod_self}
+use Rattle.std.proofs.Math.Nat.{mod-eq_of_lt, mod_self}
 use Rattle.std.proofs.lemmas.Bool.{cases_Bool, cases_lt, cond-true, cond-false, true≢false}
 use Rattle.std.proofs.lemmas.Bool.Decides.{nat_tests}
 use Rattle.std.proofs.lemmas.List.{length-map}
@@ -11,16 +11,6 @@ use Rattle.std.proofs.lemmas.Map.Steps.{le-length_from_below}
 use Rattle.hose_graph.specs.Ascending.{firsts}
 use Rattle.hose_graph.specs.Hose.{Endpoint, HasDistinctNodes, node_of}
 use Rattle.hose_gen.specs.Generated.{free_node, has_node}
-
--- the node is one of the network
-pub free_below : (nodes : ℕ) (ends : List Endpoint) (v more : ℕ) → v < nodes → free_node nodes ends v more < nodes
-free_below nodes ends v zero below = below
-free_below nodes ends v (suc more) below =
-    elim (cases_Bool (has_node ends v)) [
-      | inl taken ↦ rw (cond-true (has_node ends v) (free_node nodes ends ((v + 1) % nodes) more) v taken)
-          (free_below nodes ends ((v + 1) % nodes) more (mod-lt (v + 1) (omega arith)))
-      | inr not ↦ rw (cond-false (has_node ends v) (free_node nodes ends ((v + 1) % nodes) more) v not) below
-    ]
 
 -- the next node
 next_within : (nodes v : ℕ) → v + 1 < nodes → (v + 1) % nodes ≡ v + 1

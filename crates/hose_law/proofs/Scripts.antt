@@ -9,7 +9,7 @@ use Rattle.hose_graph.specs.Network.{Network}
 use Rattle.hose_law.specs.Book.{Book}
 use Rattle.hose_law.specs.History.{AreFrom, EntryKind, next_book, book_after, book_of, opening_book, IsSound, IsSoundAt, IsDecidedAt, IsSoundFrom, IsDecided}
 use Rattle.hose_law.specs.Answer.{IsPlannedAnswer, IsAnswer, IsOperatorAnswer, IsServiceAnswer, IsTakeAnswer}
-use Rattle.hose_law.specs.Quotes.{at_number, Held, HeldQuote}
+use Rattle.hose_law.specs.Quotes.{at_number, Holding, HeldQuote}
 use Rattle.hose_law.specs.Script.{disks_in, one_if_disk}
 
 -- the book after one entry more
@@ -45,7 +45,7 @@ planned_decided network book customer hose (Admitted id cost at amounts) entry s
 planned_decided network book customer hose reply entry sound answer = absurd answer
 
 -- a sound entry of what is taken is decided
-taken_decided : (network : Network) (epoch : ℕ) (history : List Entry) (customer : List ℕ) (number : ℕ) (held after : Held) (found : Option HeldQuote) (reply : Reply) (entry : Entry)
+taken_decided : (network : Network) (epoch : ℕ) (history : List Entry) (customer : List ℕ) (number : ℕ) (held after : Holding) (found : Option HeldQuote) (reply : Reply) (entry : Entry)
     → IsSoundAt network (book_of epoch history) entry → IsTakeAnswer network epoch history customer number held found reply (Some entry) after → IsDecidedAt network (book_of epoch history) entry
 taken_decided network epoch history customer number held after None reply entry sound answer = absurd (cc answer.1)
 taken_decided network epoch history customer number held after (Some quote) (Admitted id cost at amounts) entry sound answer =
@@ -67,7 +67,7 @@ operator_decided network book customer down link (Denied at) entry sound answer 
 operator_decided network book customer down link reply entry sound answer = service_decided network book down link reply entry sound answer.1
 
 -- the sound entry of an answer is decided
-pub answer_decided : (network : Network) (epoch : ℕ) (history : List Entry) (customer : List ℕ) (held after : Held) (command : Command) (reply : Reply) (entry : Entry)
+pub answer_decided : (network : Network) (epoch : ℕ) (history : List Entry) (customer : List ℕ) (held after : Holding) (command : Command) (reply : Reply) (entry : Entry)
     → IsSoundAt network (book_of epoch history) entry → IsAnswer network epoch history customer held command reply (Some entry) after → IsDecidedAt network (book_of epoch history) entry
 answer_decided network epoch history customer held after (Admit hose) (Admitted id cost at amounts) entry sound answer =
     planned_decided network (book_of epoch history) customer hose (Admitted id cost at amounts) entry sound answer.0

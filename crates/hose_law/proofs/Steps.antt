@@ -13,7 +13,7 @@ use Rattle.hose_law.specs.Book.{Book}
 use Rattle.hose_law.specs.History.{IsDecidedAt, IsSoundAt, book_of}
 use Rattle.hose_law.specs.ReplyKind.{ReplyKind, kind_of}
 use Rattle.hose_law.specs.ReplyKind.ReplyKind.{ByTheBook, ForDisk, ForMemory, ForNoCommand}
-use Rattle.hose_law.specs.Quotes.{Held, HeldQuote, at_number}
+use Rattle.hose_law.specs.Quotes.{Holding, HeldQuote, at_number}
 use Rattle.hose_law.proofs.Scripts.{answer_decided}
 
 -- ---- an answer is by the book
@@ -33,7 +33,7 @@ module _ (network : Network) (book : Book) where
   after_kind customer known hose (Newest id at) None answer = refl
   after_kind customer known hose reply entry answer = admit_kind customer hose reply entry answer.1
 
-  quote_kind : (place : ℕ) (hose : List Endpoint) (held after : Held) (reply : Reply) → IsQuoteAnswer network book place hose held reply after → kind_of reply ≡ ByTheBook
+  quote_kind : (place : ℕ) (hose : List Endpoint) (held after : Holding) (reply : Reply) → IsQuoteAnswer network book place hose held reply after → kind_of reply ≡ ByTheBook
   quote_kind place hose held after (TooMany at) answer = refl
   quote_kind place hose held after (Refused at side) answer = refl
   quote_kind place hose held after (Quoted number cost at amounts) answer = refl
@@ -73,13 +73,13 @@ module _ (network : Network) (book : Book) where
   operator_kind customer down link (Denied at) None answer = refl
   operator_kind customer down link reply entry answer = service_kind down link reply entry answer.1
 
-module _ (network : Network) (epoch : ℕ) (history : List Entry) (customer : List ℕ) (held : Held) where
-  take_kind : (number : ℕ) (found : Option HeldQuote) (reply : Reply) (entry : Option Entry) (after : Held) → IsTakeAnswer network epoch history customer number held found reply entry after → kind_of reply ≡ ByTheBook
+module _ (network : Network) (epoch : ℕ) (history : List Entry) (customer : List ℕ) (held : Holding) where
+  take_kind : (number : ℕ) (found : Option HeldQuote) (reply : Reply) (entry : Option Entry) (after : Holding) → IsTakeAnswer network epoch history customer number held found reply entry after → kind_of reply ≡ ByTheBook
   take_kind number None reply entry after answer = ap kind_of answer.0
   take_kind number (Some quote) reply entry after answer = taking_kind network (book_of epoch history) (book_of epoch (take quote.place history)) customer quote.hose reply entry answer.0
 
   -- an answer is by the book
-  answer_kind : (command : Command) (reply : Reply) (entry : Option Entry) (after : Held) → IsAnswer network epoch history customer held command reply entry after → kind_of reply ≡ ByTheBook
+  answer_kind : (command : Command) (reply : Reply) (entry : Option Entry) (after : Holding) → IsAnswer network epoch history customer held command reply entry after → kind_of reply ≡ ByTheBook
   answer_kind (Admit hose) reply entry after answer = admit_kind network (book_of epoch history) customer hose reply entry answer.0
   answer_kind (AdmitAfter known hose) reply entry after answer = after_kind network (book_of epoch history) customer known hose reply entry answer.0
   answer_kind (Quote hose) reply entry after answer = quote_kind network (book_of epoch history) (length history) hose held after reply answer.1
@@ -92,7 +92,7 @@ module _ (network : Network) (epoch : ℕ) (history : List Entry) (customer : Li
   answer_kind (UpCommand link) reply entry after answer = operator_kind network (book_of epoch history) customer false link reply entry answer.0
 
   -- an answer, with its entry added, is a step
-  pub step_of : (command : Command) (reply : Reply) (entry : Option Entry) (after : Held) → IsAnswer network epoch history customer held command reply entry after
+  pub step_of : (command : Command) (reply : Reply) (entry : Option Entry) (after : Holding) → IsAnswer network epoch history customer held command reply entry after
       → IsStepOf network epoch history customer held command reply entry (with_entry history entry) after
   step_of command reply entry after answer =
       subst (λ (kind : ReplyKind). IsStepOfKind network epoch history customer held command kind reply entry (with_entry history entry) after) (sym (answer_kind command reply entry after answer)) (answer, refl)
@@ -103,20 +103,20 @@ module _ (network : Network) (epoch : ℕ) (history : List Entry) (customer : Li
   memory_alone reply is = absurd (cc is)
 
   -- want of memory: there is no entry, and nothing changes
-  pub record IsIdle (reply : Reply) (entry : Option Entry) (next : List Entry) (after : Held) : Type 0 where
+  pub record IsIdle (reply : Reply) (entry : Option Entry) (next : List Entry) (after : Holding) : Type 0 where
     pub tells : reply ≡ Memory
     pub none : entry ≡ None
     pub stays : next ≡ history
     pub keeps : after ≡ held
 
   -- an answer, whose entry the history has now, or the disk failed
-  pub record IsAnswered (command : Command) (entry : Option Entry) (next : List Entry) (after : Held) : Type 0 where
+  pub record IsAnswered (command : Command) (entry : Option Entry) (next : List Entry) (after : Holding) : Type 0 where
     pub given : Reply
     pub is : IsAnswer network epoch history customer held command given entry after
     pub goes : (next ≡ history) ⊎ (next ≡ with_entry history entry)
 
   -- a step is one or the other
-  pub step_cases : (command : Command) (reply : Reply) (entry : Option Entry) (next : List Entry) (after : Held) → IsStepOf network epoch history customer held command reply entry next after
+  pub step_cases : (command : Command) (reply : Reply) (entry : Option Entry) (next : List Entry) (after : Holding) → IsStepOf network epoch history customer held command reply entry next after
       → IsIdle reply entry next after ⊎ IsAnswered command entry next after
   step_cases command reply entry next after step = at (kind_of reply) refl step
     where
@@ -127,7 +127,7 @@ module _ (network : Network) (epoch : ℕ) (history : List Entry) (customer : Li
       at ForNoCommand is step = absurd step
 
   -- a step without an entry leads nowhere
-  pub step_stays : (command : Command) (reply : Reply) (next : List Entry) (after : Held) → IsStepOf network epoch history customer held command reply None next after → next ≡ history
+  pub step_stays : (command : Command) (reply : Reply) (next : List Entry) (after : Holding) → IsStepOf network epoch history customer held command reply None next after → next ≡ history
   step_stays command reply next after step = at (step_cases command reply None next after step)
     where
       at : IsIdle reply None next after ⊎ IsAnswered command None next after → next ≡ history
@@ -138,7 +138,7 @@ module _ (network : Network) (epoch : ℕ) (history : List Entry) (customer : Li
       ]
 
   -- the sound entry of a step is decided
-  pub step_decided : (command : Command) (reply : Reply) (entry : Entry) (next : List Entry) (after : Held) → IsStepOf network epoch history customer held command reply (Some entry) next after
+  pub step_decided : (command : Command) (reply : Reply) (entry : Entry) (next : List Entry) (after : Holding) → IsStepOf network epoch history customer held command reply (Some entry) next after
       → IsSoundAt network (book_of epoch history) entry → IsDecidedAt network (book_of epoch history) entry
   step_decided command reply entry next after step sound = at (step_cases command reply (Some entry) next after step)
     where
@@ -147,7 +147,7 @@ module _ (network : Network) (epoch : ℕ) (history : List Entry) (customer : Li
       at (inr answered) = answer_decided network epoch history customer held after command answered.given entry sound answered.is
 
   -- only a quote and a take change what is held
-  pub step_keeps : (command : Command) (reply : Reply) (entry : Option Entry) (next : List Entry) (after : Held) → ¬ ChangesHeld command → IsStepOf network epoch history customer held command reply entry next after → after ≡ held
+  pub step_keeps : (command : Command) (reply : Reply) (entry : Option Entry) (next : List Entry) (after : Holding) → ¬ ChangesHeld command → IsStepOf network epoch history customer held command reply entry next after → after ≡ held
   step_keeps command reply entry next after others step = at (step_cases command reply entry next after step)
     where
       answer_keeps : (command : Command) (reply : Reply) → ¬ ChangesHeld command → IsAnswer network epoch history customer held command reply entry after → after ≡ held

@@ -7,7 +7,7 @@ use Rattle.hose_graph.specs.declared.command.Command.{Command}
 use Rattle.hose_graph.specs.declared.command.Reply.{Reply}
 use Rattle.hose_graph.specs.Network.{Network}
 use Rattle.hose_law.specs.Answer.{IsStep}
-use Rattle.hose_law.specs.Quotes.{Held}
+use Rattle.hose_law.specs.Quotes.{Holding}
 use Rattle.hose_law.specs.Transcript.{IsSessionStep, IsPlacedStep, IsTranscript, IsTranscriptStep, SessionLine, SessionState, Stage, session_state}
 use Rattle.hose_law.specs.Transcript.SessionLine.{Greets, Asks, Leaves, IsBad, IsLong, Unread}
 use Rattle.hose_law.specs.Transcript.Stage.{Waiting, Serving, Refused, Left}
@@ -18,7 +18,7 @@ pub front_longer : (history next : List Entry) (place : ℕ) → IsPrefix histor
 front_longer history next place (rest, same) there = sym (take-append-le place history rest there) ∙ ap (take place) same
 
 -- a step at a place of a history is one at that place of a longer one
-pub placed_longer : (network : Network) (epoch : ℕ) (history next : List Entry) (customer : List ℕ) (held : Held) (command : Command) (reply : Reply) (left : Held) (place after : ℕ) (own : List ℕ)
+pub placed_longer : (network : Network) (epoch : ℕ) (history next : List Entry) (customer : List ℕ) (held : Holding) (command : Command) (reply : Reply) (left : Holding) (place after : ℕ) (own : List ℕ)
     → IsPrefix history next → IsPlacedStep network epoch history customer held command reply left place after own → IsPlacedStep network epoch next customer held command reply left place after own
 placed_longer network epoch history next customer held command reply left place after own prefix step = record {
   next = step.next;

@@ -34,11 +34,6 @@ on_reverse start steps v (inl same) = inl same
 on_reverse start steps v (inr led) =
     inr (Contains-permutation (new_nodes steps) (new_nodes (reverse steps)) v (IsPermutation-map (λ (step : Step). step.new) steps (reverse steps) (IsPermutation-reverse steps)) led)
 
-pub on_unreverse : (start : ℕ) (steps : List Step) (v : ℕ) → IsOn start (reverse steps) v → IsOn start steps v
-on_unreverse start steps v (inl same) = inl same
-on_unreverse start steps v (inr led) =
-    inr (Contains-permutation (new_nodes (reverse steps)) (new_nodes steps) v (IsPermutation-map (λ (step : Step). step.new) (reverse steps) steps (IsPermutation-sym steps (reverse steps) (IsPermutation-reverse steps))) led)
-
 -- what is on the tree stays on it by one step more, and the step's new node is on it
 pub on_still : (start : ℕ) (step : Step) (earlier : List Step) (v : ℕ) → IsOn start earlier v → IsOn start (step ∷ earlier) v
 on_still start step earlier v (inl same) = inl same

@@ -25,7 +25,7 @@ use Rattle.hose_law.specs.Room.{room_of, safe_links}
 use Rattle.hose_law.specs.Answer.{AreVpnsOf, IsNewest, IsPlannedAnswer, IsAdmitAnswer, IsAfterAnswer, IsQuoteAnswer, IsTakingAnswer, IsTakeAnswer, IsReleaseAnswer, IsShowAnswer, IsVpnsAnswer, IsLinkAnswer, IsOperatorAnswer, IsServiceAnswer, IsAnswer, IsStep, IsStepOfKind, with_entry}
 use Rattle.hose_law.specs.Service.{LinkStands, is_out}
 use Rattle.hose_law.specs.steps.Service.{service_entry}
-use Rattle.hose_law.specs.Quotes.{Held, HeldQuote, at_number, free_number, with_held, with_number}
+use Rattle.hose_law.specs.Quotes.{Holding, HeldQuote, at_number, free_number, with_held, with_number}
 use Rattle.hose_law.specs.ReplyKind.{ReplyKind, IsDiskKind, IsMemoryKind, kind_of}
 use Rattle.hose_law.specs.ReplyKind.ReplyKind.{ByTheBook, ForDisk, ForMemory, ForNoCommand}
 use Rattle.hose_law.specs.Script.{ReadLine, Asks, IsForDisk, IsForMemory, IsLineStep, IsScript, ScriptState, WithoutDisk, WithoutMemory}
@@ -314,9 +314,9 @@ is_none_is_some : {X : Type 0} (found : Option X) → found ≡ None → IsSome 
 is_none_is_some None none some = cc some
 is_none_is_some (Some value) none some = cc none
 
-module _ (network : Network) (is : IsNetwork network) (book : Book) (place : ℕ) (hose : List (ℕ × ℕ)) (held : Held) where
+module _ (network : Network) (is : IsNetwork network) (book : Book) (place : ℕ) (hose : List (ℕ × ℕ)) (held : Holding) where
   -- the hose is quoted with a plan, under a number at which it is held then
-  record IsQuoted (reply : Reply) (after : Held) : Type 0 where
+  record IsQuoted (reply : Reply) (after : Holding) : Type 0 where
     plan : List (ℕ × ℕ)
     planned : IsPlanned network (room_of network book) hose plan
     number : ℕ
@@ -335,10 +335,10 @@ module _ (network : Network) (is : IsNetwork network) (book : Book) (place : ℕ
       )
 
   -- where a number is free: the hose is refused or quoted
-  abbrev RefusedOrQuoted : Reply → Held → Type 0
+  abbrev RefusedOrQuoted : Reply → Holding → Type 0
   RefusedOrQuoted reply after = IsRefusal network book hose held reply after ⊎ IsQuoted reply after
 
-  quote_cases : (reply : Reply) (after : Held) → IsQuoteAnswer network book place hose held reply after
+  quote_cases : (reply : Reply) (after : Holding) → IsQuoteAnswer network book place hose held reply after
       → FirstOr (free_number held ≡ None) (TooMany book.epoch) held (free_number held ≢ None) RefusedOrQuoted reply after
   quote_cases (TooMany at) after is = inl (is.1, ap TooMany is.0, is.2)
   quote_cases (Refused at side) after is =
@@ -369,8 +369,8 @@ module _ (network : Network) (is : IsNetwork network) (earlier book : Book) (cus
       reply other entry more (taking_cases reply entry one) (taking_cases other more two)
 
 -- the taking of what stands at a number has one answer
-take_answer_unique : (network : Network) → IsNetwork network → (epoch : ℕ) (history : List Entry) (customer : List ℕ) (number : ℕ) (held : Held) (found : Option HeldQuote) (reply other : Reply) (entry more : Option Entry)
-    (after left : Held) → IsTakeAnswer network epoch history customer number held found reply entry after → IsTakeAnswer network epoch history customer number held found other more left
+take_answer_unique : (network : Network) → IsNetwork network → (epoch : ℕ) (history : List Entry) (customer : List ℕ) (number : ℕ) (held : Holding) (found : Option HeldQuote) (reply other : Reply) (entry more : Option Entry)
+    (after left : Holding) → IsTakeAnswer network epoch history customer number held found reply entry after → IsTakeAnswer network epoch history customer number held found other more left
     → (reply ≡ other) × (entry ≡ more) × (after ≡ left)
 take_answer_unique network is epoch history customer number held None reply other entry more after left one two = (one.0 ∙ sym two.0, one.1 ∙ sym two.1, one.2 ∙ sym two.2)
 take_answer_unique network is epoch history customer number held (Some quote) reply other entry more after left one two =
@@ -378,7 +378,7 @@ take_answer_unique network is epoch history customer number held (Some quote) re
     (same.0, same.1, one.1 ∙ sym two.1)
 
 -- A command has one answer at a history, one entry of it and one way to hold quotes after it.
-pub answer_unique : (network : Network) → IsNetwork network → (epoch : ℕ) (history : List Entry) (customer : List ℕ) (held : Held) (command : Command) (reply other : Reply) (entry more : Option Entry) (after left : Held)
+pub answer_unique : (network : Network) → IsNetwork network → (epoch : ℕ) (history : List Entry) (customer : List ℕ) (held : Holding) (command : Command) (reply other : Reply) (entry more : Option Entry) (after left : Holding)
     → IsAnswer network epoch history customer held command reply entry after → IsAnswer network epoch history customer held command other more left
     → (reply ≡ other) × (entry ≡ more) × (after ≡ left)
 answer_unique network is epoch history customer held (Admit hose) reply other entry more after left one two =
@@ -414,12 +414,12 @@ first_answers : (reply : Reply) (replies : List Reply) → AllAnswer (reply ∷ 
 first_answers reply replies all = (All-head (λ r. ¬ IsForMemory r) reply replies all.memory, All-head (λ r. ¬ IsForDisk r) reply replies all.disk)
 
 -- the step has an answer
-abbrev Answered : Network → ℕ → List Entry → List ℕ → Held → Command → Reply → List Entry → Held → Type 0
+abbrev Answered : Network → ℕ → List Entry → List ℕ → Holding → Command → Reply → List Entry → Holding → Type 0
 Answered network epoch history customer held command reply next after =
     (entry : Option Entry) × IsAnswer network epoch history customer held command reply entry after × (next ≡ with_entry history entry)
 
 -- a step whose reply is not for want of memory or a failure of the disk has an answer
-answered : (network : Network) (epoch : ℕ) (history : List Entry) (customer : List ℕ) (held : Held) (command : Command) (reply : Reply) (next : List Entry) (after : Held)
+answered : (network : Network) (epoch : ℕ) (history : List Entry) (customer : List ℕ) (held : Holding) (command : Command) (reply : Reply) (next : List Entry) (after : Holding)
     → (¬ IsForMemory reply) × (¬ IsForDisk reply) → IsStep network epoch history customer held command reply next after → Answered network epoch history customer held command reply next after
 answered network epoch history customer held command reply next after answers step = at (kind_of reply) answers step.1
   where
@@ -439,7 +439,7 @@ line_unique : (network : Network) → IsNetwork network → (epoch : ℕ) (line 
     → (reply ≡ other) × (new ≡ last)
 line_unique network is epoch (Asks customer command) reply other replies others old new last one two all also =
     let history = old.history in
-    let held : Held = old.holdings customer in
+    let held : Holding = old.holdings customer in
     let mine = answered network epoch history customer held command reply new.history one.0 (first_answers reply replies all) one.1 in
     let theirs = answered network epoch history customer held command other last.history two.0 (first_answers other others also) two.1 in
     let same = answer_unique network is epoch history customer held command reply other mine.0 theirs.0 one.0 two.0 mine.1 theirs.1 in

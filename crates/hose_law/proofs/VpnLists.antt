@@ -1,10 +1,8 @@
 -- The numbers of a customer's live VPNs are those of the live VPNs that are the customer's, in the order of their admission.
-use Rattle.std.proofs.Common.{◌≡◌, ◌↔◌, ◌∙◌, ℕ, ◌+◌, ◌<◌, Bool, true, false, List, [], ◌∷◌, ◌++◌, length, get_or, filter, map, Contains, sym, ap, subst, arith, append-nil}
+use Rattle.std.proofs.Common.{◌≡◌, ◌↔◌, ◌∙◌, ℕ, ◌+◌, ◌<◌, Bool, List, [], length, get_or, filter, Contains, sym, ap, subst, arith}
 use Rattle.std.specs.List.Sorted.{IsStrictlyIncreasing}
 use Rattle.std.specs.Str.{bytes_eq}
-use Rattle.std.proofs.lemmas.Bool.{cond-true, cond-false}
-use Rattle.std.proofs.lemmas.List.{get_or-map, get_or_default, length-map, map-append}
-use Rattle.std.proofs.lemmas.List.Elements.{filter-append}
+use Rattle.std.proofs.lemmas.List.{get_or-map, get_or_default, length-map}
 use Rattle.std.proofs.lemmas.List.Kept.{AllPairs-filter}
 use Rattle.std.proofs.lemmas.Slice.Eq.{bytes_eq-Decides}
 use Rattle.hose_graph.specs.declared.entry.Entry.{Entry}
@@ -24,19 +22,6 @@ module _ (customer : List ℕ) where
 
   abbrev no_vpn : Vpn
   no_vpn = record { id = 0; customer = []; hose = []; amounts = [] }
-
-  -- one VPN more that is the customer's
-  pub ids_own : (vpns : List Vpn) (vpn : Vpn) → bytes_eq vpn.customer customer ≡ true → ids_of customer (vpns ++ vpn ∷ []) ≡ ids_of customer vpns ++ vpn.id ∷ []
-  ids_own vpns vpn own =
-      ap (map (λ (v : Vpn). v.id)) (filter-append is_own vpns (vpn ∷ []) ∙ ap (λ (vs : List Vpn). filter is_own vpns ++ vs) (cond-true (is_own vpn) (vpn ∷ []) [] own))
-      ∙ map-append (λ (v : Vpn). v.id) (filter is_own vpns) (vpn ∷ [])
-
-  -- one that is another's
-  pub ids_other : (vpns : List Vpn) (vpn : Vpn) → bytes_eq vpn.customer customer ≡ false → ids_of customer (vpns ++ vpn ∷ []) ≡ ids_of customer vpns
-  ids_other vpns vpn other =
-      ap (map (λ (v : Vpn). v.id)) (filter-append is_own vpns (vpn ∷ []) ∙ ap (λ (vs : List Vpn). filter is_own vpns ++ vs) (cond-false (is_own vpn) (vpn ∷ []) [] other))
-      ∙ map-append (λ (v : Vpn). v.id) (filter is_own vpns) []
-      ∙ append-nil (ids_of customer vpns)
 
   -- the numbers ascend where those of all do
   pub ids_ascend : (vpns : List Vpn) → Rise vpns → IsStrictlyIncreasing (ids_of customer vpns)

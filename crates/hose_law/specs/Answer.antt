@@ -20,7 +20,7 @@ use Rattle.hose_law.specs.History.{book_of}
 use Rattle.hose_law.specs.ReplyKind.{ReplyKind, kind_of}
 use Rattle.hose_law.specs.ReplyKind.ReplyKind.{ByTheBook, ForDisk, ForMemory, ForNoCommand}
 use Rattle.hose_law.specs.Service.{LinkStands, is_out}
-use Rattle.hose_law.specs.Quotes.{Held, HeldQuote, at_number, free_number, with_number}
+use Rattle.hose_law.specs.Quotes.{Holding, HeldQuote, at_number, free_number, with_number}
 
 -- ---- at a book
 
@@ -71,7 +71,7 @@ IsAfterAnswer network book customer known hose reply entry =
 -- The answer to a question for a plan at a book, which is that of a place of the history: the first
 -- of too many, refused that applies, else quoted under the lowest number at which nothing is held,
 -- where the hose and the place are held then.
-abbrev pub IsQuoteAnswer : Network → Book → ℕ → List Endpoint → Held → Reply → Held → Type 0
+abbrev pub IsQuoteAnswer : Network → Book → ℕ → List Endpoint → Holding → Reply → Holding → Type 0
 IsQuoteAnswer network book place hose held (TooMany at) after =
     (at ≡ book.epoch) × (free_number held ≡ None) × (after ≡ held)
 IsQuoteAnswer network book place hose held (Refused at side) after =
@@ -159,8 +159,8 @@ IsOperatorAnswer network book customer down link reply entry =
 
 -- The answer at a history to the taking of what stands at a number: no quote, or that to the taking
 -- of a plan that was made at the quote's place, which is not held any more then.
-abbrev pub IsTakeAnswer : Network → ℕ → List Entry → List ℕ → ℕ → Held → Option HeldQuote → Reply
-    → Option Entry → Held → Type 0
+abbrev pub IsTakeAnswer : Network → ℕ → List Entry → List ℕ → ℕ → Holding → Option HeldQuote → Reply
+    → Option Entry → Holding → Type 0
 IsTakeAnswer network epoch history customer number held None reply entry after =
     (reply ≡ NoQuote number (book_of epoch history).epoch) × (entry ≡ None) × (after ≡ held)
 IsTakeAnswer network epoch history customer number held (Some quote) reply entry after =
@@ -170,8 +170,8 @@ IsTakeAnswer network epoch history customer number held (Some quote) reply entry
 
 -- The answer at a history to a command of a customer who holds this: the reply, the entry that
 -- joins the history, if there is one, and what the customer holds after it.
-abbrev pub IsAnswer : Network → ℕ → List Entry → List ℕ → Held → Command → Reply → Option Entry
-    → Held → Type 0
+abbrev pub IsAnswer : Network → ℕ → List Entry → List ℕ → Holding → Command → Reply → Option Entry
+    → Holding → Type 0
 IsAnswer network epoch history customer held (Admit hose) reply entry after =
     IsAdmitAnswer network (book_of epoch history) customer hose reply entry × (after ≡ held)
 IsAnswer network epoch history customer held (AdmitAfter known hose) reply entry after =
@@ -208,7 +208,7 @@ with_entry history (Some entry) = history ++ entry ∷ []
 -- list of a customer's VPNs. It comes after too many quotes, after no quote to be taken, after no
 -- VPN to be told, and after a customer who is not the operator is denied. What is reserved on a
 -- link is told in any case.
-abbrev pub MayWantMemory : Book → List ℕ → Held → Command → Type 0
+abbrev pub MayWantMemory : Book → List ℕ → Holding → Command → Type 0
 MayWantMemory book customer held (Admit hose) = ⊤
 MayWantMemory book customer held (AdmitAfter known hose) = ⊤
 MayWantMemory book customer held (Quote hose) = IsSome (free_number held)
@@ -223,8 +223,8 @@ MayWantMemory book customer held (UpCommand link) = customer ≡ operator
 -- A step at a history, whose answer has this entry, by the kind of its reply: the answer, with its
 -- entry added; or the disk failed to keep the entry, which is not added; or want of memory, which
 -- changes nothing. No other reply is that to a command.
-abbrev pub IsStepOfKind : Network → ℕ → List Entry → List ℕ → Held → Command → ReplyKind → Reply
-    → Option Entry → List Entry → Held → Type 0
+abbrev pub IsStepOfKind : Network → ℕ → List Entry → List ℕ → Holding → Command → ReplyKind → Reply
+    → Option Entry → List Entry → Holding → Type 0
 IsStepOfKind network epoch history customer held command ByTheBook reply entry next after =
     IsAnswer network epoch history customer held command reply entry after
     × (next ≡ with_entry history entry)
@@ -239,14 +239,14 @@ IsStepOfKind network epoch history customer held command ForMemory reply entry n
 IsStepOfKind network epoch history customer held command ForNoCommand reply entry next after = ⊥
 
 -- a step at a history, whose answer has this entry
-abbrev pub IsStepOf : Network → ℕ → List Entry → List ℕ → Held → Command → Reply → Option Entry
-    → List Entry → Held → Type 0
+abbrev pub IsStepOf : Network → ℕ → List Entry → List ℕ → Holding → Command → Reply → Option Entry
+    → List Entry → Holding → Type 0
 IsStepOf network epoch history customer held command reply entry next after =
     IsStepOfKind network epoch history customer held command (kind_of reply) reply entry next after
 
 -- a step at a history
-abbrev pub IsStep : Network → ℕ → List Entry → List ℕ → Held → Command → Reply → List Entry → Held
-    → Type 0
+abbrev pub IsStep : Network → ℕ → List Entry → List ℕ → Holding → Command → Reply → List Entry
+    → Holding → Type 0
 IsStep network epoch history customer held command reply next after =
     (entry : Option Entry)
     × IsStepOf network epoch history customer held command reply entry next after

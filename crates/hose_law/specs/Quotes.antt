@@ -10,8 +10,8 @@ pub record HeldQuote : Type 0 where
   pub place : ℕ
 
 -- what a customer holds: a quote or none for each number, from 1 on
-abbrev pub Held : Type 0
-Held = List (Option HeldQuote)
+abbrev pub Holding : Type 0
+Holding = List (Option HeldQuote)
 
 -- nothing stands at any number that a quote can have
 abbrev pub none_held : {X : Type 0} → List (Option X)
@@ -35,13 +35,13 @@ free_number quotes = option_map (λ index. index + 1) (position is_none quotes)
 
 -- what each customer holds, by name
 abbrev pub Holdings : Type 0
-Holdings = List ℕ → Held
+Holdings = List ℕ → Holding
 
 -- no customer holds a quote
 abbrev pub nothing_held : Holdings
 nothing_held = λ customer. none_held
 
 -- with this held by a customer
-abbrev pub with_held : Holdings → List ℕ → Held → Holdings
+abbrev pub with_held : Holdings → List ℕ → Holding → Holdings
 with_held holdings customer held =
     λ name. if bytes_eq customer name then held else holdings name

@@ -8,7 +8,7 @@ use Rattle.hose_graph.specs.Network.{Network}
 use Rattle.hose_law.specs.Answer.{IsStep}
 use Rattle.hose_law.specs.Lines.{AreSteps}
 use Rattle.hose_law.specs.ReplyKind.{IsDiskKind, IsMemoryKind, failures_of, kind_of}
-use Rattle.hose_law.specs.Quotes.{Held, Holdings, with_held}
+use Rattle.hose_law.specs.Quotes.{Holding, Holdings, with_held}
 
 -- A line as it was read: a customer's command, or what stands in its place. A bad line is told by
 -- its first word that is not allowed.
@@ -36,7 +36,7 @@ script_state history holdings = record { history = history; holdings = holdings 
 
 -- One line of a script: a step of its customer's command, or a reply that changes nothing.
 abbrev pub IsLineStep : Network → ℕ → ReadLine → Reply → ScriptState → ScriptState → Type 0
-IsLineStep network epoch (Asks customer command) reply old new = (held : Held)
+IsLineStep network epoch (Asks customer command) reply old new = (held : Holding)
     × IsStep network epoch old.history customer (old.holdings customer) command reply new.history
     held
     × (new.holdings ≡ with_held old.holdings customer held)

@@ -7,7 +7,7 @@ use Rattle.hose_graph.specs.declared.command.Reply.TheVariants.{Bad, Bye, Long, 
 use Rattle.hose_graph.specs.Network.{Network}
 use Rattle.hose_law.specs.Answer.{IsStep}
 use Rattle.hose_law.specs.Lines.{AreSteps}
-use Rattle.hose_law.specs.Quotes.{Held, none_held}
+use Rattle.hose_law.specs.Quotes.{Holding, none_held}
 
 -- A line of a session as it was read: the greeting with a customer's name, a command, the line that
 -- ends the session, or what stands in the place of one. A bad line is told by its first word that
@@ -24,14 +24,14 @@ pub data SessionLine : Type 0 where
 -- refused, since its first line is no greeting; or its customer left.
 pub data Stage : Type 0 where
   Waiting : Stage
-  Serving : List ℕ → Held → Stage
+  Serving : List ℕ → Holding → Stage
   Refused : Stage
   Left : Stage
 
 -- A step of a customer's command at a place of a history, the place after it, and the places that
 -- it adds to the customer's own: where it adds an entry, the history has that entry there.
 pub record IsPlacedStep (network : Network) (epoch : ℕ) (history : List Entry)
-    (customer : List ℕ) (held : Held) (command : Command) (reply : Reply) (left : Held)
+    (customer : List ℕ) (held : Holding) (command : Command) (reply : Reply) (left : Holding)
     (place after : ℕ) (own : List ℕ) : Type 0 where
   pub next : List Entry
   pub there : place ≤ length history
@@ -63,7 +63,7 @@ IsSessionStep network epoch history Waiting (Greets customer) reply next from af
     × (next ≡ Serving customer none_held) × (own ≡ [])
 IsSessionStep network epoch history (Serving customer held) (Asks command) reply next from after
     own =
-    (place : ℕ) × (left : Held) × (from ≤ place)
+    (place : ℕ) × (left : Holding) × (from ≤ place)
     × IsPlacedStep network epoch history customer held command reply left place after own
     × (next ≡ Serving customer left)
 IsSessionStep network epoch history Refused line reply next from after own = ⊥

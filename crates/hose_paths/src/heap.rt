@@ -1,12 +1,11 @@
 // The maker of rows by a heap: what fell waits in a queue, the nearest first, until its links are
 // followed.
-ghost use Rattle.std.specs.Prelude.{◌≡◌, ◌≢◌, ◌⊎◌, ℕ, ◌+◌, ◌*◌, ◌/◌, ◌%◌, ◌^◌, ◌<◌, ◌≤◌, ◌↔◌, None, Some, IfOk, IsTrue, OnOk, length};
+ghost use Rattle.std.specs.Prelude.{◌≡◌, ◌⊎◌, ℕ, ◌+◌, ◌*◌, ◌/◌, ◌%◌, ◌^◌, ◌<◌, ◌≤◌, ◌↔◌, None, Some, IfOk, IsTrue, OnOk, length};
 ghost use Rattle.std.specs.BinaryHeap.{heap_items, heap_len};
 ghost use Rattle.hose_graph.specs.Network.{IsNetwork};
 ghost use Rattle.hose_graph.specs.steps.Row.{HasBoundedDistances};
-ghost use Rattle.hose_law.specs.Row.{IsRow};
 ghost use Rattle.hose_paths.specs.steps.Rows.{HasDistances};
-ghost use Rattle.hose_paths.specs.steps.Table.{entry, IsFound, IsBounded, CannotLower, IsSettled, Lowers, left_to_fall};
+ghost use Rattle.hose_paths.specs.steps.Table.{entry, IsFound, IsBounded, IsRootAlone, CannotLower, Lowers, SettlesTable, left_to_fall};
 ghost use Rattle.hose_paths.specs.steps.Chain.{AreChainsOver};
 ghost use Rattle.hose_paths.specs.steps.Queue.{IsQueued, IsSettledBut, Relaxes, key_of};
 
@@ -14,7 +13,6 @@ use crate::MadeRow;
 use crate::chains::Chains;
 use crate::entries::lower_from;
 use crate::settling::{RowsBy, Settling, settled, start};
-use crate::tight::with_tight_links;
 use hose_graph::Topology;
 use hose_links::LinkSet;
 use std::alloc::{AllocError, Global};
@@ -61,24 +59,6 @@ pub fn distances_along(
     Ok(settled(alloc, top, links, root, dist))
 }
 
-/// The row of a root over a set of links, as `HeapRows` makes it, along chains that are there.
-pub fn row_along(
-    alloc: Global,
-    top: &Topology,
-    links: &LinkSet,
-    chains: &Chains,
-    root: u32,
-) -> MadeRow
-    requires places { length links.now ≡ length top.now.links }
-    requires is_node { root < length top.now.nodes }
-    requires chains { AreChainsOver top.now links.now chains.now }
-    ensures row { IfOk result (IsRow top.now links.now root) }
-    ensures bounded { IfOk result HasBoundedDistances }
-{
-    let row = distances_along(alloc, top, links, chains, root)?;
-    with_tight_links(alloc, top, links, &row)
-}
-
 // Lowers entries until no link of the set can, where at first the root alone has one.
 fn settle_along(
     alloc: Global,
@@ -88,17 +68,10 @@ fn settle_along(
     dist: &mut [Option<u64>],
     root: u32,
 ) -> Result<(), AllocError>
-    requires network { IsNetwork top.now }
-    requires places { length dist.old ≡ length top.now.nodes }
+    requires first { IsRootAlone top.now root dist.old }
     requires links { length links.now ≡ length top.now.links }
     requires chains { AreChainsOver top.now links.now chains.now }
-    requires bounded { IsBounded dist.old }
-    requires root { entry dist.old root ≡ Some 0 }
-    requires alone { (v : ℕ) → v ≢ root → entry dist.old v ≡ None }
-    ensures bounded { OnOk result (IsBounded dist.new) }
-    ensures found { (start : ℕ) → IsFound top.now links.now start dist.old
-        → OnOk result (IsFound top.now links.now start dist.new) }
-    ensures settled { OnOk result (IsSettled top.now links.now dist.new) }
+    ensures { OnOk result (SettlesTable top.now links.now dist.old dist.new) }
 {
     let mut queue: Queue = BinaryHeap::new(alloc);
     queue.push(Reverse(key(0, root)))?;

@@ -36,7 +36,7 @@ mod tight;
 mod whole;
 
 pub use chains::{Arc, Chains};
-pub use heap::{HeapRows, distances_along, row_along};
+pub use heap::{HeapRows, distances_along};
 use hose_graph::{Row, Topology};
 use hose_links::LinkSet;
 pub use plain::PlainRows;

@@ -1,9 +1,9 @@
 // The maker of rows, whichever way its table of distances settles.
-ghost use Rattle.std.specs.Prelude.{◌≡◌, ◌≢◌, ◌<◌, ℕ, Bool, IfOk, List, None, OnOk, Some, length};
+ghost use Rattle.std.specs.Prelude.{◌≡◌, ◌<◌, Bool, IfOk, List, OnOk, length};
 ghost use Rattle.hose_graph.specs.Network.{IsNetwork};
 ghost use Rattle.hose_graph.specs.steps.Row.{HasBoundedDistances};
 ghost use Rattle.hose_paths.specs.steps.Rows.{HasDistances};
-ghost use Rattle.hose_paths.specs.steps.Table.{entry, IsBounded, IsFound, IsSettled};
+ghost use Rattle.hose_paths.specs.steps.Table.{IsBounded, IsFound, IsRootAlone, IsSettled, SettlesTable};
 
 use crate::tight::with_tight_links;
 use crate::{MadeRow, RowMaker};
@@ -22,16 +22,9 @@ pub trait Settling {
         dist: &mut [Option<u64>],
         root: u32,
     ) -> Result<(), AllocError>
-        requires network { IsNetwork top.now }
-        requires places { length dist.old ≡ length top.now.nodes }
+        requires first { IsRootAlone top.now root dist.old }
         requires links { length links.now ≡ length top.now.links }
-        requires bounded { IsBounded dist.old }
-        requires root { entry dist.old root ≡ Some 0 }
-        requires alone { (v : ℕ) → v ≢ root → entry dist.old v ≡ None }
-        ensures bounded { OnOk result (IsBounded dist.new) }
-        ensures found { (start : ℕ) → IsFound top.now links.now start dist.old
-            → OnOk result (IsFound top.now links.now start dist.new) }
-        ensures settled { OnOk result (IsSettled top.now links.now dist.new) };
+        ensures { OnOk result (SettlesTable top.now links.now dist.old dist.new) };
 }
 
 /// Makes each row in one way.
@@ -61,12 +54,9 @@ impl<W: Settling> RowMaker for RowsBy<W> {
 // A table in which the root alone has an entry.
 pub fn start(alloc: Global, top: &Topology, root: u32) -> Result<Vec<Option<u64>>, AllocError>
     requires is_node { root < length top.now.nodes }
-    ensures places { IfOk result (λ dist. length dist.items ≡ length top.now.nodes) }
-    ensures bounded { IfOk result (λ dist. IsBounded dist.items) }
+    ensures first { IfOk result (λ dist. IsRootAlone top.now root dist.items) }
     ensures found { (links : List Bool)
         → IfOk result (λ dist. IsFound top.now links root dist.items) }
-    ensures root { IfOk result (λ dist. entry dist.items root ≡ Some 0) }
-    ensures alone { (v : ℕ) → v ≢ root → IfOk result (λ dist. entry dist.items v ≡ None) }
     ensures network { IsNetwork top.now }
 {
     let mut dist = vec![in alloc; None; top.nodes() as usize]?;

@@ -4,8 +4,9 @@ ghost use Rattle.hose_law.specs.Walk.{all_links};
 ghost use Rattle.hose_paths.specs.steps.Rows.{AreRows};
 
 use crate::chains::Chains;
-use crate::heap::row_along;
+use crate::heap::distances_along;
 use crate::table::RowTable;
+use crate::tight::with_tight_links;
 use hose_graph::{Row, Topology};
 use hose_links::LinkSet;
 use std::alloc::{AllocError, Global};
@@ -29,7 +30,8 @@ pub fn rows_of_all(alloc: Global, top: &Topology, links: &LinkSet) -> Result<Vec
     let chains = Chains::new(alloc, top, links)?;
     let mut rows = Vec::with_capacity(alloc, top.nodes() as usize)?;
     for root in 0..top.nodes() {
-        rows.push(row_along(alloc, top, links, &chains, root)?)?;
+        let far = distances_along(alloc, top, links, &chains, root)?;
+        rows.push(with_tight_links(alloc, top, links, &far)?)?;
     }
     Ok(rows)
 }

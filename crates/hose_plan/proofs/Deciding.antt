@@ -92,9 +92,6 @@ module _ (network : Network) (room : Room) (hose : List (ℕ × ℕ)) (grounds :
   first_allowed found fits same =
       subst (λ (b : Bool). IsPlanOver network (if b then room.links else grounds.safe) hose found) (sym fits) (subst (IsPlanOver network room.links hose) same are.first)
 
-  pub second_allowed : (found : Option (List (ℕ × ℕ))) → grounds.first_fits ≡ false → IsPlanOver network grounds.safe hose found → IsPlanOver network (allowed_links room grounds) hose found
-  second_allowed found unfit over = subst (λ (b : Bool). IsPlanOver network (if b then room.links else grounds.safe) hose found) (sym unfit) over
-
 -- What is planned over a set is a cheapest way to carry the hose over it, and costs what the root weighs.
 pub planned_cheapest : (network : Network) → IsNetwork network → (room : Room) (hose : List (ℕ × ℕ)) (set : List Bool) (plan : List (ℕ × ℕ)) (cost : ℕ)
     → IsPlannedOver network room hose set plan → cost ≡ plan_cost network plan → IsCheapest network set hose plan × ((root : ℕ) × IsRoot network set hose root cost)

@@ -8,15 +8,14 @@ use Rattle.std.proofs.lemmas.Bool.{cases_lt, false≢true}
 use Rattle.std.proofs.lemmas.List.{get_or_past, length-replicate}
 use Rattle.std.proofs.lemmas.List.Elements.{All-contains, All-contains_itself, All-weaker}
 use Rattle.std.proofs.lemmas.List.FromFn.{fill_by_all, get_or-map-range_with_len, length-map-range_with_len}
-use Rattle.hose_graph.specs.Hose.{IsHose}
 use Rattle.hose_graph.specs.Network.{Network, IsNetwork}
 use Rattle.hose_law.specs.Book.{Book}
 use Rattle.hose_law.specs.CanonicalPlan.{IsCanonicalPlan}
-use Rattle.hose_law.specs.Decision.{AreGrounds, CanBeReserved, Fits, HasFirstFit, HaveEqualGrounds, IsPlanned}
+use Rattle.hose_law.specs.Decision.{AreGrounds, Fits, HasFirstFit, HaveEqualGrounds}
 use Rattle.hose_law.specs.Room.{Room, first_links, free_rates, half_rate, room_of, safe_links}
 use Rattle.hose_law.specs.Tree.{links_of}
 use Rattle.hose_law.specs.Walk.{IsIn}
-use Rattle.hose_law.proofs.CanonicalPlans.{canonical_unique, planned_sound, same_planned}
+use Rattle.hose_law.proofs.CanonicalPlans.{canonical_unique}
 use Rattle.hose_tree.specs.steps.Amounts.{AreOnLinks}
 use Rattle.hose_plan.specs.declared.decision.Grounds.{Grounds}
 use Rattle.hose_plan.specs.steps.Planning.{TellsBooks, TellsRooms, AreGroundsOf, AreMade, HoldBySafe, IsSafeStill, room_beside}
@@ -142,12 +141,6 @@ module _ (network : Network) (is : IsNetwork network) (service : List Bool) (loa
       at true false same tells on = (λ hold. absurd (false≢true hold.0), λ still. absurd ((rested false same still).1 (fit_here.0 (tells.0 refl))))
       at false true same tells on = (λ hold. absurd (false≢true hold.0), λ still. absurd (false≢true (tells.1 (fit_here.1 (rested true same still).1))))
 
--- where the links in service are others, the grounds do not hold
-pub other_service : (network : Network) (service : List Bool) (loads : List ℕ) (hose : List (ℕ × ℕ)) (grounds : Grounds) → (¬ (grounds.service ≡ service))
-    → ¬ AreGroundsOf network (room_beside network service loads) hose grounds
-other_service network service loads hose grounds differ still =
-    differ (service_is network (room_beside network service loads) hose grounds.service grounds.first_fits grounds.safe still.rests_on)
-
 -- ---- grounds at two books
 
 -- the grounds of a hose at a room are equal in any telling
@@ -189,12 +182,3 @@ hold_at_books network service loads grounds holds rooms hose earlier now served 
       λ yes. equal.0 (subst Here room (tells.0 yes)),
       λ both. tells.1 (subst Here (sym room) (equal.1 both)),
     )
-
--- A plan of a hose at a book is its plan at each other at which its grounds are equal, and can be reserved there.
-pub planned_here : (network : Network) → IsNetwork network → (earlier now : Book) (hose plan : List (ℕ × ℕ)) → IsHose hose → HaveEqualGrounds network earlier now hose
-    → IsPlanned network (room_of network earlier) hose plan → IsPlanned network (room_of network now) hose plan × CanBeReserved network (room_of network now) hose plan
-planned_here network is earlier now hose plan is_hose equal planned =
-    let one = room_of network earlier in
-    let two = room_of network now in
-    let here = same_planned network one two hose equal.service equal.fits equal.safe equal.here equal.there planned.0 plan planned.1 in
-    ((planned.0, here), planned_sound network is two hose planned.0 plan is_hose here)

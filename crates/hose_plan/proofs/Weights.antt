@@ -1,7 +1,7 @@
 -- Weights of all nodes, while endpoint after endpoint is added.
-use Rattle.std.proofs.Common.{◌≡◌, ◌∙◌, ℕ, ◌+◌, ◌*◌, ◌<◌, ◌≤◌, Bool, List, [], ◌∷◌, ◌++◌, Option, None, Some, length, get_or, replicate, take, refl, sym, ap, subst, arith}
+use Rattle.std.proofs.Common.{◌≡◌, ◌∙◌, ℕ, ◌+◌, ◌*◌, ◌<◌, ◌≤◌, Bool, List, [], ◌∷◌, ◌++◌, Option, None, Some, length, get_or, take, refl, sym, ap, subst, arith}
 use Rattle.std.specs.Option.{IfSome, MatchOption}
-use Rattle.std.proofs.lemmas.List.{get_or-replicate, get_or_default, length-replicate, take_all, take_more}
+use Rattle.std.proofs.lemmas.List.{get_or_default, take_all, take_more}
 use Rattle.std.proofs.lemmas.Nat.{mul-le}
 use Rattle.hose_graph.specs.Network.{Network}
 use Rattle.hose_graph.specs.declared.limits.TheConstants.{MOST_DISTANCE, MOST_RATE}
@@ -38,15 +38,6 @@ module _ (network : Network) (set : List Bool) where
         is_weight = (is.0, rest.weight, is.2, rest.is_weight, refl);
         reaches = rest.reaches;
       }
-
-  -- no endpoint weighs nothing
-  pub weights_of_none : AreWeights network set [] (replicate (length network.nodes) (Some 0))
-  weights_of_none = record {
-    places = length-replicate (length network.nodes) (Some 0);
-    each = λ v node.
-        let here : weight_at (replicate (length network.nodes) (Some 0)) v ≡ Some 0 = get_or-replicate (length network.nodes) v (Some 0) None node in
-        rw here refl;
-  }
 
   -- what a node with such a weight and at such a distance of one more endpoint weighs
   abbrev Weighs : ℕ → List (ℕ × ℕ) → Option ℕ → Type 0

@@ -1,12 +1,12 @@
 // The canonical plan of a hose over a set of links.
-ghost use Rattle.std.specs.Prelude.{◌≡◌, ◌<◌, ◌≤◌, length, All, IfNone, IfOk, IfSome, None, Some};
+ghost use Rattle.std.specs.Prelude.{◌≡◌, ◌≤◌, length, All, IfOk, Some};
 ghost use Rattle.hose_graph.specs.Amounts.{amount_of};
 ghost use Rattle.hose_graph.specs.Hose.{IsHose};
 ghost use Rattle.hose_graph.specs.Network.{IsNetwork};
 ghost use Rattle.hose_law.specs.steps.Plan.{AreNodes};
 ghost use Rattle.hose_law.specs.Row.{IsRow};
 ghost use Rattle.hose_paths.specs.steps.Rows.{AreRows};
-ghost use Rattle.hose_plan.specs.steps.Rooting.{IsBestRoot, IsPlanOver};
+ghost use Rattle.hose_plan.specs.steps.Rooting.{IsBestRoot, IsPlanOver, MakesPlan};
 ghost use Rattle.hose_tree.specs.steps.Amounts.{AreOnLinks};
 
 use crate::root::{best_root, best_root_of_kept, root_row};
@@ -28,15 +28,7 @@ pub fn plan<R: RowMaker>(
 ) -> Result<Option<Amounts>, AllocError>
     requires places { length links.now ≡ length top.now.links }
     requires nodes { AreNodes top.now hose.now }
-    ensures plan { IfOk result (IsPlanOver top.now links.now hose.now) }
-    ensures no_root { IfOk result
-        (λ found. IfNone found (IsBestRoot top.now links.now hose.now None)) }
-    ensures links { IfOk result (λ found. IfSome found (AreOnLinks top.now)) }
-    ensures few { IfOk result (λ found. IfSome found (λ plan. length plan ≤ MOST_TREE_LINKS)) }
-    ensures amounts { IfOk result
-        (λ found. IfSome found (All (λ pair. amount_of pair ≤ MOST_AMOUNT))) }
-    ensures network { IsNetwork top.now }
-    ensures hose { IsHose hose.now }
+    ensures { MakesPlan top.now links.now hose.now result }
 {
     if let Some(kept) = rows.kept(top, links) {
         return plan_by_kept(alloc, top, links, hose, kept);
@@ -65,15 +57,7 @@ pub(crate) fn plan_by_kept(
     requires places { length links.now ≡ length top.now.links }
     requires nodes { AreNodes top.now hose.now }
     requires kept { AreRows top.now links.now kept.now }
-    ensures plan { IfOk result (IsPlanOver top.now links.now hose.now) }
-    ensures no_root { IfOk result
-        (λ found. IfNone found (IsBestRoot top.now links.now hose.now None)) }
-    ensures links { IfOk result (λ found. IfSome found (AreOnLinks top.now)) }
-    ensures few { IfOk result (λ found. IfSome found (λ plan. length plan ≤ MOST_TREE_LINKS)) }
-    ensures amounts { IfOk result
-        (λ found. IfSome found (All (λ pair. amount_of pair ≤ MOST_AMOUNT))) }
-    ensures network { IsNetwork top.now }
-    ensures hose { IsHose hose.now }
+    ensures { MakesPlan top.now links.now hose.now result }
 {
     let Some(root) = best_root_of_kept(alloc, top, links, hose, kept)? else {
         return Ok(None);

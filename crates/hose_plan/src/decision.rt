@@ -1,6 +1,5 @@
 // The decision on a hose, and its grounds.
-ghost use Rattle.std.specs.Prelude.{◌≡◌, ◌↔◌, ◌≤◌, All, IfNone, IfOk, IfSome, IsSomeAnd, IsTrue, None, false, length, replicate, true};
-ghost use Rattle.hose_graph.specs.Amounts.{amount_of};
+ghost use Rattle.std.specs.Prelude.{◌≡◌, ◌↔◌, IfOk, IfSome, IsSomeAnd, IsTrue, false, length, replicate, true};
 ghost use Rattle.hose_graph.specs.Hose.{IsHose};
 ghost use Rattle.hose_graph.specs.Network.{IsNetwork};
 ghost use Rattle.hose_law.specs.Decision.{Fits};
@@ -8,11 +7,11 @@ ghost use Rattle.hose_law.specs.steps.Plan.{AreNodes};
 ghost use Rattle.hose_law.specs.Room.{Room, free_rates, safe_links};
 ghost use Rattle.hose_plan.specs.steps.Planning.{AreGroundsOf, IsCheapestDecision, IsDecision, IsSoundDecision, NamesNodes, allowed_links, room_beside};
 ghost use Rattle.hose_paths.specs.steps.Rows.{AreRows};
-ghost use Rattle.hose_plan.specs.steps.Rooting.{IsBestRoot, IsPlanOver};
+ghost use Rattle.hose_plan.specs.steps.Rooting.{IsPlanOver, MakesPlan};
 ghost use Rattle.hose_tree.specs.steps.Amounts.{AreWithinCapacities, AreOnLinks};
 
 use crate::canonical::{plan, plan_by_kept};
-use hose_graph::{Amounts, Hose, MOST_AMOUNT, MOST_TREE_LINKS, NodeList, Row, Topology};
+use hose_graph::{Amounts, Hose, NodeList, Row, Topology};
 use hose_links::LinkSet;
 use hose_paths::RowMaker;
 use hose_tree::{cost, fits, free_rate, reached};
@@ -134,15 +133,7 @@ fn first_plan<R: RowMaker>(
     requires service { length service.now ≡ length top.now.links }
     requires nodes { AreNodes top.now hose.now }
     requires kept { IfSome kept (λ rows. AreRows top.now service.now rows.now) }
-    ensures plan { IfOk result (IsPlanOver top.now service.now hose.now) }
-    ensures no_root { IfOk result
-        (λ found. IfNone found (IsBestRoot top.now service.now hose.now None)) }
-    ensures links { IfOk result (λ found. IfSome found (AreOnLinks top.now)) }
-    ensures few { IfOk result (λ found. IfSome found (λ plan. length plan ≤ MOST_TREE_LINKS)) }
-    ensures amounts { IfOk result
-        (λ found. IfSome found (All (λ pair. amount_of pair ≤ MOST_AMOUNT))) }
-    ensures network { IsNetwork top.now }
-    ensures hose { IsHose hose.now }
+    ensures { MakesPlan top.now service.now hose.now result }
 {
     if let Some(kept) = kept {
         return plan_by_kept(alloc, top, service, hose, kept);

@@ -14,7 +14,7 @@ ghost use Rattle.hose_root.specs.steps.Weight.{LeavesOut};
 
 use hose_graph::{Endpoint, Hose, MOST_ENDS, MOST_NODES, MOST_RATE, Row, Topology};
 use hose_links::LinkSet;
-use hose_paths::{Chains, MadeRow, distances_along, row_along, row_of, with_tight_links};
+use hose_paths::{Chains, MadeRow, distances_along, row_of, with_tight_links};
 use hose_root::choose;
 use std::alloc::{AllocError, Global};
 
@@ -91,7 +91,8 @@ pub fn root_row(
     ensures { IfOk result (IsRow top.now links.now root) }
 {
     let Some(row) = row_among(top, links, made, root) else {
-        return row_along(alloc, top, links, chains, root);
+        let far = distances_along(alloc, top, links, chains, root)?;
+        return with_tight_links(alloc, top, links, &far);
     };
     with_tight_links(alloc, top, links, row)
 }

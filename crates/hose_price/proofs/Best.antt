@@ -1,8 +1,8 @@
 -- The first of the least costs, place after place.
-use Rattle.std.proofs.Common.{◌≡◌, ℕ, ◌+◌, ◌<◌, ◌≤◌, List, length, subst, inl, inr, arith}
+use Rattle.std.proofs.Common.{◌≡◌, ℕ, ◌+◌, ◌<◌, ◌≤◌, List, subst, inl, inr, arith}
 use Rattle.std.proofs.lemmas.Bool.{cases_lt}
 use Rattle.hose_price.specs.declared.priced.Price.{Price}
-use Rattle.hose_price.specs.Pricing.{IsFirstLeast, cost_at}
+use Rattle.hose_price.specs.Pricing.{cost_at}
 
 -- the place is the first of the least costs below a place
 pub record IsFirstBelow (prices : List Price) (many place : ℕ) : Type 0 where
@@ -49,11 +49,3 @@ module _ (prices : List Price) (many place : ℕ) (is : IsFirstBelow prices many
     where
       same : (other : ℕ) → many ≤ other → other < many + 1 → cost_at prices place ≤ cost_at prices other
       same other past below = let here : many ≡ other = omega (arith, past, below) in subst (λ (n : ℕ). cost_at prices place ≤ cost_at prices n) here most
-
--- below all places it is the first of all
-pub first_of_all : (prices : List Price) (many place : ℕ) → many ≡ length prices → IsFirstBelow prices many place → IsFirstLeast prices place
-first_of_all prices many place all is = record {
-  there = omega (arith, all, is.there);
-  least = λ other below. is.least other (omega (arith, all, below));
-  first = is.first;
-}

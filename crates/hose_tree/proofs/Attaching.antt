@@ -3,7 +3,7 @@ use Rattle.std.proofs.Common.{◌≡◌, ◌⊎◌, ◌∙◌, ℕ, ◌+◌, ◌
 use Rattle.std.proofs.lemmas.Bool.{cases_eq, cases_lt, false≢true}
 use Rattle.std.proofs.lemmas.List.{get_or_past, reverse-append}
 use Rattle.std.proofs.lemmas.List.Elements.{All-cons}
-use Rattle.std.proofs.lemmas.Option.{none-some, slice_get_within}
+use Rattle.std.proofs.lemmas.Option.{slice_get_within}
 use Rattle.hose_graph.specs.declared.topology.Step.{Step}
 use Rattle.hose_graph.specs.Network.{Network, IsNetwork}
 use Rattle.hose_graph.specs.Row.{Distances, distance_of, tight_link_of}
@@ -13,7 +13,7 @@ use Rattle.hose_law.specs.Tree.{IsOn, step_links, new_nodes}
 use Rattle.hose_law.proofs.Walks.{joins_turned}
 use Rattle.hose_law.proofs.Joined.{joined}
 use Rattle.hose_law.proofs.Distances.{distance_unique}
-use Rattle.hose_law.proofs.Rows.{tight_nearer, tight_not_root, row_has_tight_link, row_leads_nearer, row_tight_link}
+use Rattle.hose_law.proofs.Rows.{tight_nearer, tight_not_root, row_leads_nearer, row_tight_link}
 use Rattle.hose_law.proofs.TightWays.{other_unique, other_nearer, tight_way, on_after}
 use Rattle.hose_tree.specs.steps.Attached.{IsTightTree, IsAttached, IsNoFarther, IsOnTightWay}
 use Rattle.hose_graph.proofs.Members.{contains_first, contains_rest, first_or_rest}
@@ -68,16 +68,6 @@ module _ (network : Network) (is : IsNetwork network) (set_of : List Bool) (root
         leads.here,
         omega (arith, leads.costs),
       )
-
-  -- a node that is reached and has no tight link is the root
-  pub none_at_root : (v : ℕ) → IsSome (distance_of row v) → tight_link_of row v ≡ None → v ≡ root
-  none_at_root v some none = elim (cases_eq v root) [
-    | inl same ↦ same
-    | inr differ ↦
-        let its = its_distance row v some in
-        let link = row_has_tight_link network is set_of root row is_row v its.0 (is_node v some) differ its.1 in
-        absurd (none-some link.0 (sym none ∙ link.1))
-  ]
 
   -- a node that is on the tree needs no step
   pub attached_there : (v : ℕ) (steps : List Step) (on : List Bool) → IsTightTree network set_of root steps on → IsOn root steps v

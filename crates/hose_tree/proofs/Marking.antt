@@ -1,10 +1,10 @@
 -- Nodes beyond a link of a tree, marked step by step.
-use Rattle.std.proofs.Common.{◌≡◌, ◌≢◌, ◌∙◌, ℕ, ◌+◌, ◌<◌, ◌≤◌, ◌||◌, Bool, true, false, List, [], ◌∷◌, ◌++◌, cond, eqb, length, get_or, reverse, take, refl, sym, ap, subst, inl, inr, arith, get_or-set_same, get_or-set_other}
+use Rattle.std.proofs.Common.{◌≡◌, ◌≢◌, ◌∙◌, ℕ, ◌+◌, ◌<◌, ◌||◌, Bool, true, false, List, [], ◌∷◌, ◌++◌, cond, eqb, length, get_or, reverse, take, refl, sym, ap, subst, inl, inr, arith, get_or-set_same, get_or-set_other}
 use Rattle.std.specs.List.{Contains}
 use Rattle.std.specs.Prelude.{replicate}
 use Rattle.std.proofs.Math.ListN.{set}
 use Rattle.std.proofs.lemmas.Bool.{cases_eq, eq-eqb, ne_eqb}
-use Rattle.std.proofs.lemmas.List.{get_or-replicate, get_or_past, length-replicate, length-set, reverse-append, take_all, take_more}
+use Rattle.std.proofs.lemmas.List.{get_or-replicate, get_or_past, length-replicate, length-set, reverse-append, take_more}
 use Rattle.std.proofs.lemmas.List.Elements.{Contains-get_or}
 use Rattle.std.proofs.lemmas.Bool.{cases_lt}
 use Rattle.std.proofs.lemmas.List.Sorted.{Contains-permutation, IsPermutation-reverse}
@@ -15,7 +15,6 @@ use Rattle.hose_graph.proofs.Members.{first_or_rest, none_in_empty}
 use Rattle.hose_law.specs.Tree.{Growth, Grow, IsTree, goes_along, links_up}
 use Rattle.hose_law.specs.Walk.{Joins}
 use Rattle.hose_law.proofs.Joined.{joins_nodes}
-use Rattle.hose_tree.specs.steps.Side.{AreBeyond}
 
 -- the link of each step joins the step's nodes
 step_joins : (network : Network) (start : ℕ) (steps : List Step) → Grow network start steps → (step : Step) → Contains steps step → Joins network step.link step.old step.new
@@ -90,9 +89,3 @@ module _ (tree : Growth) (link : ℕ) where
       way_other v differ =
           ap (λ (steps : List Step). goes_along (links_up steps v) link) turned
           ∙ ap (λ (b : Bool). goes_along (cond b (step.link ∷ links_up earlier step.old) (links_up earlier v)) link) (ne_eqb v step.new differ)
-
-  pub marked_all : (n : ℕ) (marks : List Bool) → length tree.steps ≤ n → IsMarked tree link n marks → AreBeyond tree link marks
-  marked_all n marks all is = record {
-    places = is.places;
-    each = λ v. is.each v ∙ ap (λ (steps : List Step). goes_along (links_up (reverse steps) v) link) (take_all n tree.steps all);
-  }

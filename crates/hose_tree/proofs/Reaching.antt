@@ -1,6 +1,6 @@
 -- What it does to a side that two nodes are put on it.
 use Rattle.std.proofs.Common.{◌≡◌, ◌≢◌, ◌⊎◌, ℕ, zero, suc, ◌+◌, ◌<◌, ◌≤◌, Bool, true, false, List, [], ◌∷◌, length, get_or, set, refl, sym, ◌∙◌, ap, subst, inl, inr, arith, cond, length-set, replicate}
-use Rattle.std.proofs.lemmas.List.{get_or-set_same, get_or-set_other}
+use Rattle.std.proofs.lemmas.List.{get_or-set_other}
 use Rattle.std.proofs.lemmas.List.Sums.{sum_by-set, sum_by-cons}
 use Rattle.std.proofs.lemmas.Bool.{cases_eq, cond_both, false≢true}
 use Rattle.hose_graph.specs.Network.{Network}
@@ -9,13 +9,6 @@ use Rattle.hose_law.specs.steps.Walk.{IsClosedSide}
 use Rattle.hose_law.specs.steps.Plan.{IsReachedSet}
 use Rattle.hose_law.proofs.Walks.{joins_turned, reaches_itself, reaches_on, reaches_along, stays}
 use Rattle.hose_tree.specs.steps.Reach.{count_on, AllReached}
-
--- a node that is on it stays on it
-pub put_keeps : (side : List Bool) (i v : ℕ) → i < length side → IsIn side v → IsIn (set side i true) v
-put_keeps side i v inside here = elim (cases_eq v i) [
-  | inl same ↦ subst (λ (n : ℕ). IsIn (set side i true) n) (sym same) (get_or-set_same side i true false inside)
-  | inr other ↦ get_or-set_other side i v true false other ∙ here
-]
 
 -- one that is on it afterwards was on it, or is the one that was put there
 pub put_adds : (side : List Bool) (i v : ℕ) → IsIn (set side i true) v → (v ≡ i) ⊎ IsIn side v

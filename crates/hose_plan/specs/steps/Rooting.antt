@@ -1,14 +1,15 @@
 -- What some endpoints cost from each node, and the root.
-use Rattle.std.specs.Prelude.{◌≡◌, ℕ, ◌+◌, ◌*◌, ◌<◌, ◌≤◌, Bool, List, length, All, Option, None, Some, IfSome, MatchOption}
-use Rattle.hose_graph.specs.Limits.{most_rate}
+use Rattle.std.specs.Prelude.{◌≡◌, ℕ, ◌+◌, ◌*◌, ◌<◌, ◌≤◌, Bool, List, length, All, Option, None, Some, Result, IfNone, IfOk, IfSome, MatchOption}
+use Rattle.hose_graph.specs.Limits.{most_amount, most_rate, most_tree_links}
 use Rattle.hose_graph.specs.steps.Limits.{most_distance}
-use Rattle.hose_graph.specs.Amounts.{ReservedLink}
-use Rattle.hose_graph.specs.Hose.{Endpoint}
-use Rattle.hose_graph.specs.Network.{Network}
+use Rattle.hose_graph.specs.Amounts.{ReservedLink, amount_of}
+use Rattle.hose_graph.specs.Hose.{Endpoint, IsHose}
+use Rattle.hose_graph.specs.Network.{IsNetwork, Network}
 use Rattle.hose_graph.specs.Row.{Distances}
 use Rattle.hose_law.specs.CanonicalPlan.{IsCanonicalPlan, IsRoot, IsWeight}
 use Rattle.hose_paths.specs.steps.Rows.{HasDistances}
 use Rattle.hose_root.specs.steps.Choice.{weight_at}
+use Rattle.hose_tree.specs.steps.Amounts.{AreOnLinks}
 
 -- each has the distances from its root over a set of links
 abbrev pub AreDistancesOver : Network → List Bool → List Distances → Type 0
@@ -48,3 +49,16 @@ abbrev pub IsPlanOver : Network → List Bool → List Endpoint → Option (List
 IsPlanOver network set hose found =
     MatchOption found ((plan : List ReservedLink) → ¬ IsCanonicalPlan network set hose plan)
     (IsCanonicalPlan network set hose)
+
+-- What is told where the plan of a hose over a set of links was asked for: the plan, on links of
+-- the network and within the limits, or that no root has one; or memory was wanting.
+pub record MakesPlan {E : Type 0} (top : Network) (set : List Bool) (ends : List Endpoint)
+    (result : Result (Option (List ReservedLink)) E) : Type 0 where
+  pub plan : IfOk result (IsPlanOver top set ends)
+  pub no_root : IfOk result (λ found. IfNone found (IsBestRoot top set ends None))
+  pub links : IfOk result (λ found. IfSome found (AreOnLinks top))
+  pub few : IfOk result (λ found. IfSome found (λ reserved. length reserved ≤ most_tree_links))
+  pub amounts : IfOk result
+      (λ found. IfSome found (All (λ pair. amount_of pair ≤ most_amount)))
+  pub network : IsNetwork top
+  pub hose : IsHose ends

@@ -5,10 +5,6 @@ use Rattle.hose_book.specs.steps.Refusal.{AreInService}
 use Rattle.hose_book.proofs.Served.{all_served}
 use Rattle.hose_book.proofs.Book.first_out.Goals as goal
 
-pub first_link_out-requires : goal.first_link_out-requires
-first_link_out-requires c = λ k d inside.
-    omega (arith, c.requires k d inside, c.service.ensures.places, ap (λ (s : Ledger). length s.network.links) c.self.view_is)
-
 pub returns-then-are_all-clause-none : goal.returns-then-are_all-clause-none
 returns-then-are_all-clause-none c =
     subst (λ (s : Ledger). AreInService (first_links s.network s.book) c.args.amounts.now) c.self.view_is

@@ -1,22 +1,15 @@
-use Rattle.std.proofs.Common.{◌≡◌, ◌∙◌, List, get_or, refl, sym, ap, arith}
+use Rattle.std.proofs.Common.{◌∙◌, List, get_or, refl, sym, ap}
 use Rattle.std.proofs.lemmas.Bool.{not-true, not-false}
 use Rattle.hose_graph.specs.declared.entry.Vpn.{Vpn}
 use Rattle.hose_law.specs.Book.{Book}
 use Rattle.hose_book.specs.Ledger.{Ledger}
 use Rattle.hose_book.proofs.Ids.{absent, of_another, of_customer}
-use Rattle.hose_book.proofs.Releasing.{within}
 use Rattle.hose_book.proofs.Book.place_of.Goals as goal
 
 pub returns-in_default-clause-none : goal.returns-in_default-clause-none
 returns-in_default-clause-none c =
     let book : Book = record { epoch = c.self.inside.epoch; live = c.self.inside.live; out = c.self.inside.served.out } in
     absent book c.args.self.now c.as_slice-live.result.now c.args.customer.now c.args.id c.as_slice-live.ensures.value (ap (λ (s : Ledger). s.book) c.self.view_is) (c.in_default.ensures.none refl)
-
-pub bounds-live-place : goal.bounds-live-place
-bounds-live-place c = within c.as_slice-live.result.now c.in-Some.place (λ (vpn : Vpn). vpn.id ≡ c.args.id) c.in-Some.ensures.found
-
-pub offset_bounds-live-place : goal.offset_bounds-live-place
-offset_bounds-live-place c = omega (arith, bounds-live-place c, c.as_slice-live.type_inv)
 
 pub returns-then-ne-clause-none : goal.returns-then-ne-clause-none
 returns-then-ne-clause-none c =

@@ -2,7 +2,7 @@ use Rattle.std.proofs.Common.{◌≡◌, ◌+◌, ◌<◌, ◌≤◌, ◌++◌, 
 use Rattle.std.proofs.lemmas.List.{take_at}
 use Rattle.hose_graph.specs.declared.entry.Vpn.{Vpn}
 use Rattle.hose_graph.specs.declared.entry.Entry.TheVariants.{Release}
-use Rattle.hose_law.specs.Book.{Book, IsLiveVpn, amount_on, load_of}
+use Rattle.hose_law.specs.Book.{Book, amount_on, load_of}
 use Rattle.hose_law.specs.History.{next_book}
 use Rattle.hose_graph.specs.Limits.{most_epoch}
 use Rattle.hose_law.specs.steps.Live.{HasRisingIds}
@@ -13,7 +13,7 @@ use Rattle.hose_book.specs.steps.Changes.{AreUpTo, with_changes}
 use Rattle.hose_book.specs.Ledger.{Ledger}
 use Rattle.hose_book.specs.steps.Ledger.{AreKeptLoads, IsKept, next_ledger}
 use Rattle.hose_book.proofs.Tracking.{floor_next, with_up_to}
-use Rattle.hose_book.proofs.Releasing.{Taken, kept_left, taken_in, within}
+use Rattle.hose_book.proofs.Releasing.{Taken, kept_left, taken_in}
 use Rattle.hose_book.proofs.Book.remove.Goals as goal
 
 pub subtract_amounts-requires-clause-links : goal.subtract_amounts-requires-clause-links
@@ -100,8 +100,3 @@ returns c =
     let recent = c.add.ensures ∙ ap (λ (pairs : List (ℕ × ℕ)). with_changes c.self.inside.recent book.epoch (firsts pairs)) c.pairs-2.ensures.value ∙ ap (with_changes c.self.inside.recent book.epoch) (sym out.touched) in
     (λ i. record { network = c.self.inside.topology; book = sym next i; recent = recent i })
     ∙ ap (λ (s : Ledger). next_ledger s (Release customer id)) c.self.view_is
-
-pub remove-requires : goal.remove-requires
-remove-requires c =
-    let customer = c.args.customer.now in
-    omega (arith, within c.args.self.now.book.live c.args.place (IsLiveVpn c.args.self.now.book customer c.args.id) c.requires.there, ap (λ (s : Ledger). length s.book.live) c.self.view_is)

@@ -1,7 +1,6 @@
-use Rattle.std.proofs.Common.{rules, ◌≡◌, ◌∙◌, ◌<◌, ltb, length, ap, refl, arith}
+use Rattle.std.proofs.Common.{rules, ◌≡◌, ◌∙◌, ltb, ap, refl, arith}
 use Rattle.std.proofs.lemmas.Fn.{answers_by}
 use Rattle.std.proofs.lemmas.List.{get_or_default}
-use Rattle.std.proofs.lemmas.Option.{slice_get-get_or}
 use Rattle.hose_graph.specs.declared.entry.Vpn.{Vpn}
 use Rattle.hose_book.proofs.Ids.{below_first, nowhere_else}
 use Rattle.hose_book.proofs.finding.place_of_id.Goals as goal
@@ -17,11 +16,3 @@ returns-then-place-live-clause-none c none vpn there same =
       | then-place-live-via-then-place-live w ↦ omega (arith, w.if-place-live.true, found.0)
       | then-place-live-via-else-place-live+then-live-place w ↦ w.if-live-place.true (ap (λ (v : Vpn). v.id) (get_or_default live c.partition_point-place.result w.index-live-place.result vpn found.0) ∙ found.1)
     ]
-
-pub returns-clause-found : goal.returns-clause-found
-returns-clause-found c =
-    let live = c.args.live.now in
-    let place = c.partition_point-place.result in
-    let inside : place < length live = omega (arith, c.partition_point-place.ensures.bound, c.if-place-live.false) in
-    let there = slice_get-get_or live place c.index-live-place.result inside in
-    rw there c.if-live-place.false

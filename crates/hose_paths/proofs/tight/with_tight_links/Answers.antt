@@ -1,18 +1,9 @@
 -- The distances and the links that are tight by them are the row.
-use Rattle.std.proofs.Common.{◌≡◌, ◌∙◌, ℕ, List, Option, All, length, sym, ap, subst}
+use Rattle.std.proofs.Common.{◌≡◌, ◌∙◌, ℕ, List, Option, length, sym, ap, subst}
 use Rattle.std.proofs.lemmas.List.{with_items_is}
-use Rattle.hose_graph.specs.steps.Row.{IsWithinReach}
 use Rattle.hose_paths.specs.steps.Table.{IsLowestTight, entry}
 use Rattle.hose_paths.proofs.Made.{row_made}
 use Rattle.hose_paths.proofs.tight.with_tight_links.Goals as goal
-
-pub mark_tight_links-requires-clause-places : goal.mark_tight_links-requires-clause-places
-mark_tight_links-requires-clause-places c = ap length c.dist_of-far.ensures ∙ c.requires.distances.1.dist_places
-
-pub mark_tight_links-requires-clause-bounded : goal.mark_tight_links-requires-clause-bounded
-mark_tight_links-requires-clause-bounded c =
-    subst (λ (d : List (Option ℕ)). All IsWithinReach d) (sym c.dist_of-far.ensures)
-    c.requires.distances.1.bounded
 
 pub returns-clause-row : goal.returns-clause-row
 returns-clause-row c root has =
@@ -27,9 +18,3 @@ returns-clause-row c root has =
     let lowest : (v : ℕ) → IsLowestTight network links row.dist v (entry tight v) =
     λ v. subst (λ (table : List (Option ℕ)). IsLowestTight network links table v (entry tight v)) c.dist_of-far.ensures (c.mark_tight_links.ensures.lowest v) in
     rw (c.root_of.ensures, own, tight_is) (row_made network c.nodes.ensures.network links root row tight has tight_places lowest)
-
-pub returns-clause-bounded : goal.returns-clause-bounded
-returns-clause-bounded c =
-    let own : c.in_ok-dist.dist.items ≡ c.args.row.now.dist = c.in_ok-dist.ensures.items ∙ c.dist_of-far.ensures in
-    subst (λ (d : List (Option ℕ)). All IsWithinReach d) (sym own)
-    c.requires.distances.1.bounded

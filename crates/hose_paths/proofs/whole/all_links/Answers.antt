@@ -14,6 +14,3 @@ returns-clause-links c =
     let answer = c.fill_where.ensures.answers k below in
     let here : get_or c.fill_where.new.self k false ≡ true = search rules in
     here ∙ sym (get_or-replicate n k true false (omega (arith, below, long))))
-
-pub returns-clause-places : goal.returns-clause-places
-returns-clause-places c = c.fill_where.ensures.len ∙ ap length c.in_ok-links.ensures ∙ length-replicate c.links.result false ∙ c.links.ensures.count

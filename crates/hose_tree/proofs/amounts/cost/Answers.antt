@@ -1,16 +1,6 @@
-use Rattle.std.proofs.Common.{length, ap, arith}
+use Rattle.std.proofs.Common.{arith}
 use Rattle.hose_tree.proofs.Costs.{cost_more, cost_little}
 use Rattle.hose_tree.proofs.amounts.cost.Goals as goal
-
-pub overflow_mul-sum : goal.overflow_mul-sum
-overflow_mul-sum c =
-    let little = cost_little c.args.amounts.now c.pairs-link-items.result.now c.pairs-link-items.ensures.value c.requires.amounts c.loop-link.link-index c.loop-link-test.true c.link.result.cost c.link.ensures.is_link.in_range.cost.1 in
-    omega (arith, little)
-
-pub overflow_add-sum : goal.overflow_add-sum
-overflow_add-sum c =
-    let little = cost_little c.args.amounts.now c.pairs-link-items.result.now c.pairs-link-items.ensures.value c.requires.amounts c.loop-link.link-index c.loop-link-test.true c.link.result.cost c.link.ensures.is_link.in_range.cost.1 in
-    omega (arith, little, ap length c.pairs-link-items.ensures.value, c.requires.few, c.loop-link.invariant.small, c.loop-link-test.true)
 
 pub loop-link-preserved : goal.loop-link-preserved
 loop-link-preserved c =

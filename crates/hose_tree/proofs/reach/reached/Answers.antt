@@ -1,4 +1,4 @@
-use Rattle.std.proofs.Common.{◌≡◌, ◌∙◌, ℕ, ◌<◌, All, length, drop, sym, subst, arith}
+use Rattle.std.proofs.Common.{◌≡◌, ◌∙◌, length, drop, sym, subst, arith}
 use Rattle.std.proofs.lemmas.List.{take_at}
 use Rattle.std.proofs.lemmas.Result.{IfOk-weaker}
 use Rattle.hose_law.specs.steps.Plan.{IsReachedSet}
@@ -24,12 +24,4 @@ returns-clause-list c =
     let side = c.deref.result.now in
     IfOk-weaker c.nodes_on.result (AreNodesBelow side (length side)) (IsReachedList c.args.top.now c.args.links.now c.args.from)
     (λ nodes are. reached_list c.args.top.now c.args.links.now c.args.from side nodes c.nodes.ensures.network c.requires.is_node (side_of_reached c) are)
-    c.nodes_on.ensures.nodes
-
-pub returns-clause-nodes : goal.returns-clause-nodes
-returns-clause-nodes c =
-    let side = c.deref.result.now in
-    let places = (side_of_reached c).places in
-    IfOk-weaker c.nodes_on.result (AreNodesBelow side (length side)) (All (λ (v : ℕ). v < length c.args.top.now.nodes))
-    (λ nodes are. subst (λ (n : ℕ). All (λ (v : ℕ). v < n) nodes) places are.below)
     c.nodes_on.ensures.nodes

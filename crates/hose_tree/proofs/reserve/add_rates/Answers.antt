@@ -3,10 +3,6 @@ use Rattle.hose_graph.specs.declared.limits.TheConstants.{MOST_NODES}
 use Rattle.hose_tree.proofs.Moving.{end_is_node, rate_fits, rates_more}
 use Rattle.hose_tree.proofs.reserve.add_rates.Goals as goal
 
-pub add_rate-requires-clause-there : goal.add_rate-requires-clause-there
-add_rate-requires-clause-there c =
-    omega (arith, end_is_node c.args.ends.now c.loop-node.node-index c.requires.hose c.loop-node-test.true)
-
 pub add_rate-requires-clause-fits : goal.add_rate-requires-clause-fits
 add_rate-requires-clause-fits c =
     let ends = c.args.ends.now in

@@ -1,14 +1,8 @@
 use Rattle.std.proofs.Common.{ℕ, ◌+◌, ◌≤◌, [], length, take, get_or, arith}
-use Rattle.std.proofs.lemmas.List.{length-take}
 use Rattle.std.proofs.lemmas.List.Elements.{All-weaker}
 use Rattle.hose_tree.specs.steps.Peeling.{IsPossible}
 use Rattle.hose_tree.proofs.Forests.{MOST, MOST_SMALL, forest_more, next_more, room, small_room}
 use Rattle.hose_tree.proofs.judge.Forest.add_links.Goals as goal
-
-pub add_link-requires-clause-places : goal.add_link-requires-clause-places
-add_link-requires-clause-places c =
-    let is_link = c.link.ensures.is_link in
-    record { a = omega (arith, is_link.in_range.a, c.requires.network.few_nodes); b = omega (arith, is_link.in_range.b, c.requires.network.few_nodes) }
 
 pub add_link-requires-clause-degrees : goal.add_link-requires-clause-degrees
 add_link-requires-clause-degrees c =
@@ -32,10 +26,6 @@ add_link-requires-clause-amounts c =
     room c.args.top.now (λ pair. pair.1) pairs c.loop-number.number-index (get_or pairs c.loop-number.number-index (0, 0)).1 c.loop-number.self.amounts
     (All-weaker (IsPossible links c.args.total) (λ (pair : ℕ × ℕ). pair.1 ≤ MOST) each pairs c.requires.possible) c.requires.few
     (each _ (c.requires.possible c.loop-number.number-index (0, 0) c.loop-number-test.true)) c.loop-number.invariant.amounts
-
-pub add_link-requires-clause-left : goal.add_link-requires-clause-left
-add_link-requires-clause-left c =
-    omega (arith, c.loop-number.invariant.left, length-take c.loop-number.number-index c.args.pairs.now, c.requires.few, c.loop-number-test.true)
 
 pub loop-number-preserved : goal.loop-number-preserved
 loop-number-preserved c =
