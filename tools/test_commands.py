@@ -31,7 +31,7 @@ class Commands(unittest.TestCase):
     def setUp(self):
         source = read("hose_proto", "src", "verb.rt")
         self.usage = re.findall(r"// `(.*)`\n    (\w+),", source)
-        self.words = dict(re.findall(r'Verb::(\w+) => b"(\S+)"', source))
+        self.words = dict(re.findall(r'\(Verb::(\w+), b"(\S+)"\)', source))
         meaning = read("hose_proto", "specs", "Command.antt")
         self.lines = {verb: (word, fields.split()) for verb, word, fields in
                       re.findall(r'verb_line verb\.(\w+) = \(codes "(\S+)", (.*)\)', meaning)}
@@ -109,8 +109,7 @@ class Program:
 
     def __init__(self, verb, meaning, texts):
         self.usage = re.findall(r"/// `(.*)`\n    (\w+),", verb)
-        self.looked_through = re.findall(r"^    ProgramVerb::(\w+),$", verb, re.M)
-        self.words = re.findall(r'ProgramVerb::(\w+) => b"(\S+)"', verb)
+        self.words = re.findall(r'\(ProgramVerb::(\w+), b"(\S+)"\)', verb)
         rows = re.findall(r'^program_line command\.(\w+) =\s+\(\s*codes "(\S+)",\s+(.*?),?\s*\)$',
                           meaning, re.S | re.M)
         self.row_words = [(name, word) for name, word, _ in rows]
@@ -121,8 +120,7 @@ class Program:
     def pairs(self):
         """What has to be the same, two by two."""
         names = [name for _, name in self.usage]
-        return {"looked through": (names, self.looked_through),
-                "words": (names, [name for name, _ in self.words]),
+        return {"words": (names, [name for name, _ in self.words]),
                 "words of rows": (self.words, self.row_words),
                 "usage of rows": ([without_streams(usage) for usage, _ in self.usage],
                                   self.row_usage),
@@ -133,8 +131,7 @@ class Program:
 CHANGES = {
     "verb": [("`audit [--tariff", "`audits [--tariff"), ("FROM > PACKETS", "[FROM] > PACKETS"),
              ("TOPOLOGY < SHEET", "TOPOLOGY < SHEETS"), ('b"gen"', 'b"make"'),
-             ("    ProgramVerb::Ship,\n    ProgramVerb::Follow,\n",
-              "    ProgramVerb::Follow,\n    ProgramVerb::Ship,\n")],
+             ("(ProgramVerb::Ship", "(ProgramVerb::Follow")],
     "meaning": [('codes "--live"', 'codes "--alive"'), ('codes "--tariff"', 'codes "--prices"'),
                 ("(λ from. no_more)", "no_more"), ("(λ from. no_more)", "(λ since. no_more)"),
                 ("by_tariff_and_live moved_names", "by_tariff moved_names"),

@@ -1,8 +1,8 @@
 -- The kinds of a certificate's lines, and the words that tell them.
-use Rattle.std.proofs.Common.{◌≡◌, ◌∙◌, ℕ, List, refl, sym, ap, arith}
-use Rattle.std.specs.List.{All}
+use Rattle.std.proofs.Common.{◌≡◌, ◌∙◌, ℕ, List, map, refl, sym, ap, arith}
 use Rattle.hose_words.proofs.Keywords.{choice_of}
-use Rattle.hose_proto.proofs.Words.{every_choice}
+use Rattle.hose_proto.specs.steps.Choices.{IsWordTable}
+use Rattle.hose_proto.proofs.Words.{is_table}
 use Rattle.hose_cert.specs.steps.Statement.{statement_word}
 use Rattle.hose_cert.specs.declared.statement.StatementKind.{StatementKind}
 use Rattle.hose_cert.specs.declared.statement.StatementKind.TheVariants as kind
@@ -10,7 +10,7 @@ use Rattle.hose_cert.specs.declared.statement.TheConstants.{KINDS}
 
 -- the kind that a word tells
 abbrev pub kind_of_word : List ℕ → StatementKind
-kind_of_word word = choice_of statement_word KINDS kind.End word
+kind_of_word word = choice_of statement_word (map (λ row. row.0) KINDS) kind.Cost word
 
 pub kind_of_word-word : (one : StatementKind) → kind_of_word (statement_word one) ≡ one
 kind_of_word-word kind.Cost = refl
@@ -20,6 +20,6 @@ kind_of_word-word other = refl
 pub kinds_apart : (one other : StatementKind) → statement_word one ≡ statement_word other → one ≡ other
 kinds_apart one other same = sym (kind_of_word-word one) ∙ ap kind_of_word same ∙ kind_of_word-word other
 
--- what holds of all kinds in the list holds of each
-pub every_kind : (P : StatementKind → Type 0) → All P KINDS → (one : StatementKind) → P one
-every_kind P all = every_choice statement_word KINDS kind.End kind_of_word-word P all (all 5 kind.End (omega arith))
+-- the table has each kind with its word
+pub kinds_told : IsWordTable statement_word (map (λ row. (row.0, row.1.now)) KINDS)
+kinds_told = is_table statement_word (map (λ row. (row.0, row.1.now)) KINDS) kind.Cost refl kind_of_word-word (λ P all. all 0 kind.Cost (omega arith))

@@ -5,18 +5,17 @@ ghost use Rattle.hose_cert.specs.CertLine.{IsSpaced, IsSpelled, SaysLine};
 ghost use Rattle.hose_cert.specs.steps.Reading.{AreNumberWords, IsFrom, IsLineTold, IsToldAfter};
 
 use crate::fault::CertFault;
-use crate::statement::{LINE_NUMBERS, MOST_NUMBER, Pot, Statement, StatementKind};
+use crate::statement::{KINDS, LINE_NUMBERS, MOST_NUMBER, Pot, Statement, StatementKind};
 use hose_graph::{MOST_AMOUNT, Topology};
-use hose_proto::{ReadFault, read_hose};
+use hose_proto::{ReadFault, next_choice, read_hose};
 use hose_words::Cursor;
 use std::alloc::Global;
 
+// What words tell, where they are those of a certificate.
+type Parsed<T> = Result<Option<T>, CertFault>;
+
 // What a line says, where it is one of a certificate.
-pub(crate) fn read_line(
-    alloc: Global,
-    top: &Topology,
-    line: &[u8],
-) -> Result<Option<Statement>, CertFault>
+pub(crate) fn read_line(alloc: Global, top: &Topology, line: &[u8]) -> Parsed<Statement>
     ensures told { IfOk result (IsLineTold (SaysLine top.now line.now)) }
     ensures memory { IfErr result (λ fault. fault ≡ CertFault.Memory) }
     ensures network { IsNetwork top.now }
@@ -39,16 +38,12 @@ fn is_spaced(line: &[u8]) -> bool
 }
 
 // What the words of a line say.
-fn read_words(
-    alloc: Global,
-    top: &Topology,
-    words: &mut Cursor<'_>,
-) -> Result<Option<Statement>, CertFault>
+fn read_words(alloc: Global, top: &Topology, words: &mut Cursor<'_>) -> Parsed<Statement>
     requires { IsNetwork top.now }
     ensures told { IfOk result (IsLineTold (IsSpelled top.now words.old.left)) }
     ensures memory { IfErr result (λ fault. fault ≡ CertFault.Memory) }
 {
-    let Ok(kind) = words.keyword::<StatementKind>() else {
+    let Ok(kind) = next_choice(words, &KINDS) else {
         return Ok(None);
     };
     match kind {
@@ -72,11 +67,7 @@ fn read_cost(words: &mut Cursor<'_>) -> Option<Statement>
 }
 
 // The words after `hose`.
-fn read_ends(
-    alloc: Global,
-    top: &Topology,
-    words: &mut Cursor<'_>,
-) -> Result<Option<Statement>, CertFault>
+fn read_ends(alloc: Global, top: &Topology, words: &mut Cursor<'_>) -> Parsed<Statement>
     requires { IsNetwork top.now }
     ensures told { IfOk result (IsToldAfter top.now StatementKind.Hose words.old.left) }
     ensures memory { IfErr result (λ fault. fault ≡ CertFault.Memory) }
@@ -112,11 +103,7 @@ fn read_without(top: &Topology, words: &mut Cursor<'_>) -> Option<Statement>
 }
 
 // The words after `pot`.
-fn read_pot(
-    alloc: Global,
-    top: &Topology,
-    words: &mut Cursor<'_>,
-) -> Result<Option<Statement>, CertFault>
+fn read_pot(alloc: Global, top: &Topology, words: &mut Cursor<'_>) -> Parsed<Statement>
     ensures told { IfOk result (IsToldAfter top.now StatementKind.Pot words.old.left) }
     ensures memory { IfErr result (λ fault. fault ≡ CertFault.Memory) }
 {
@@ -151,11 +138,7 @@ fn read_end(words: &Cursor<'_>) -> Option<Statement>
 }
 
 // So many numbers, up to the end of the line.
-fn read_numbers(
-    alloc: Global,
-    count: usize,
-    words: &mut Cursor<'_>,
-) -> Result<Option<Vec<u64>>, CertFault>
+fn read_numbers(alloc: Global, count: usize, words: &mut Cursor<'_>) -> Parsed<Vec<u64>>
     ensures told { IfOk result (λ told. MatchOption told
         ((numbers : List ℕ) → AreNumberWords count words.old.left numbers → ⊥)
         (λ numbers. AreNumberWords count words.old.left numbers.items)) }

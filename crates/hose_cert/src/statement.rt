@@ -1,11 +1,8 @@
 // What a line of a certificate says, the words that begin it, and the limits of its numbers.
-ghost use Rattle.hose_cert.specs.steps.Statement.{statement_word};
 ghost use Rattle.std.specs.Prelude.{◌≡◌};
 ghost use Rattle.hose_cert.specs.Limits.{line_numbers, most_number};
 
 use hose_graph::{Hose, ReservedLink};
-use hose_proto::{HasWord, with_word};
-use hose_words::Keyword;
 
 /// The greatest cost and the greatest number of a certificate, above each cost of a plan.
 pub const MOST_NUMBER: u64 = 40_000_000_000_000_000;
@@ -49,34 +46,11 @@ pub enum StatementKind {
     End,
 }
 
-const KINDS: [StatementKind; 6] = [
-    StatementKind::Cost,
-    StatementKind::Hose,
-    StatementKind::Use,
-    StatementKind::Without,
-    StatementKind::Pot,
-    StatementKind::End,
+pub(crate) const KINDS: [(StatementKind, &[u8]); 6] = [
+    (StatementKind::Cost, b"cost"),
+    (StatementKind::Hose, b"hose"),
+    (StatementKind::Use, b"use"),
+    (StatementKind::Without, b"without"),
+    (StatementKind::Pot, b"pot"),
+    (StatementKind::End, b"end"),
 ];
-
-impl Keyword for StatementKind {
-    ghost word_of = { statement_word };
-
-    fn of(word: &[u8]) -> Option<StatementKind> {
-        with_word(&KINDS, word)
-    }
-}
-
-impl HasWord for StatementKind {
-    ghost word_of = { statement_word };
-
-    fn word(self) -> &'static [u8] {
-        match self {
-            StatementKind::Cost => b"cost",
-            StatementKind::Hose => b"hose",
-            StatementKind::Use => b"use",
-            StatementKind::Without => b"without",
-            StatementKind::Pot => b"pot",
-            StatementKind::End => b"end",
-        }
-    }
-}

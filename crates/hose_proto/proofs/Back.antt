@@ -12,10 +12,11 @@ use Rattle.std.proofs.lemmas.List.Sums.{position_or_len_is}
 use Rattle.std.proofs.lemmas.Slice.Eq.{bytes_eq-Decides}
 use Rattle.hose_words.specs.Form.{Fits64}
 use Rattle.hose_graph.specs.Network.{Network, IsNetwork, name_of}
+use Rattle.hose_proto.specs.EndWords.{named_rate}
 use Rattle.hose_proto.specs.Places.{end_word}
-use Rattle.hose_proto.specs.steps.Reading.{IsEndOf}
+use Rattle.hose_proto.specs.steps.Fields.{IsEndOf}
 use Rattle.hose_proto.specs.Fields.{pair_word}
-use Rattle.hose_proto.proofs.Colons.{end_cut, no_colon, no_colon_decimal, pair_cut}
+use Rattle.hose_proto.proofs.Colons.{named_cut, no_colon, no_colon_decimal}
 
 -- ---- a list round its first element that passes
 
@@ -60,15 +61,22 @@ number_spelled word = digits_value 10 word
 pub number_back : (n : ℕ) → Fits64 n → number_spelled (decimal n) ≡ n
 number_back n small = (decimal_is_IsNumeral n small).1
 
+-- the parts round a word's first colon
+abbrev pub parts_spelled : (List ℕ → ℕ) → List ℕ → ℕ × ℕ
+parts_spelled back word = (back (front_of is_colon word), number_spelled (rest_of is_colon word))
+
+pub parts_back : (back : List ℕ → ℕ) (front : List ℕ) (x n : ℕ) → (¬ Contains front 58) → back front ≡ x → Fits64 n → parts_spelled back (named_rate front n) ≡ (x, n)
+parts_back back front x n free is small =
+    let none = no_colon_passes front free in
+    let first = ap back (front_is is_colon front 58 (decimal n) none refl) ∙ is in
+    let second = ap number_spelled (rest_is is_colon front 58 (decimal n) none refl) ∙ number_back n small in
+    ap (parts_spelled back) (named_cut front n) ∙ (λ i. (first i, second i))
+
 abbrev pub pair_spelled : List ℕ → ℕ × ℕ
-pair_spelled word = (number_spelled (front_of is_colon word), number_spelled (rest_of is_colon word))
+pair_spelled word = parts_spelled number_spelled word
 
 pub pair_back : (pair : ℕ × ℕ) → Fits64 pair.0 → Fits64 pair.1 → pair_spelled (pair_word pair) ≡ pair
-pair_back pair small small' =
-    let free = no_colon_passes (decimal pair.0) (no_colon_decimal pair.0 small) in
-    let link = ap number_spelled (front_is is_colon (decimal pair.0) 58 (decimal pair.1) free refl) ∙ number_back pair.0 small in
-    let amount = ap number_spelled (rest_is is_colon (decimal pair.0) 58 (decimal pair.1) free refl) ∙ number_back pair.1 small' in
-    ap pair_spelled (pair_cut pair) ∙ (λ i. (link i, amount i))
+pair_back pair small small' = parts_back number_spelled (decimal pair.0) pair.0 pair.1 (no_colon_decimal pair.0 small) (number_back pair.0 small) small'
 
 abbrev pub node_named : Network → List ℕ → ℕ
 node_named network word = position_or_len (λ name. bytes_eq name word) network.nodes
@@ -80,15 +88,11 @@ node_back network node is below =
     (λ _. (bytes_eq-Decides (name_of network node) (name_of network node)).1 refl)
 
 abbrev pub end_spelled : Network → List ℕ → ℕ × ℕ
-end_spelled network word = (node_named network (front_of is_colon word), number_spelled (rest_of is_colon word))
+end_spelled network word = parts_spelled (node_named network) word
 
 pub end_back : (network : Network) (end : ℕ × ℕ) → IsNetwork network → end.0 < length network.nodes → Fits64 end.1 → end_spelled network (end_word network end) ≡ end
 end_back network end is below small =
-    let name = name_of network end.0 in
-    let free = no_colon_passes name (no_colon name (is.names end.0 [] below)) in
-    let node = ap (node_named network) (front_is is_colon name 58 (decimal end.1) free refl) ∙ node_back network end.0 is below in
-    let rate = ap number_spelled (rest_is is_colon name 58 (decimal end.1) free refl) ∙ number_back end.1 small in
-    ap (end_spelled network) (end_cut network end) ∙ (λ i. (node i, rate i))
+    parts_back (node_named network) (name_of network end.0) end.0 end.1 (no_colon (name_of network end.0) (is.names end.0 [] below)) (node_back network end.0 is below) small
 
 pub map_back : {X : Type 0} (word_of : X → List ℕ) (back : List ℕ → X) (xs : List X) → All (λ x. back (word_of x) ≡ x) xs → map back (map word_of xs) ≡ xs
 map_back word_of back [] all = refl

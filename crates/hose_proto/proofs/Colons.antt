@@ -2,14 +2,13 @@
 use Rattle.std.proofs.Common.{◌≡◌, ◌∙◌, ℕ, ◌<◌, ◌^◌, true, List, [], ◌∷◌, ◌++◌, codes, decimal, refl, sym, arith, append_assoc}
 use Rattle.std.specs.List.{Contains}
 use Rattle.std.proofs.lemmas.Bool.{false≢true}
-use Rattle.std.proofs.lemmas.Fmt.{decimal_is_IsNumeral}
+use Rattle.std.proofs.lemmas.Fmt.{decimal_injective, decimal_is_IsNumeral}
 use Rattle.std.proofs.lemmas.List.{get_or_default}
 use Rattle.std.proofs.lemmas.List.Elements.{All-contains, Contains-append_right}
 use Rattle.std.proofs.lemmas.Str.Parse.{digit_at}
+use Rattle.hose_words.specs.Form.{Fits64}
 use Rattle.hose_graph.specs.Name.{IsName, is_name_byte}
-use Rattle.hose_graph.specs.Network.{Network, name_of}
-use Rattle.hose_proto.specs.Places.{end_word}
-use Rattle.hose_proto.specs.Fields.{pair_word}
+use Rattle.hose_proto.specs.EndWords.{named_rate}
 
 -- a name has no colon
 pub no_colon : (name : List ℕ) → IsName name → ¬ Contains name 58
@@ -32,25 +31,21 @@ same_parts (x ∷ a) b (y ∷ c) d free free' same =
     let rest = same_parts a b c d (λ there. free (Contains-append_right (x ∷ []) a 58 there)) (λ there. free' (Contains-append_right (y ∷ []) c 58 there)) others in
     (λ i. first i ∷ rest.0 i, rest.1)
 
--- ---- amounts
+-- ---- a text and a number
 
--- what stands round the colon of an amount's word
-pub pair_cut : (pair : ℕ × ℕ) → pair_word pair ≡ decimal pair.0 ++ 58 ∷ decimal pair.1
-pair_cut pair = append_assoc (decimal pair.0) (codes ":") (decimal pair.1)
+-- what stands round the colon
+pub named_cut : (front : List ℕ) (number : ℕ) → named_rate front number ≡ front ++ 58 ∷ decimal number
+named_cut front number = append_assoc front (codes ":") (decimal number)
 
--- what stands round the first colon is the link and the amount
-pub pair_parts : (word link amount : List ℕ) (pair : ℕ × ℕ) → pair.0 < 2 ^ 64 → word ≡ link ++ 58 ∷ amount → (¬ Contains link 58) → word ≡ pair_word pair → (link ≡ decimal pair.0) × (amount ≡ decimal pair.1)
-pair_parts word link amount pair small spelled free is =
-    same_parts link amount (decimal pair.0) (decimal pair.1) free (no_colon_decimal pair.0 small) (sym spelled ∙ is ∙ pair_cut pair)
+-- what stands round the first colon are the text and the number
+pub named_parts : (word front back name : List ℕ) (number : ℕ) → word ≡ front ++ 58 ∷ back → (¬ Contains front 58) → word ≡ named_rate name number → (¬ Contains name 58) → (front ≡ name) × (back ≡ decimal number)
+named_parts word front back name number spelled free is free' = same_parts front back name (decimal number) free free' (sym spelled ∙ is ∙ named_cut name number)
 
-pub pair_told : (word link amount : List ℕ) (pair : ℕ × ℕ) → word ≡ link ++ 58 ∷ amount → link ≡ decimal pair.0 → amount ≡ decimal pair.1 → word ≡ pair_word pair
-pair_told word link amount pair spelled is is' = spelled ∙ (λ i. is i ++ 58 ∷ is' i) ∙ sym (pair_cut pair)
+pub named_told : (word front back name : List ℕ) (number : ℕ) → word ≡ front ++ 58 ∷ back → front ≡ name → back ≡ decimal number → word ≡ named_rate name number
+named_told word front back name number spelled is is' = spelled ∙ (λ i. is i ++ 58 ∷ is' i) ∙ sym (named_cut name number)
 
--- ---- endpoints
-
--- what stands round the colon of an endpoint's word
-pub end_cut : (network : Network) (end : ℕ × ℕ) → end_word network end ≡ name_of network end.0 ++ 58 ∷ decimal end.1
-end_cut network end = append_assoc (name_of network end.0) (codes ":") (decimal end.1)
-
-pub end_told : (network : Network) (word name rate : List ℕ) (end : ℕ × ℕ) → word ≡ name ++ 58 ∷ rate → name ≡ name_of network end.0 → rate ≡ decimal end.1 → word ≡ end_word network end
-end_told network word name rate end spelled is is' = spelled ∙ (λ i. is i ++ 58 ∷ is' i) ∙ sym (end_cut network end)
+-- one word has one text and one number
+pub named_same : (one other : List ℕ) (n m : ℕ) → (¬ Contains one 58) → (¬ Contains other 58) → Fits64 n → Fits64 m → named_rate one n ≡ named_rate other m → (one ≡ other) × (n ≡ m)
+named_same one other n m free free' small small' same =
+    let parts = same_parts one (decimal n) other (decimal m) free free' (sym (named_cut one n) ∙ same ∙ named_cut other m) in
+    (parts.0, decimal_injective n m small small' parts.1)

@@ -1,11 +1,8 @@
 -- Endpoints as words by their form alone.
-use Rattle.std.proofs.Common.{◌≡◌, ◌≢◌, ◌∙◌, ℕ, List, [], ◌∷◌, ◌++◌, codes, decimal, length, get_or, take, refl, sym, ap, arith, append_assoc, length-append}
-use Rattle.std.specs.List.{Any, Contains}
-use Rattle.std.proofs.Math.ListN.{get_or-append}
-use Rattle.std.proofs.Math.Seq.{get_or-append_seam, take-length}
-use Rattle.std.proofs.lemmas.List.{get_or_default}
+use Rattle.std.proofs.Common.{◌≡◌, ◌∙◌, ℕ, List, [], ◌∷◌, ◌++◌, decimal, length, take, refl, sym, ap, arith, length-append}
+use Rattle.std.specs.List.{Contains}
+use Rattle.std.proofs.Math.Seq.{take-length}
 use Rattle.std.proofs.lemmas.List.Elements.{All-nil, All-push}
-use Rattle.std.proofs.lemmas.List.Quantifiers.{all_pairs_push}
 use Rattle.std.proofs.lemmas.List.Sums.{position_or_len_is}
 use Rattle.hose_words.proofs.Listing.{MakesList}
 use Rattle.hose_words.proofs.Passing.{All-front, IsClosed}
@@ -14,14 +11,12 @@ use Rattle.hose_graph.specs.Network.{Network, IsNetwork, IsNodeOf, name_of}
 use Rattle.hose_proto.specs.EndWords.{AreNewEndWords, IsEndWord, name_in, named_rate}
 use Rattle.hose_proto.specs.steps.EndWords.{IsNewEndWord}
 use Rattle.hose_proto.specs.Places.{end_word}
+use Rattle.hose_proto.proofs.Apart.{own_key_front, own_key_more, own_key_new}
 use Rattle.hose_proto.proofs.Back.{front_is, is_colon, no_colon_passes}
-use Rattle.hose_proto.proofs.Colons.{end_cut, no_colon, same_parts}
+use Rattle.hose_proto.proofs.Colons.{named_cut, no_colon}
 use Rattle.hose_proto.proofs.Rising.{All-last}
 
 -- ---- what stands round the colon
-
-pub named_cut : (name : List ℕ) (rate : ℕ) → named_rate name rate ≡ name ++ 58 ∷ decimal rate
-named_cut name rate = append_assoc name (codes ":") (decimal rate)
 
 -- a text without a colon stands before the first one that follows it
 pub name_front : (name rest : List ℕ) → (¬ Contains name 58) → name_in (name ++ 58 ∷ rest) ≡ name
@@ -37,14 +32,6 @@ name_whole word free =
 pub name_of_end : (word name : List ℕ) (rate : ℕ) → word ≡ named_rate name rate → IsName name → name_in word ≡ name
 name_of_end word name rate is is_name = ap name_in (is ∙ named_cut name rate) ∙ name_front name (decimal rate) (no_colon name is_name)
 
--- the parts of the word of an endpoint are its name and its rate
-pub named_parts : (word front back name : List ℕ) (rate : ℕ) → word ≡ front ++ 58 ∷ back → (¬ Contains front 58) → word ≡ named_rate name rate → IsName name → (front ≡ name) × (back ≡ decimal rate)
-named_parts word front back name rate spelled free is is_name =
-    same_parts front back name (decimal rate) free (no_colon name is_name) (sym spelled ∙ is ∙ named_cut name rate)
-
-pub named_told : (word front back name : List ℕ) (rate : ℕ) → word ≡ front ++ 58 ∷ back → front ≡ name → back ≡ decimal rate → word ≡ named_rate name rate
-named_told word front back name rate spelled is is' = spelled ∙ (λ i. is i ++ 58 ∷ is' i) ∙ sym (named_cut name rate)
-
 -- ---- lists of them
 
 -- no word yet
@@ -59,23 +46,15 @@ pub end_words_more : (words : List (List ℕ)) (word : List ℕ) → AreNewEndWo
 end_words_more words word are new = record {
   few = omega (arith, new.room, length-append words (word ∷ []));
   ends = All-push IsEndWord words word are.ends new.is_end;
-  distinct = all_pairs_push (λ (one other : List ℕ). name_in one ≢ name_in other) words word are.distinct
-      (λ k d below same. new.is_new (k, get_or words k d, below, get_or_default words k (get_or words k d) d below, same));
+  distinct = own_key_more name_in words word are.distinct new.is_new;
 }
 
 end_word_may_come : (words : List (List ℕ)) (word : List ℕ) → AreNewEndWords (words ++ word ∷ []) → IsNewEndWord words word
 end_word_may_come words word are = record {
   is_end = All-last IsEndWord words word are.ends;
-  is_new = none;
+  is_new = own_key_new name_in words word are.distinct;
   room = omega (arith, are.few, length-append words (word ∷ []));
 }
-  where
-    none : Any (λ (earlier : List ℕ). name_in earlier ≡ name_in word) words → ⊥
-    none (k, x, below, at, same) =
-        let here : get_or (words ++ word ∷ []) k x ≡ x = get_or-append words (word ∷ []) x k below ∙ at in
-        let there : get_or (words ++ word ∷ []) (length words) x ≡ word = get_or-append_seam words word [] x in
-        are.distinct k (length words) x below (omega (arith, length-append words (word ∷ [])))
-        (ap name_in here ∙ same ∙ sym (ap name_in there))
 
 pub makes_end_words : (words : List (List ℕ)) → AreNewEndWords words → MakesList IsEndWord (λ word. word) AreNewEndWords words (IsNewEndWord words)
 makes_end_words words are = record {
@@ -90,9 +69,7 @@ end_words_closed = record {
   front = λ xs ys some are. record {
     few = omega (arith, are.few, length-append xs ys);
     ends = All-front IsEndWord xs ys are.ends;
-    distinct = λ i j d order below same.
-        are.distinct i j d order (omega (arith, below, length-append xs ys))
-        (ap name_in (get_or-append xs ys d i (omega arith)) ∙ same ∙ sym (ap name_in (get_or-append xs ys d j below)));
+    distinct = own_key_front name_in xs ys are.distinct;
   };
 }
 
@@ -101,4 +78,4 @@ end_words_closed = record {
 -- what spells an endpoint of a network names its node, and has the form of one
 pub names_its_node : (network : Network) (word : List ℕ) (end : ℕ × ℕ) → IsNetwork network → IsNodeOf network end.0 → word ≡ end_word network end → name_of network end.0 ≡ name_in word
 names_its_node network word end is below told =
-    sym (ap name_in (told ∙ end_cut network end) ∙ name_front (name_of network end.0) (decimal end.1) (no_colon (name_of network end.0) (is.names end.0 [] below)))
+    sym (ap name_in (told ∙ named_cut (name_of network end.0) end.1) ∙ name_front (name_of network end.0) (decimal end.1) (no_colon (name_of network end.0) (is.names end.0 [] below)))

@@ -1,5 +1,5 @@
 -- Fields of lines: what they tell is found again from their words, none of these is wrong, and each is one word.
-use Rattle.std.proofs.Common.{◌≡◌, ◌∙◌, ℕ, ◌<◌, Bool, true, false, cond, suc, zero, List, [], ◌∷◌, ◌++◌, Option, None, Some, IfSome, length, get_or, map, drop, codes, decimal, refl, sym, ap, subst, arith, append_assoc}
+use Rattle.std.proofs.Common.{◌≡◌, ◌∙◌, ℕ, ◌<◌, Bool, true, false, cond, suc, zero, List, [], ◌∷◌, ◌++◌, Option, None, Some, IfSome, length, get_or, map, drop, codes, decimal, refl, sym, ap, subst, arith}
 use Rattle.std.specs.List.{All, slice_get}
 use Rattle.std.specs.Str.{bytes_eq}
 use Rattle.std.proofs.lemmas.Bool.{false≢true}
@@ -9,20 +9,22 @@ use Rattle.hose_words.specs.Form.{Fits64}
 use Rattle.hose_words.proofs.Passing.{Passes, pass_branch, pass_finish, pass_list, pass_place, pass_these, pass_until}
 use Rattle.hose_words.proofs.Until.{HasNoLast}
 use Rattle.hose_words.proofs.Spaced.{AreWords, AreWords-map, AreWords-append, IsWord, IsWord-allowed, IsWord-known, IsWord-decimal, IsWord-colon, is_plain}
-use Rattle.hose_graph.specs.Hose.{IsEnd}
 use Rattle.hose_graph.specs.Name.{is_name_byte}
 use Rattle.hose_graph.specs.Network.{Network, IsNetwork, IsLink, name_of}
 use Rattle.hose_graph.specs.declared.limits.TheConstants.{LEAST_ENDS}
 use Rattle.hose_graph.specs.declared.topology.Link.{Link}
+use Rattle.hose_proto.specs.EndWords.{named_rate}
 use Rattle.hose_proto.specs.Fields.{Fields, no_more, a_word, a_number, a_link, a_link_told, a_missing, a_service, the_amounts, the_nodes, the_ends, the_numbers, Values, words_told, missing_word, pair_word, words_of_link}
-use Rattle.hose_proto.specs.steps.Fields.{AreSound, AreAmounts, AreEnds, AreNumbers, form_of}
+use Rattle.hose_proto.specs.steps.Fields.{AreSound, AreAmounts, AreEnds, AreNumbers, IsAmountOf, IsEndOf, IsSide, form_of}
 use Rattle.hose_proto.specs.Places.{IsHoseOf, end_word}
 use Rattle.hose_proto.specs.declared.head.Missing.{Missing}
 use Rattle.hose_proto.specs.declared.head.Missing.TheVariants as missing
 use Rattle.hose_proto.specs.declared.head.Service.TheVariants as service
 use Rattle.hose_proto.proofs.Back.{end_spelled, ends_back, front_is, front_of, map_back, node_back, node_named, number_back, number_spelled, pair_back, pair_spelled, rest_is, rest_of, unequal}
-use Rattle.hose_proto.proofs.Items.{amounts_closed, ends_closed, numbers_closed, side_closed}
+use Rattle.hose_proto.proofs.Colons.{named_cut}
+use Rattle.hose_proto.proofs.Items.{ascending_closed, ends_closed}
 use Rattle.hose_proto.proofs.ListsUntil.{ends_no_links, numbers_no_at}
+use Rattle.hose_proto.proofs.Rising.{firsts_front, rising_front}
 use Rattle.hose_proto.proofs.Words.{links_apart, missing_apart, missing_of, missing_of-word, services_apart}
 
 no_link : Link
@@ -74,6 +76,10 @@ until_found back last front items words free found =
     let is : is_last last last ≡ true = (bytes_eq-Decides last last).1 refl in
     (ap (map back) (front_is (is_last last) front last words none is) ∙ found, rest_is (is_last last) front last words none is)
 
+-- a text and a number with a colon between them are one word
+IsWord-named : (front : List ℕ) (n : ℕ) → IsWord front → Fits64 n → IsWord (named_rate front n)
+IsWord-named front n is small = subst IsWord (sym (named_cut front n)) (IsWord-colon front (decimal n) is (IsWord-decimal n small))
+
 -- what holds of all holds at each place
 IfSome-place : {X : Type 0} (P : X → Type 0) (xs : List X) (i : ℕ) → All P xs → IfSome (slice_get xs i) P
 IfSome-place P [] i all = tt
@@ -88,13 +94,16 @@ module _ (network : Network) (is : IsNetwork network) where
   -- ---- found again
 
   amounts_back : (amounts : List (ℕ × ℕ)) → AreAmounts network amounts → map pair_spelled (map pair_word amounts) ≡ amounts
-  amounts_back amounts are = map_back pair_word pair_spelled amounts (λ k d below. pair_back (get_or amounts k d) (few (are.links k d below)) (are.numbers k d below))
+  amounts_back amounts are = map_back pair_word pair_spelled amounts (λ k d below. let fits = are.each k d below in pair_back (get_or amounts k d) (few fits.link) fits.fits)
+
+  hose_each : (hose : List (ℕ × ℕ)) → IsHoseOf network hose → All (IsEndOf network) hose
+  hose_each hose are = λ k d below. record { is_end = are.is_hose.within k d below; is_node = are.nodes k d below }
 
   hose_back : (hose : List (ℕ × ℕ)) → IsHoseOf network hose → map (end_spelled network) (map (end_word network) hose) ≡ hose
-  hose_back hose are = ends_back network is hose (λ k d below. record { is_end = are.is_hose.within k d below; is_node = are.nodes k d below })
+  hose_back hose are = ends_back network is hose (hose_each hose are)
 
   numbers_back : (numbers : List ℕ) → AreNumbers numbers → map number_spelled (map decimal numbers) ≡ numbers
-  numbers_back numbers are = map_back decimal number_spelled numbers (λ k d below. number_back (get_or numbers k d) (are.fit k d below))
+  numbers_back numbers are = map_back decimal number_spelled numbers (λ k d below. number_back (get_or numbers k d) (are.each k d below))
 
   -- what fields tell is found again from their words
   pub values_back : (fields : Fields) (values : Values fields) → AreSound network fields values → values_in network fields (words_told network fields values) ≡ values
@@ -108,13 +117,13 @@ module _ (network : Network) (is : IsNetwork network) where
   values_back (a_service fields) (true, values) sound = λ i. (true, values_back fields values sound i)
   values_back (a_service fields) (false, values) sound = λ i. (false, values_back fields values sound i)
   values_back the_amounts amounts (some, are) = amounts_back amounts are
-  values_back the_nodes side (some, are) = map_back (name_of network) (node_named network) side (λ k d below. node_back network (get_or side k d) is (are.nodes k d below))
+  values_back the_nodes side (some, are) = map_back (name_of network) (node_named network) side (λ k d below. node_back network (get_or side k d) is (are.each k d below))
   values_back (the_ends fields) (hose, values) (are, sound) =
       let found = until_found (end_spelled network) (codes "links") (map (end_word network) hose) hose (words_told network fields values) (ends_no_links network hose) (hose_back hose are) in
       let rest = ap (values_in network fields) found.1 ∙ values_back fields values sound in
       λ i. (found.0 i, rest i)
   values_back (the_numbers fields) (numbers, values) (are, sound) =
-      let found = until_found number_spelled (codes "at") (map decimal numbers) numbers (words_told network fields values) (numbers_no_at numbers are.fit) (numbers_back numbers are) in
+      let found = until_found number_spelled (codes "at") (map decimal numbers) numbers (words_told network fields values) (numbers_no_at numbers are.each) (numbers_back numbers are) in
       let rest = ap (values_in network fields) found.1 ∙ values_back fields values sound in
       λ i. (found.0 i, rest i)
 
@@ -132,13 +141,13 @@ module _ (network : Network) (is : IsNetwork network) where
   values_pass (a_missing fields) (kind, values) sound = pass_branch kind tt missing_apart (values_pass fields values sound)
   values_pass (a_service fields) (true, values) sound = pass_branch service.Out tt services_apart (pass_place refl (values_pass fields values sound))
   values_pass (a_service fields) (false, values) sound = pass_branch service.At tt services_apart (values_pass fields values sound)
-  values_pass the_amounts amounts (some, are) = pass_list (amounts_closed network) some are
-  values_pass the_nodes side (some, are) = pass_list (side_closed network) some are
+  values_pass the_amounts amounts (some, are) = pass_list {fine = AreAmounts network} (ascending_closed firsts_front) some are
+  values_pass the_nodes side (some, are) = pass_list {fine = IsSide network} (ascending_closed rising_front) some are
   values_pass (the_ends fields) (hose, values) (are, sound) =
       pass_until (end_word network) (AreEnds network) LEAST_ENDS (codes "links") (form_of network fields) (words_told network fields values) (ends_closed network) (values_pass fields values sound)
-      hose (ends_no_links network hose) are.is_hose.counted.enough (record { few = are.is_hose.counted.few; within = are.is_hose.within; ascending = are.is_hose.ascending; nodes = are.nodes })
+      hose (ends_no_links network hose) are.is_hose.counted.enough (record { few = are.is_hose.counted.few; in_order = record { ascending = are.is_hose.ascending; each = hose_each hose are } })
   values_pass (the_numbers fields) (numbers, values) (are, sound) =
-      pass_until decimal AreNumbers 0 (codes "at") (form_of network fields) (words_told network fields values) numbers_closed (values_pass fields values sound) numbers (numbers_no_at numbers are.fit) (omega arith) are
+      pass_until decimal AreNumbers 0 (codes "at") (form_of network fields) (words_told network fields values) (ascending_closed rising_front) (values_pass fields values sound) numbers (numbers_no_at numbers are.each) (omega arith) are
 
   -- ---- words
 
@@ -147,15 +156,11 @@ module _ (network : Network) (is : IsNetwork network) where
       let named = is.names node [] below in
       IsWord-allowed is_name_byte (name_of network node) refl refl named.allowed (omega (arith, named.some))
 
-  IsWord-pair : (pair : ℕ × ℕ) → (pair.0 < length network.links) × Fits64 pair.1 → IsWord (pair_word pair)
-  IsWord-pair pair within =
-      subst IsWord (sym (append_assoc (decimal pair.0) (codes ":") (decimal pair.1)))
-      (IsWord-colon (decimal pair.0) (decimal pair.1) (IsWord-decimal pair.0 (few within.0)) (IsWord-decimal pair.1 within.1))
+  IsWord-pair : (pair : ℕ × ℕ) → IsAmountOf network pair → IsWord (pair_word pair)
+  IsWord-pair pair fits = IsWord-named (decimal pair.0) pair.1 (IsWord-decimal pair.0 (few fits.link)) fits.fits
 
-  IsWord-end : (end : ℕ × ℕ) → (end.0 < length network.nodes) × IsEnd end → IsWord (end_word network end)
-  IsWord-end end within =
-      subst IsWord (sym (append_assoc (name_of network end.0) (codes ":") (decimal end.1)))
-      (IsWord-colon (name_of network end.0) (decimal end.1) (IsWord-node end.0 within.0) (IsWord-decimal end.1 (omega (arith, within.1.rate))))
+  IsWord-end : (end : ℕ × ℕ) → IsEndOf network end → IsWord (end_word network end)
+  IsWord-end end fits = IsWord-named (name_of network end.0) end.1 (IsWord-node end.0 fits.is_node) (omega (arith, fits.is_end.rate))
 
   IsWord-missing : (kind : Missing) → IsWord (missing_word kind)
   IsWord-missing missing.Vpn = IsWord-known (codes "vpn") refl (omega arith)
@@ -182,12 +187,12 @@ module _ (network : Network) (is : IsNetwork network) where
   values_words (a_service fields) (true, values) known sound =
       (IsWord-known (codes "out") refl (omega arith), (IsWord-known (codes "at") refl (omega arith), values_words fields values known sound))
   values_words (a_service fields) (false, values) known sound = (IsWord-known (codes "at") refl (omega arith), values_words fields values known sound)
-  values_words the_amounts amounts known (some, are) = AreWords-map pair_word amounts IsWord-pair (λ k d below. (are.links k d below, are.numbers k d below))
-  values_words the_nodes side known (some, are) = AreWords-map (name_of network) side IsWord-node are.nodes
+  values_words the_amounts amounts known (some, are) = AreWords-map pair_word amounts IsWord-pair are.each
+  values_words the_nodes side known (some, are) = AreWords-map (name_of network) side IsWord-node are.each
   values_words (the_ends fields) (hose, values) known (are, sound) =
       AreWords-append (map (end_word network) hose) (codes "links" ∷ words_told network fields values)
-      (AreWords-map (end_word network) hose IsWord-end (λ k d below. (are.nodes k d below, are.is_hose.within k d below)))
+      (AreWords-map (end_word network) hose IsWord-end (hose_each hose are))
       (IsWord-known (codes "links") refl (omega arith), values_words fields values known sound)
   values_words (the_numbers fields) (numbers, values) known (are, sound) =
-      AreWords-append (map decimal numbers) (codes "at" ∷ words_told network fields values) (AreWords-map decimal numbers IsWord-decimal are.fit)
+      AreWords-append (map decimal numbers) (codes "at" ∷ words_told network fields values) (AreWords-map decimal numbers IsWord-decimal are.each)
       (IsWord-known (codes "at") refl (omega arith), values_words fields values known sound)

@@ -74,7 +74,12 @@ ends_of_hose network ends hose moved is =
 
 -- endpoints in order make a hose too
 pub new_in_order : (network : Network) (ends : List (ℕ × ℕ)) → AreEnds network ends → AreNewEnds network ends
-new_in_order network ends are = record { few = are.few; within = are.within; distinct = distinct_in_order ends are.ascending; nodes = are.nodes }
+new_in_order network ends are = record {
+  few = are.few;
+  within = λ k d below. (are.in_order.each k d below).is_end;
+  distinct = distinct_in_order ends are.in_order.ascending;
+  nodes = λ k d below. (are.in_order.each k d below).is_node;
+}
 
 -- two lists in order that have the same endpoints are one
 pub same_hose : (ends hose : List (ℕ × ℕ)) → IsPermutation ends hose → IsAscending ends → IsAscending hose → ends ≡ hose

@@ -7,11 +7,11 @@ use Rattle.hose_words.specs.Form.{list, grammar_of}
 use Rattle.hose_words.specs.Grammar.{IsFirstNotAllowed}
 use Rattle.hose_words.proofs.Forms.{AreApart}
 use Rattle.hose_words.proofs.Listing.{Listing, listing_more, one_item_more, wrong_after}
-use Rattle.hose_proto.specs.steps.Reading.{EndsList, GoesOn, IfFirst, TellsNone}
+use Rattle.hose_proto.specs.steps.Reading.{EndsList, IfFirst, ListGoesOn, TellsNone}
 
 -- a list goes on so where each item has a word of its own, and one that stands after others in a list may come after them
 pub goes_on : {A : Type 0} (is : A → Type 0) {word_of : A → List ℕ} {fine : List A → Type 0} {items : List A} {may : A → Type 0} → AreApart is word_of → ((others : List A) → fine others → All is others) → fine items
-    → ((item : A) → may item → fine (items ++ item ∷ [])) → ((item : A) → fine (items ++ item ∷ []) → may item) → GoesOn word_of fine may items
+    → ((item : A) → may item → fine (items ++ item ∷ [])) → ((item : A) → fine (items ++ item ∷ []) → may item) → ListGoesOn word_of fine may items
 goes_on {A} is {word_of} {fine} {items} {may} apart each are more may_come = record {
   more = more;
   only = λ word tells none.
@@ -27,7 +27,7 @@ module _ {A : Type 0} {word_of : A → List ℕ} {fine : List A → Type 0} wher
       listing_more word_of (list word_of fine least) items item old mid new listing took (items ++ item ∷ [], sym (map-append word_of items (item ∷ [])), are)
 
   -- no item more comes where one has to, or may
-  pub wrong_last : {least : ℕ} {items : List A} {may : A → Type 0} {old new : Position} {number : ℕ} → GoesOn word_of fine may items → Listing word_of (list word_of fine least) items old new
+  pub wrong_last : {least : ℕ} {items : List A} {may : A → Type 0} {old new : Position} {number : ℕ} → ListGoesOn word_of fine may items → Listing word_of (list word_of fine least) items old new
       → EndsList word_of may least items new number → IsWrong (list word_of fine least) old number
   wrong_last {least} {items} {may} {old} {new} {number} goes listing ends =
       wrong_after word_of (list word_of fine least) items old new number listing ends.at (here new.left ends.none ends.few)

@@ -1,6 +1,6 @@
 -- Fields of a line: what is told of them at the exits of those that read them.
-use Rattle.std.proofs.Common.{◌≡◌, ◌∙◌, ℕ, List, [], ◌∷◌, ap, refl}
-use Rattle.hose_words.specs.steps.Cursor.{Position, Took, TookAll, IsWrong}
+use Rattle.std.proofs.Common.{ℕ, List, [], ◌∷◌, refl}
+use Rattle.hose_words.specs.steps.Cursor.{Position, TookAll, IsWrong}
 use Rattle.hose_words.specs.Form.{Form, anything}
 use Rattle.hose_words.specs.steps.Form.{these}
 use Rattle.hose_words.proofs.Forms.{wrong_both, wrong_nowhere, wrong_past, wrong_same}
@@ -20,10 +20,6 @@ failed {network} {fields} {old} {number} is = record { bad = is_told is; memory 
 pub failed_later : {network : Network} {fields rest : Fields} {old new : Position} {fault : ReadFault} → ((number : ℕ) → IsWrong (form_of network rest) new number → IsWrong (form_of network fields) old number)
     → (HaveLists rest → HaveLists fields) → FailsAt network rest new fault → FailsAt network fields old fault
 failed_later {network} {fields} {rest} {old} {new} {fault} later lists is = record { bad = later_fault later is.bad; memory = λ same. lists (is.memory same) }
-
--- a word came, and those after it are known
-pub spelled_on : {old new : Position} {word : List ℕ} {words : List (List ℕ)} → Took old new word → new.left ≡ words → old.left ≡ word ∷ words
-spelled_on {old} {new} {word} {words} took rest = took.cut ∙ ap (λ w. word ∷ w) rest
 
 -- ---- words that are known
 

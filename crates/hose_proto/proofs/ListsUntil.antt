@@ -12,8 +12,8 @@ use Rattle.hose_words.proofs.Listing.{Listing, listing_more, wrong_after}
 use Rattle.hose_words.proofs.Until.{HasNoLast, no_whole_list, until_more, until_only}
 use Rattle.hose_graph.specs.Network.{Network, name_of}
 use Rattle.hose_proto.specs.Places.{end_word}
-use Rattle.hose_proto.specs.steps.Reading.{GoesOn, IfFirst, MissesUntil, TellsNone}
-use Rattle.hose_proto.proofs.Colons.{end_cut}
+use Rattle.hose_proto.specs.steps.Reading.{IfFirst, ListGoesOn, MissesUntil, TellsNone}
+use Rattle.hose_proto.proofs.Colons.{named_cut}
 
 module _ {A : Type 0} {word_of : A → List ℕ} {fine : List A → Type 0} {least : ℕ} {last : List ℕ} {rest : Form} {items : List A} {old mid : Position} (free : HasNoLast last (map word_of items)) (listing : Listing word_of (until word_of fine least last rest) items old mid) where
   -- one item more
@@ -23,7 +23,7 @@ module _ {A : Type 0} {word_of : A → List ℕ} {fine : List A → Type 0} {lea
       (until_more (TellsItems word_of fine) least last (Follows rest) [] (map word_of items) (word_of item) free (inl (items ++ item ∷ [], sym (map-append word_of items (item ∷ [])), are)))
 
   -- the next word tells no item more, and is not the end of the list
-  pub wrong_until : {may : A → Type 0} {number : ℕ} → GoesOn word_of fine may items → MissesUntil word_of may least last items mid number → IsWrong (until word_of fine least last rest) old number
+  pub wrong_until : {may : A → Type 0} {number : ℕ} → ListGoesOn word_of fine may items → MissesUntil word_of may least last items mid number → IsWrong (until word_of fine least last rest) old number
   wrong_until {may} {number} goes misses =
       wrong_after word_of (until word_of fine least last rest) items old mid number listing misses.at (here mid.left misses.none misses.no_last)
     where
@@ -51,7 +51,7 @@ no_colon_links (suc (suc (suc (suc (suc k)))), below, at) = absurd (omega (arith
 -- an endpoint's word has a colon
 pub no_links : (network : Network) (end : ℕ × ℕ) → end_word network end ≢ codes "links"
 no_links network end same =
-    no_colon_links (subst (λ w. Contains w 58) (sym (end_cut network end) ∙ same) (Contains-append_right (name_of network end.0) (58 ∷ decimal end.1) 58 (0, omega arith, refl)))
+    no_colon_links (subst (λ w. Contains w 58) (sym (named_cut (name_of network end.0) end.1) ∙ same) (Contains-append_right (name_of network end.0) (58 ∷ decimal end.1) 58 (0, omega arith, refl)))
 
 pub ends_no_links : (network : Network) (ends : List (ℕ × ℕ)) → HasNoLast (codes "links") (map (end_word network) ends)
 ends_no_links network [] = All-nil (λ word. word ≢ codes "links")

@@ -1,16 +1,15 @@
 -- Words ask for one command at most, and then none of them is wrong.
-use Rattle.std.proofs.Common.{◌≡◌, ◌⊎◌, ◌∙◌, ℕ, List, [], ◌∷◌, decimal, map, drop, refl, sym, ap, subst, inl, inr, arith, Result, Ok, Err, IfOk}
+use Rattle.std.proofs.Common.{◌≡◌, ◌⊎◌, ◌∙◌, ℕ, List, [], ◌∷◌, map, drop, refl, sym, ap, subst, inl, inr, arith, Result, Ok, Err, IfOk}
 use Rattle.std.specs.List.Sorted.{IsPermutation}
 use Rattle.std.proofs.lemmas.Fmt.{decimal_injective}
 use Rattle.std.proofs.lemmas.List.Sorted.{length_permutation}
-use Rattle.hose_words.specs.steps.Cursor.{Position, Took}
 use Rattle.hose_words.specs.Form.{finish}
 use Rattle.hose_words.specs.Grammar.{IsFirstNotAllowed}
 use Rattle.hose_words.proofs.Passing.{Passes, pass_branch, pass_finish, pass_list, pass_place}
 use Rattle.hose_graph.specs.steps.Naming.{AsksOf}
-use Rattle.hose_graph.specs.Network.{Network, IsNetwork, IsLinkOf}
+use Rattle.hose_graph.specs.Network.{Network, IsNetwork}
 use Rattle.hose_graph.specs.declared.command.Command.{Command}
-use Rattle.hose_proto.specs.Command.{AreEndsOf, Asked, AskedValues, Asks, IsCommand, IsId, an_id, asked_form, command_form, command_grammar, command_told, ends_form, nothing, one_link, the_hose, verb_asked, verb_word}
+use Rattle.hose_proto.specs.Command.{AreEndsOf, Asked, AskedValues, Asks, IsCommand, an_id, asked_form, command_form, command_grammar, command_told, ends_form, nothing, one_link, the_hose, verb_asked, verb_word}
 use Rattle.hose_proto.specs.declared.fault.ReadFault.{ReadFault}
 use Rattle.hose_proto.specs.declared.fault.ReadFault.TheVariants as fault
 use Rattle.hose_proto.specs.declared.verb.Verb.{Verb}
@@ -21,15 +20,6 @@ use Rattle.hose_proto.proofs.Items.{new_ends_closed}
 use Rattle.hose_proto.proofs.Words.{links_apart, verbs_apart}
 
 -- ---- what is read of words
-
--- a number came, and the fields after it
-pub asks_id : (network : Network) (asked : Asked) (values : AskedValues asked) {old new : Position} {id : ℕ} → Took old new (decimal id) → IsId id → Asks network asked values new.left → Asks network (an_id asked) (id, values) old.left
-asks_id network asked values {old} {new} {id} took is asks = subst (Asks network (an_id asked) (id, values)) (sym took.cut) (refl, is, asks)
-
--- a link came, and the fields after it
-pub asks_link : (network : Network) (asked : Asked) (values : AskedValues asked) {old new : Position} {link : ℕ} → Took old new (decimal link) → IsLinkOf network link → Asks network asked values new.left
-    → Asks network (one_link asked) (link, values) old.left
-asks_link network asked values {old} {new} {link} took is asks = subst (Asks network (one_link asked) (link, values)) (sym took.cut) (refl, is, asks)
 
 -- the first word of a command came, and its fields after it
 pub command_of : {network : Network} {words : List (List ℕ)} {came : Verb} (verb : Verb) (values : AskedValues (verb_asked verb)) → came ≡ verb → Asks network (verb_asked verb) values words

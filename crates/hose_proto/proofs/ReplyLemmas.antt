@@ -103,7 +103,7 @@ module _ (network : Network) (is : IsNetwork network) where
 
 -- each place that a reply of the network names is one of the network
 places_of : (network : Network) (reply : Reply) → IsOfKind network reply → NamesPlaces network reply
-places_of network (Refused at side) (_, (_, are)) = are.nodes
+places_of network (Refused at side) (_, (_, are)) = are.each
 places_of network (Shown id cost at hose amounts) (_, (_, (_, (are, _)))) = are.nodes
 places_of network (LinkState link load out at) (there, _) = there
 places_of network (Down link at) (there, _) = there

@@ -1,11 +1,15 @@
 -- The words that choices are told by differ.
-use Rattle.std.proofs.Common.{zero, suc, ◌≡◌, ◌≢◌, ℕ, List, [], ◌∷◌, Option, None, Some, IfNone, get_or, decimal, refl, sym, subst, arith}
+use Rattle.std.proofs.Common.{zero, suc, ◌≡◌, ◌≢◌, ℕ, List, [], ◌∷◌, ◌∙◌, ◌<◌, length, map, drop, get_or, decimal, refl, sym, ap, subst, arith}
+use Rattle.std.specs.Borrow.{Bor}
 use Rattle.std.specs.List.{All}
+use Rattle.std.proofs.lemmas.List.{get_or-map, length-map}
+use Rattle.std.proofs.lemmas.List.Elements.{All-cons, All-map, All-nil}
 use Rattle.std.proofs.lemmas.Fmt.{decimal_injective}
 use Rattle.hose_words.specs.Form.{Each}
 use Rattle.hose_words.proofs.Forms.{AreApart, apart_by}
 use Rattle.hose_words.proofs.Keywords.{choice_of}
 use Rattle.hose_graph.specs.Network.{Network, IsNetwork, IsLinkOf}
+use Rattle.hose_proto.specs.steps.Choices.{IsWordTable, rows_of}
 use Rattle.hose_proto.specs.Command.{verb_word}
 use Rattle.hose_proto.specs.Fields.{missing_word}
 use Rattle.hose_proto.specs.steps.Fields.{service_word}
@@ -16,7 +20,8 @@ use Rattle.hose_proto.specs.declared.head.Missing.{Missing}
 use Rattle.hose_proto.specs.declared.head.Missing.TheVariants as missing
 use Rattle.hose_proto.specs.declared.head.Service.{Service}
 use Rattle.hose_proto.specs.declared.head.Service.TheVariants as service
-use Rattle.hose_proto.specs.declared.head.TheConstants.{HEADS}
+use Rattle.hose_proto.specs.declared.head.TheConstants.{MISSING, SERVICES}
+use Rattle.hose_proto.specs.declared.reply_reader.TheConstants.{HEADS}
 use Rattle.hose_proto.specs.declared.verb.Verb.{Verb}
 use Rattle.hose_proto.specs.declared.verb.Verb.TheVariants as verb
 use Rattle.hose_proto.specs.declared.verb.TheConstants.{VERBS}
@@ -34,17 +39,38 @@ pub every_choice : {A : Type 0} (word_of : A → List ℕ) (choices : List A) (o
     → (P : A → Type 0) → All P choices → P other → (one : A) → P one
 every_choice word_of choices other found P all last one = subst P (found one) (holds_at P choices _ other all last)
 
--- where none of a list that has each choice has a word, no choice has it
-pub no_choice : {A : Type 0} (word_of : A → List ℕ) (choices : List A) → ((P : A → Type 0) → All P choices → (one : A) → P one)
-    → (word : List ℕ) (found : Option A) → IfNone found (All (λ one. word_of one ≢ word) choices) → IfNone found ((one : A) → word ≡ word_of one → ⊥)
-no_choice word_of choices every word (Some one) none = tt
-no_choice word_of choices every word None none = λ one same. every (λ other. word_of other ≢ word) none one (sym same)
+-- ---- tables of choices and their words
+
+-- a table has each choice, with its word, where the words are those of the choices and each is found again
+pub is_table : {A : Type 0} (word_of : A → List ℕ) (rows : List (A × List ℕ)) (other : A) → map (λ row. row.1) rows ≡ map (λ row. word_of row.0) rows
+    → ((one : A) → choice_of word_of (map (λ row. row.0) rows) other (word_of one) ≡ one) → ((P : A → Type 0) → All P (map (λ row. row.0) rows) → P other) → IsWordTable word_of rows
+is_table {A} word_of rows other same found last = record {
+  words = tell rows same;
+  each = λ one none.
+      let all = All-map (λ it. it ≢ one) (λ row. row.0) rows none in
+      every_choice word_of (map (λ row. row.0) rows) other found (λ it. it ≢ one) all (last (λ it. it ≢ one) all) one refl;
+}
+  where
+    tell : (rows : List (A × List ℕ)) → map (λ row. row.1) rows ≡ map (λ row. word_of row.0) rows → All (λ row. row.1 ≡ word_of row.0) rows
+    tell [] same = All-nil (λ row. row.1 ≡ word_of row.0)
+    tell (row ∷ rows) same = All-cons (λ row. row.1 ≡ word_of row.0) row rows (ap (λ words. get_or words 0 []) same) (tell rows (ap (drop 1) same))
+
+-- the word of a row is that of its choice
+pub row_word : {A : Type 0} (word_of : A → List ℕ) (table : List (A × Bor (List ℕ))) (k : ℕ) (row : A × Bor (List ℕ)) → IsWordTable word_of (rows_of table) → k < length table → row ≡ get_or table k row → row.1.now ≡ word_of row.0
+row_word {A} word_of table k row are below is =
+    subst (λ (it : A × List ℕ). it.1 ≡ word_of it.0) (get_or-map (λ it. (it.0, it.1.now)) table k row (row.0, row.1.now) below ∙ ap (λ it. (it.0, it.1.now)) (sym is))
+    (are.words k (row.0, row.1.now) (omega (arith, below, length-map {B = A × List ℕ} table (λ it. (it.0, it.1.now)))))
+
+-- where no row has a word, no choice has it
+pub no_choice : {A : Type 0} (word_of : A → List ℕ) (table : List (A × Bor (List ℕ))) (word : List ℕ) → IsWordTable word_of (rows_of table) → All (λ row. row.1.now ≢ word) table → (one : A) → word ≢ word_of one
+no_choice word_of table word are none one same =
+    are.each one (λ k row below here. All-map (λ it. it.1 ≢ word) (λ it. (it.0, it.1.now)) table none k row below (are.words k row below ∙ ap word_of here ∙ sym same))
 
 -- ---- the words of replies and of commands
 
 -- the first word of a reply that a word is
 abbrev pub head_of : List ℕ → Head
-head_of word = choice_of head_word HEADS head.Welcome word
+head_of word = choice_of head_word (map (λ row. row.0) HEADS) head.Welcome word
 
 pub head_of-word : (one : Head) → head_of (head_word one) ≡ one
 head_of-word head.Welcome = refl
@@ -53,13 +79,12 @@ head_of-word other = refl
 pub heads_apart : AreApart Each head_word
 heads_apart = apart_by head_of (λ one _. head_of-word one)
 
--- what holds of all first words of replies holds of each
-pub every_head : (P : Head → Type 0) → All P HEADS → (one : Head) → P one
-every_head P all = every_choice head_word HEADS head.Welcome head_of-word P all (all 0 head.Welcome (omega arith))
+pub heads_told : IsWordTable head_word (map (λ row. (row.0, row.1.now)) HEADS)
+heads_told = is_table head_word (map (λ row. (row.0, row.1.now)) HEADS) head.Welcome refl head_of-word (λ P all. all 0 head.Welcome (omega arith))
 
 -- the word after `no` that a word is
 abbrev pub missing_of : List ℕ → Missing
-missing_of word = choice_of missing_word (missing.Vpn ∷ missing.Quote ∷ []) missing.Quote word
+missing_of word = choice_of missing_word (map (λ row. row.0) MISSING) missing.Vpn word
 
 pub missing_of-word : (one : Missing) → missing_of (missing_word one) ≡ one
 missing_of-word missing.Vpn = refl
@@ -68,9 +93,12 @@ missing_of-word missing.Quote = refl
 pub missing_apart : AreApart Each missing_word
 missing_apart = apart_by missing_of (λ one _. missing_of-word one)
 
+pub missing_told : IsWordTable missing_word (map (λ row. (row.0, row.1.now)) MISSING)
+missing_told = is_table missing_word (map (λ row. (row.0, row.1.now)) MISSING) missing.Vpn refl missing_of-word (λ P all. all 0 missing.Vpn (omega arith))
+
 -- the word after a link's load that a word is
 abbrev pub service_of : List ℕ → Service
-service_of word = choice_of service_word (service.Out ∷ service.At ∷ []) service.At word
+service_of word = choice_of service_word (map (λ row. row.0) SERVICES) service.Out word
 
 service_of-word : (one : Service) → service_of (service_word one) ≡ one
 service_of-word service.Out = refl
@@ -79,9 +107,12 @@ service_of-word service.At = refl
 pub services_apart : AreApart Each service_word
 services_apart = apart_by service_of (λ one _. service_of-word one)
 
+pub services_told : IsWordTable service_word (map (λ row. (row.0, row.1.now)) SERVICES)
+services_told = is_table service_word (map (λ row. (row.0, row.1.now)) SERVICES) service.Out refl service_of-word (λ P all. all 0 service.Out (omega arith))
+
 -- the first word of a command that a word is
 abbrev pub verb_of : List ℕ → Verb
-verb_of word = choice_of verb_word VERBS verb.Admit word
+verb_of word = choice_of verb_word (map (λ row. row.0) VERBS) verb.Admit word
 
 verb_of-word : (one : Verb) → verb_of (verb_word one) ≡ one
 verb_of-word verb.Admit = refl
@@ -90,9 +121,8 @@ verb_of-word other = refl
 pub verbs_apart : AreApart Each verb_word
 verbs_apart = apart_by verb_of (λ one _. verb_of-word one)
 
--- what holds of all first words of commands holds of each
-pub every_verb : (P : Verb → Type 0) → All P VERBS → (one : Verb) → P one
-every_verb P all = every_choice verb_word VERBS verb.Admit verb_of-word P all (all 0 verb.Admit (omega arith))
+pub verbs_told : IsWordTable verb_word (map (λ row. (row.0, row.1.now)) VERBS)
+verbs_told = is_table verb_word (map (λ row. (row.0, row.1.now)) VERBS) verb.Admit refl verb_of-word (λ P all. all 0 verb.Admit (omega arith))
 
 pub links_apart : (network : Network) → IsNetwork network → AreApart (IsLinkOf network) decimal
 links_apart network is = record { apart = λ one other below below' same. decimal_injective one other (omega (arith, below, is.few_links)) (omega (arith, below', is.few_links)) same }

@@ -11,10 +11,11 @@ ghost use Rattle.hose_proto.specs.Places.{end_word};
 ghost use Rattle.hose_proto.specs.steps.Reading.{IsFaultOf, IsNewEnd};
 ghost use Rattle.hose_graph.specs.steps.Naming.{AsksOf};
 
-use crate::fault::ReadFault;
+use crate::choices::next_choice;
+use crate::fault::{Read, ReadFault};
 use crate::lists::{Items, read_items};
 use crate::places::endpoint;
-use crate::verb::read_after;
+use crate::verb::{VERBS, read_after};
 use hose_graph::{Command, Endpoint, Hose, LEAST_ENDS, MOST_ENDS, Topology};
 use hose_words::Cursor;
 use std::alloc::Global;
@@ -75,14 +76,14 @@ pub fn read_command_at(
 }
 
 // Reads the words of a command, where it is known that `top` is a network.
-fn read_words(alloc: Global, top: &Topology, words: &mut Cursor<'_>) -> Result<Command, ReadFault>
+fn read_words(alloc: Global, top: &Topology, words: &mut Cursor<'_>) -> Read<Command>
     requires { IsNetwork top.now }
     ensures ok { IfOk result (IsCommand top.now words.old.left) }
     ensures bad { IfErr result (IsFaultOf (command_form top.now) words.old) }
     ensures memory { result ≡ Err ReadFault.Memory
         → IsFirst (IsChoice TakesMemory verb_word) words.old.left }
 {
-    let verb = words.keyword()?;
+    let verb = next_choice(words, &VERBS)?;
     read_after(alloc, top, verb, words)
 }
 
@@ -104,11 +105,7 @@ pub fn read_hose(alloc: Global, top: &Topology, words: &mut Cursor<'_>) -> Resul
 }
 
 // Reads the words of endpoints, where it is known that `top` is a network.
-pub(crate) fn read_ends(
-    alloc: Global,
-    top: &Topology,
-    words: &mut Cursor<'_>,
-) -> Result<Hose, ReadFault>
+pub(crate) fn read_ends(alloc: Global, top: &Topology, words: &mut Cursor<'_>) -> Read<Hose>
     requires { IsNetwork top.now }
     ensures ok { IfOk result (AreEndsOf top.now words.old.left) }
     ensures bad { IfErr result (IsFaultOf (ends_form top.now) words.old) }
@@ -122,7 +119,7 @@ pub(crate) fn read_ends(
 struct NewEnds;
 
 impl Items for NewEnds {
-    type Item = Endpoint;
+    type ListItem = Endpoint;
 
     ghost word_of = { end_word };
 

@@ -5,11 +5,12 @@ ghost use Rattle.hose_words.specs.Form.{anything};
 ghost use Rattle.hose_words.specs.steps.Form.{these};
 ghost use Rattle.hose_graph.specs.Network.{IsNetwork, name_of};
 ghost use Rattle.hose_proto.specs.Fields.{Fields, Values, a_link, a_link_told, a_missing, a_number, a_service, a_word, no_more, words_of_link};
-ghost use Rattle.hose_proto.specs.steps.Fields.{Tells};
+ghost use Rattle.hose_proto.specs.steps.Fields.{FieldsTell};
 ghost use Rattle.hose_proto.specs.steps.Reading.{FailsAt};
 
+use crate::choices::next_choice;
 use crate::fault::Read;
-use crate::head::{Missing, Service};
+use crate::head::{MISSING, Missing, SERVICES, Service};
 use crate::places::read_link_number;
 use hose_graph::Topology;
 use hose_words::{Cursor, WrongWord};
@@ -17,39 +18,39 @@ use std::alloc::Global;
 use std::marker::PhantomData;
 
 // The fields that may stand from some word of a line on.
-pub(crate) trait Line {
+pub(crate) trait LineFields {
     // What they tell.
-    type Told;
+    type FieldValues;
 
     ghost fields: { Fields };
 
-    ghost values: { Self.Told → Values fields };
+    ghost values: { Self.FieldValues → Values fields };
 
     // What the words to come tell, to the end of the line.
-    fn read(alloc: Global, top: &Topology, words: &mut Cursor<'_>) -> Read<Self::Told>
+    fn read(alloc: Global, top: &Topology, words: &mut Cursor<'_>) -> Read<Self::FieldValues>
         requires { IsNetwork top.now }
-        ensures ok { IfOk result (λ told. Tells top.now fields (values told) words.old.left) }
+        ensures ok { IfOk result (λ told. FieldsTell top.now fields (values told) words.old.left) }
         ensures fault { IfErr result (FailsAt top.now fields words.old) };
 }
 
 // Nothing more.
 pub(crate) struct NoMore;
 
-impl Line for NoMore {
-    type Told = ();
+impl LineFields for NoMore {
+    type FieldValues = ();
 
     ghost fields = { no_more };
 
     ghost values = { λ _. tt };
 
-    fn read(_alloc: Global, _top: &Topology, words: &mut Cursor<'_>) -> Read<Self::Told> {
+    fn read(_alloc: Global, _top: &Topology, words: &mut Cursor<'_>) -> Read<Self::FieldValues> {
         words.finish()?;
         Ok(())
     }
 }
 
 // A word that is known.
-pub(crate) trait Known {
+pub(crate) trait KnownWord {
     ghost word: { List ℕ };
 
     fn word() -> &'static [u8]
@@ -60,14 +61,14 @@ pub(crate) struct Word<W, T> {
     fields: PhantomData<(W, T)>,
 }
 
-impl<W: Known, T: Line> Line for Word<W, T> {
-    type Told = T::Told;
+impl<W: KnownWord, T: LineFields> LineFields for Word<W, T> {
+    type FieldValues = T::FieldValues;
 
     ghost fields = { a_word W.word T.fields };
 
     ghost values = { T.values };
 
-    fn read(alloc: Global, top: &Topology, words: &mut Cursor<'_>) -> Read<Self::Told> {
+    fn read(alloc: Global, top: &Topology, words: &mut Cursor<'_>) -> Read<Self::FieldValues> {
         words.expect(W::word())?;
         let rest = T::read(alloc, top, words)?;
         Ok(rest)
@@ -79,14 +80,14 @@ pub(crate) struct Number<T> {
     fields: PhantomData<T>,
 }
 
-impl<T: Line> Line for Number<T> {
-    type Told = (u64, T::Told);
+impl<T: LineFields> LineFields for Number<T> {
+    type FieldValues = (u64, T::FieldValues);
 
     ghost fields = { a_number T.fields };
 
     ghost values = { λ told. (told.0, T.values told.1) };
 
-    fn read(alloc: Global, top: &Topology, words: &mut Cursor<'_>) -> Read<Self::Told> {
+    fn read(alloc: Global, top: &Topology, words: &mut Cursor<'_>) -> Read<Self::FieldValues> {
         let number = words.number()?;
         let rest = T::read(alloc, top, words)?;
         Ok((number, rest))
@@ -98,14 +99,14 @@ pub(crate) struct LinkNumber<T> {
     fields: PhantomData<T>,
 }
 
-impl<T: Line> Line for LinkNumber<T> {
-    type Told = (u64, T::Told);
+impl<T: LineFields> LineFields for LinkNumber<T> {
+    type FieldValues = (u64, T::FieldValues);
 
     ghost fields = { a_link T.fields };
 
     ghost values = { λ told. (told.0, T.values told.1) };
 
-    fn read(alloc: Global, top: &Topology, words: &mut Cursor<'_>) -> Read<Self::Told> {
+    fn read(alloc: Global, top: &Topology, words: &mut Cursor<'_>) -> Read<Self::FieldValues> {
         let link = read_link_number(top, words)?;
         let rest = T::read(alloc, top, words)?;
         Ok((u64::from(link), rest))
@@ -117,14 +118,14 @@ pub(crate) struct LinkTold<T> {
     fields: PhantomData<T>,
 }
 
-impl<T: Line> Line for LinkTold<T> {
-    type Told = (u64, T::Told);
+impl<T: LineFields> LineFields for LinkTold<T> {
+    type FieldValues = (u64, T::FieldValues);
 
     ghost fields = { a_link_told T.fields };
 
     ghost values = { λ told. (told.0, T.values told.1) };
 
-    fn read(alloc: Global, top: &Topology, words: &mut Cursor<'_>) -> Read<Self::Told> {
+    fn read(alloc: Global, top: &Topology, words: &mut Cursor<'_>) -> Read<Self::FieldValues> {
         let link = read_link_number(top, words)?;
         expect_link(top, link, words)?;
         let rest = T::read(alloc, top, words)?;
@@ -166,15 +167,15 @@ pub(crate) struct NoSuch<T> {
     fields: PhantomData<T>,
 }
 
-impl<T: Line> Line for NoSuch<T> {
-    type Told = (Missing, T::Told);
+impl<T: LineFields> LineFields for NoSuch<T> {
+    type FieldValues = (Missing, T::FieldValues);
 
     ghost fields = { a_missing T.fields };
 
     ghost values = { λ told. (told.0, T.values told.1) };
 
-    fn read(alloc: Global, top: &Topology, words: &mut Cursor<'_>) -> Read<Self::Told> {
-        let missing: Missing = words.keyword()?;
+    fn read(alloc: Global, top: &Topology, words: &mut Cursor<'_>) -> Read<Self::FieldValues> {
+        let missing = next_choice(words, &MISSING)?;
         let rest = T::read(alloc, top, words)?;
         Ok((missing, rest))
     }
@@ -185,18 +186,18 @@ pub(crate) struct InService<T> {
     fields: PhantomData<T>,
 }
 
-impl<T: Line> Line for InService<T> {
-    type Told = (bool, T::Told);
+impl<T: LineFields> LineFields for InService<T> {
+    type FieldValues = (bool, T::FieldValues);
 
     ghost fields = { a_service T.fields };
 
     ghost values = { λ told. (told.0, T.values told.1) };
 
-    fn read(alloc: Global, top: &Topology, words: &mut Cursor<'_>) -> Read<Self::Told> {
-        let service: Service = words.keyword()?;
+    fn read(alloc: Global, top: &Topology, words: &mut Cursor<'_>) -> Read<Self::FieldValues> {
+        let service = next_choice(words, &SERVICES)?;
         match service {
             Service::Out => {
-                let rest = Word::<At, T>::read(alloc, top, words)?;
+                let rest = Word::<AtWord, T>::read(alloc, top, words)?;
                 Ok((true, rest))
             }
             Service::At => {
@@ -209,9 +210,9 @@ impl<T: Line> Line for InService<T> {
 
 // The words that are known.
 
-pub(crate) struct At;
+pub(crate) struct AtWord;
 
-impl Known for At {
+impl KnownWord for AtWord {
     ghost word = { codes "at" };
 
     fn word() -> &'static [u8] {
@@ -219,9 +220,9 @@ impl Known for At {
     }
 }
 
-pub(crate) struct Cost;
+pub(crate) struct CostWord;
 
-impl Known for Cost {
+impl KnownWord for CostWord {
     ghost word = { codes "cost" };
 
     fn word() -> &'static [u8] {
@@ -229,9 +230,9 @@ impl Known for Cost {
     }
 }
 
-pub(crate) struct Load;
+pub(crate) struct LoadWord;
 
-impl Known for Load {
+impl KnownWord for LoadWord {
     ghost word = { codes "load" };
 
     fn word() -> &'static [u8] {
@@ -239,9 +240,9 @@ impl Known for Load {
     }
 }
 
-pub(crate) struct Links;
+pub(crate) struct LinksWord;
 
-impl Known for Links {
+impl KnownWord for LinksWord {
     ghost word = { codes "links" };
 
     fn word() -> &'static [u8] {
@@ -249,9 +250,9 @@ impl Known for Links {
     }
 }
 
-pub(crate) struct Ends;
+pub(crate) struct EndsWord;
 
-impl Known for Ends {
+impl KnownWord for EndsWord {
     ghost word = { codes "ends" };
 
     fn word() -> &'static [u8] {
@@ -259,9 +260,9 @@ impl Known for Ends {
     }
 }
 
-pub(crate) struct Side;
+pub(crate) struct SideWord;
 
-impl Known for Side {
+impl KnownWord for SideWord {
     ghost word = { codes "side" };
 
     fn word() -> &'static [u8] {
@@ -269,9 +270,9 @@ impl Known for Side {
     }
 }
 
-pub(crate) struct Many;
+pub(crate) struct ManyWord;
 
-impl Known for Many {
+impl KnownWord for ManyWord {
     ghost word = { codes "many" };
 
     fn word() -> &'static [u8] {
@@ -279,9 +280,9 @@ impl Known for Many {
     }
 }
 
-pub(crate) struct Quotes;
+pub(crate) struct QuotesWord;
 
-impl Known for Quotes {
+impl KnownWord for QuotesWord {
     ghost word = { codes "quotes" };
 
     fn word() -> &'static [u8] {

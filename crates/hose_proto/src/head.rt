@@ -1,10 +1,4 @@
-// The words that tell which reply a line is.
-ghost use Rattle.hose_proto.specs.Fields.{missing_word};
-ghost use Rattle.hose_proto.specs.steps.Fields.{service_word};
-ghost use Rattle.hose_proto.specs.ReplyLines.{head_word};
-
-use crate::choices::{HasWord, with_word};
-use hose_words::Keyword;
+// What the words say that tell which reply a line is.
 
 // The first word of a reply.
 #[derive(Clone, Copy, Debug)]
@@ -34,72 +28,6 @@ pub(crate) enum Head {
     Bye,
 }
 
-const HEADS: [Head; 23] = [
-    Head::Welcome,
-    Head::Admitted,
-    Head::Quoted,
-    Head::Refused,
-    Head::Stale,
-    Head::Released,
-    Head::No,
-    Head::Too,
-    Head::Vpn,
-    Head::Vpns,
-    Head::Newest,
-    Head::Link,
-    Head::Down,
-    Head::Up,
-    Head::Already,
-    Head::Denied,
-    Head::Full,
-    Head::Spent,
-    Head::Disk,
-    Head::Memory,
-    Head::Bad,
-    Head::Long,
-    Head::Bye,
-];
-
-impl Keyword for Head {
-    ghost word_of = { head_word };
-
-    fn of(word: &[u8]) -> Option<Head> {
-        with_word(&HEADS, word)
-    }
-}
-
-impl HasWord for Head {
-    ghost word_of = { head_word };
-
-    fn word(self) -> &'static [u8] {
-        match self {
-            Head::Welcome => b"welcome",
-            Head::Admitted => b"admitted",
-            Head::Quoted => b"quoted",
-            Head::Refused => b"refused",
-            Head::Stale => b"stale",
-            Head::Released => b"released",
-            Head::No => b"no",
-            Head::Too => b"too",
-            Head::Vpn => b"vpn",
-            Head::Vpns => b"vpns",
-            Head::Newest => b"newest",
-            Head::Link => b"link",
-            Head::Down => b"down",
-            Head::Up => b"up",
-            Head::Already => b"already",
-            Head::Denied => b"denied",
-            Head::Full => b"full",
-            Head::Spent => b"spent",
-            Head::Disk => b"disk",
-            Head::Memory => b"memory",
-            Head::Bad => b"bad",
-            Head::Long => b"long",
-            Head::Bye => b"bye",
-        }
-    }
-}
-
 // What there is none of, by the word after `no`.
 #[derive(Clone, Copy, Debug)]
 pub(crate) enum Missing {
@@ -107,17 +35,10 @@ pub(crate) enum Missing {
     Quote,
 }
 
-impl Keyword for Missing {
-    ghost word_of = { missing_word };
-
-    fn of(word: &[u8]) -> Option<Missing> {
-        match word {
-            b"vpn" => Some(Missing::Vpn),
-            b"quote" => Some(Missing::Quote),
-            _ => None,
-        }
-    }
-}
+pub(crate) const MISSING: [(Missing, &[u8]); 2] = [
+    (Missing::Vpn, b"vpn"),
+    (Missing::Quote, b"quote"),
+];
 
 // Whether a link is out of service, by the word after its load.
 #[derive(Clone, Copy, Debug)]
@@ -126,14 +47,4 @@ pub(crate) enum Service {
     At,
 }
 
-impl Keyword for Service {
-    ghost word_of = { service_word };
-
-    fn of(word: &[u8]) -> Option<Service> {
-        match word {
-            b"out" => Some(Service::Out),
-            b"at" => Some(Service::At),
-            _ => None,
-        }
-    }
-}
+pub(crate) const SERVICES: [(Service, &[u8]); 2] = [(Service::Out, b"out"), (Service::At, b"at")];

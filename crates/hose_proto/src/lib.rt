@@ -19,7 +19,7 @@ mod reply_reader;
 mod reply_text;
 mod verb;
 
-pub use choices::{HasWord, with_word};
+pub use choices::{next_choice, with_word};
 pub use command::{read_command, read_command_at, read_hose};
 pub use fault::ReadFault;
 pub use pieces::{add_ends, add_link, add_pairs};

@@ -5,28 +5,28 @@ ghost use Rattle.hose_words.specs.Form.{list, until};
 ghost use Rattle.hose_graph.specs.Network.{Network, IsNetwork};
 ghost use Rattle.hose_proto.specs.Fields.{Fields};
 ghost use Rattle.hose_proto.specs.steps.Fields.{form_of};
-ghost use Rattle.hose_proto.specs.steps.Reading.{EndsList, GoesOn, IsFaultOf, MissesUntil, TellsNext};
+ghost use Rattle.hose_proto.specs.steps.Reading.{EndsList, IsFaultOf, ListGoesOn, MissesUntil, TellsNext};
 
-use crate::fault::ReadFault;
+use crate::fault::Read;
 use hose_graph::Topology;
 use hose_words::{Cursor, WrongWord};
 use std::alloc::Global;
 
 // What the words of a list tell.
 pub(crate) trait Items {
-    type Item: Copy;
+    type ListItem: Copy;
 
     // The word of an item.
-    ghost word_of: { Network → Self.Item → List ℕ };
+    ghost word_of: { Network → Self.ListItem → List ℕ };
 
     // Items that may stand in a list.
-    ghost fine: { Network → List Self.Item → Type 0 };
+    ghost fine: { Network → List Self.ListItem → Type 0 };
 
     // An item that may come after others.
-    ghost may_come: { Network → List Self.Item → Self.Item → Type 0 };
+    ghost may_come: { Network → List Self.ListItem → Self.ListItem → Type 0 };
 
     // The item that a word tells, where it may come after the others.
-    fn next(top: &Topology, items: &[Self::Item], word: &[u8]) -> Option<Self::Item>
+    fn next(top: &Topology, items: &[Self::ListItem], word: &[u8]) -> Option<Self::ListItem>
         requires network { IsNetwork top.now }
         requires so_far { fine top.now items.now }
         ensures { TellsNext (word_of top.now) (may_come top.now items.now) word.now result };
@@ -38,11 +38,11 @@ pub(crate) fn read_items<L: Items>(
     top: &Topology,
     least: usize,
     words: &mut Cursor<'_>,
-) -> Result<Vec<L::Item>, ReadFault>
+) -> Read<Vec<L::ListItem>>
     requires network { IsNetwork top.now }
     requires none { L.fine top.now [] }
-    requires goes_on { (items : List L.Item) → L.fine top.now items
-        → GoesOn (L.word_of top.now) (L.fine top.now) (L.may_come top.now items) items }
+    requires goes_on { (items : List L.ListItem) → L.fine top.now items
+        → ListGoesOn (L.word_of top.now) (L.fine top.now) (L.may_come top.now items) items }
     ensures told { IfOk result (λ items. words.old.left ≡ map (L.word_of top.now) items.items) }
     ensures fine { IfOk result (λ items. L.fine top.now items.items) }
     ensures enough { IfOk result (λ items. least ≤ length items.items) }
@@ -59,10 +59,10 @@ pub(crate) fn read_items<L: Items>(
 // The item that the next word tells, or none where the line ends.
 fn next_item<L: Items>(
     top: &Topology,
-    items: &[L::Item],
+    items: &[L::ListItem],
     least: usize,
     words: &mut Cursor<'_>,
-) -> Result<Option<L::Item>, WrongWord>
+) -> Result<Option<L::ListItem>, WrongWord>
     requires network { IsNetwork top.now }
     requires so_far { L.fine top.now items.now }
     ensures next { IfOk result (λ next. IfSome next (λ item.
@@ -91,12 +91,12 @@ pub(crate) fn read_until<L: Items>(
     least: usize,
     last: &[u8],
     words: &mut Cursor<'_>,
-) -> Result<Vec<L::Item>, ReadFault>
+) -> Read<Vec<L::ListItem>>
     requires network { IsNetwork top.now }
     requires none { L.fine top.now [] }
-    requires goes_on { (items : List L.Item) → L.fine top.now items
-        → GoesOn (L.word_of top.now) (L.fine top.now) (L.may_come top.now items) items }
-    requires apart { (items : List L.Item) → L.fine top.now items
+    requires goes_on { (items : List L.ListItem) → L.fine top.now items
+        → ListGoesOn (L.word_of top.now) (L.fine top.now) (L.may_come top.now items) items }
+    requires apart { (items : List L.ListItem) → L.fine top.now items
         → All (λ word. word ≢ last.now) (map (L.word_of top.now) items) }
     ensures told { IfOk result (λ items. words.old.left
         ≡ map (L.word_of top.now) items.items ++ last.now ∷ words.new.left) }
@@ -120,11 +120,11 @@ pub(crate) fn read_until<L: Items>(
 // The item that the next word tells, or none where that is the word that ends the list.
 fn next_until<L: Items>(
     top: &Topology,
-    items: &[L::Item],
+    items: &[L::ListItem],
     least: usize,
     last: &[u8],
     words: &mut Cursor<'_>,
-) -> Result<Option<L::Item>, WrongWord>
+) -> Result<Option<L::ListItem>, WrongWord>
     requires network { IsNetwork top.now }
     requires so_far { L.fine top.now items.now }
     ensures next { IfOk result (λ next. IfSome next (λ item.

@@ -9,7 +9,7 @@ ghost use Rattle.hose_graph.specs.Network.{IsNetwork, IsLinkOf};
 ghost use Rattle.hose_graph.specs.declared.limits.TheConstants.{MOST_RATE};
 ghost use Rattle.hose_proto.specs.EndWords.{IsEndWord, name_in, named_rate};
 ghost use Rattle.hose_proto.specs.Places.{end_word};
-ghost use Rattle.hose_proto.specs.steps.Reading.{IsEndOf};
+ghost use Rattle.hose_proto.specs.steps.Fields.{IsEndOf};
 
 use hose_graph::{Endpoint, MOST_RATE, Name, Topology};
 use hose_words::{Cursor, WrongWord, number};

@@ -1,15 +1,16 @@
 // The lists of replies, read from words.
 ghost use Rattle.std.specs.Prelude.{◌≡◌, ◌↔◌, ◌++◌, [], ◌∷◌, decimal, IfSome, IfNone, IsTrue};
 ghost use Rattle.std.specs.List.Sorted.{IsStrictlyIncreasing};
+ghost use Rattle.hose_words.specs.Form.{Fits64};
 ghost use Rattle.hose_graph.specs.Ascending.{IsAscending, firsts};
-ghost use Rattle.hose_graph.specs.Network.{IsNetwork, name_of};
+ghost use Rattle.hose_graph.specs.Network.{IsNetwork, IsNodeOf, name_of};
 ghost use Rattle.hose_proto.specs.Places.{end_word};
-ghost use Rattle.hose_proto.specs.steps.Reading.{IsNextEnd, IsNextNode, IsNextNumber, IsNextPair, TellsNone};
+ghost use Rattle.hose_proto.specs.steps.Reading.{IsNextEnd, IsNextItem, TellsNone};
 ghost use Rattle.hose_proto.specs.Fields.{pair_word, the_amounts, the_ends, the_nodes, the_numbers};
-ghost use Rattle.hose_proto.specs.steps.Fields.{AreAmounts, AreEnds, AreNumbers, IsSide};
+ghost use Rattle.hose_proto.specs.steps.Fields.{AreAmounts, AreEnds, AreNumbers, IsAmountOf, IsSide};
 
 use crate::fault::Read;
-use crate::fields::Line;
+use crate::fields::LineFields;
 use crate::lists::{Items, read_items, read_until};
 use crate::places::{endpoint, link_number, number_told, parts};
 use hose_graph::{
@@ -22,15 +23,15 @@ use std::marker::PhantomData;
 // Amounts on links, to the end of the line.
 pub(crate) struct TheAmounts;
 
-impl Line for TheAmounts {
-    type Told = Amounts;
+impl LineFields for TheAmounts {
+    type FieldValues = Amounts;
 
     ghost fields = { the_amounts };
 
     ghost values = { λ amounts. amounts };
 
-    fn read(alloc: Global, top: &Topology, words: &mut Cursor<'_>) -> Read<Self::Told> {
-        let pairs = read_items::<Pairs>(alloc, top, 1, words)?;
+    fn read(alloc: Global, top: &Topology, words: &mut Cursor<'_>) -> Read<Self::FieldValues> {
+        let pairs = read_items::<AscendingPairs>(alloc, top, 1, words)?;
         let amounts = Amounts::build(alloc, &pairs)?;
         Ok(amounts)
     }
@@ -39,15 +40,15 @@ impl Line for TheAmounts {
 // Nodes by their names, to the end of the line.
 pub(crate) struct TheNodes;
 
-impl Line for TheNodes {
-    type Told = NodeList;
+impl LineFields for TheNodes {
+    type FieldValues = NodeList;
 
     ghost fields = { the_nodes };
 
     ghost values = { λ side. side };
 
-    fn read(alloc: Global, top: &Topology, words: &mut Cursor<'_>) -> Read<Self::Told> {
-        let nodes = read_items::<Nodes>(alloc, top, 1, words)?;
+    fn read(alloc: Global, top: &Topology, words: &mut Cursor<'_>) -> Read<Self::FieldValues> {
+        let nodes = read_items::<AscendingNodes>(alloc, top, 1, words)?;
         let side = NodeList::build(alloc, &nodes)?;
         Ok(side)
     }
@@ -58,15 +59,15 @@ pub(crate) struct TheEnds<T> {
     fields: PhantomData<T>,
 }
 
-impl<T: Line> Line for TheEnds<T> {
-    type Told = (Hose, T::Told);
+impl<T: LineFields> LineFields for TheEnds<T> {
+    type FieldValues = (Hose, T::FieldValues);
 
     ghost fields = { the_ends T.fields };
 
     ghost values = { λ told. (told.0, T.values told.1) };
 
-    fn read(alloc: Global, top: &Topology, words: &mut Cursor<'_>) -> Read<Self::Told> {
-        let ends = read_until::<Ends>(alloc, top, LEAST_ENDS, b"links", words)?;
+    fn read(alloc: Global, top: &Topology, words: &mut Cursor<'_>) -> Read<Self::FieldValues> {
+        let ends = read_until::<AscendingEnds>(alloc, top, LEAST_ENDS, b"links", words)?;
         let hose = Hose::from_ends(alloc, &ends)?;
         let rest = T::read(alloc, top, words)?;
         Ok((hose, rest))
@@ -78,15 +79,15 @@ pub(crate) struct TheNumbers<T> {
     fields: PhantomData<T>,
 }
 
-impl<T: Line> Line for TheNumbers<T> {
-    type Told = (VpnList, T::Told);
+impl<T: LineFields> LineFields for TheNumbers<T> {
+    type FieldValues = (VpnList, T::FieldValues);
 
     ghost fields = { the_numbers T.fields };
 
     ghost values = { λ told. (told.0, T.values told.1) };
 
-    fn read(alloc: Global, top: &Topology, words: &mut Cursor<'_>) -> Read<Self::Told> {
-        let ids = read_until::<Numbers>(alloc, top, 0, b"at", words)?;
+    fn read(alloc: Global, top: &Topology, words: &mut Cursor<'_>) -> Read<Self::FieldValues> {
+        let ids = read_until::<AscendingNumbers>(alloc, top, 0, b"at", words)?;
         let ids = VpnList::from_vec(ids);
         let rest = T::read(alloc, top, words)?;
         Ok((ids, rest))
@@ -94,16 +95,16 @@ impl<T: Line> Line for TheNumbers<T> {
 }
 
 // Amounts on links, in ascending order of links.
-struct Pairs;
+struct AscendingPairs;
 
-impl Items for Pairs {
-    type Item = ReservedLink;
+impl Items for AscendingPairs {
+    type ListItem = ReservedLink;
 
     ghost word_of = { λ _. pair_word };
 
     ghost fine = { AreAmounts };
 
-    ghost may_come = { IsNextPair };
+    ghost may_come = { λ network. IsNextItem firsts (IsAmountOf network) };
 
     // The amount that a word tells, where its link comes after those of the others.
     fn next(top: &Topology, pairs: &[ReservedLink], word: &[u8]) -> Option<ReservedLink> {
@@ -114,7 +115,7 @@ impl Items for Pairs {
         let Some(amount) = number(amount, u64::MAX) else {
             return None;
         };
-        if comes_after(pairs, link) {
+        if comes_after(pairs, (link, amount)) {
             Some((link, amount))
         } else {
             None
@@ -123,16 +124,16 @@ impl Items for Pairs {
 }
 
 // Nodes in ascending order.
-struct Nodes;
+struct AscendingNodes;
 
-impl Items for Nodes {
-    type Item = u32;
+impl Items for AscendingNodes {
+    type ListItem = u32;
 
     ghost word_of = { name_of };
 
     ghost fine = { IsSide };
 
-    ghost may_come = { IsNextNode };
+    ghost may_come = { λ network. IsNextItem (λ nodes. nodes) (IsNodeOf network) };
 
     fn next(top: &Topology, nodes: &[u32], word: &[u8]) -> Option<u32> {
         node_after(top, nodes, word)
@@ -143,10 +144,10 @@ impl Items for Nodes {
 fn node_after(top: &Topology, nodes: &[u32], word: &[u8]) -> Option<u32>
     requires ascending { IsStrictlyIncreasing nodes.now }
     requires network { IsNetwork top.now }
-    ensures some { IfSome result
-        (λ node. (word.now ≡ name_of top.now node) × IsNextNode top.now nodes.now node) }
-    ensures none { IfNone result (TellsNone (name_of top.now) (IsNextNode top.now nodes.now)
-        word.now) }
+    ensures some { IfSome result (λ node. (word.now ≡ name_of top.now node)
+        × IsNextItem (λ nodes. nodes) (IsNodeOf top.now) nodes.now node) }
+    ensures none { IfNone result (TellsNone (name_of top.now)
+        (IsNextItem (λ nodes. nodes) (IsNodeOf top.now) nodes.now) word.now) }
 {
     let node = top.find(&Name::read(word)?)?;
     match nodes.last() {
@@ -156,10 +157,10 @@ fn node_after(top: &Topology, nodes: &[u32], word: &[u8]) -> Option<u32>
 }
 
 // Endpoints in ascending order of nodes.
-struct Ends;
+struct AscendingEnds;
 
-impl Items for Ends {
-    type Item = Endpoint;
+impl Items for AscendingEnds {
+    type ListItem = Endpoint;
 
     ghost word_of = { end_word };
 
@@ -176,7 +177,7 @@ impl Items for Ends {
         if ends.len() >= MOST_ENDS {
             return None;
         }
-        if comes_after(ends, end.0) {
+        if comes_after(ends, end) {
             Some(end)
         } else {
             None
@@ -184,28 +185,28 @@ impl Items for Ends {
     }
 }
 
-// Whether a number may come after those that pairs begin with.
-fn comes_after(pairs: &[(u32, u64)], number: u32) -> bool
+// Whether a pair may come after those that ascend by their first numbers.
+fn comes_after(pairs: &[(u32, u64)], pair: (u32, u64)) -> bool
     requires { IsAscending pairs.now }
-    ensures { IsTrue result ↔ IsStrictlyIncreasing (firsts pairs.now ++ number ∷ []) }
+    ensures { IsTrue result ↔ IsAscending (pairs.now ++ pair ∷ []) }
 {
     match pairs.last() {
-        Some(last) => last.0 < number,
+        Some(last) => last.0 < pair.0,
         None => true,
     }
 }
 
 // Numbers in ascending order.
-struct Numbers;
+struct AscendingNumbers;
 
-impl Items for Numbers {
-    type Item = u64;
+impl Items for AscendingNumbers {
+    type ListItem = u64;
 
     ghost word_of = { λ _. decimal };
 
     ghost fine = { λ _. AreNumbers };
 
-    ghost may_come = { λ _. IsNextNumber };
+    ghost may_come = { λ _. IsNextItem (λ numbers. numbers) Fits64 };
 
     // The number that a word tells, where it comes after the others.
     fn next(_top: &Topology, numbers: &[u64], word: &[u8]) -> Option<u64> {

@@ -10,10 +10,11 @@ ghost use Rattle.hose_proto.specs.ReplyLines.{head_fields, head_word};
 ghost use Rattle.hose_proto.specs.steps.ReplyLines.{HasLists, IsReply, reply_form, reply_grammar};
 ghost use Rattle.hose_graph.specs.steps.Naming.{NamesPlaces};
 
-use crate::fault::ReadFault;
+use crate::choices::next_choice;
+use crate::fault::{Read, ReadFault};
 use crate::fields::{
-    At, Cost, Ends, InService, Line, LinkNumber, LinkTold, Links, Load, Many, NoMore, NoSuch,
-    Number, Quotes, Side, Word,
+    AtWord, CostWord, EndsWord, InService, LineFields, LinkNumber, LinkTold, LinksWord, LoadWord,
+    ManyWord, NoMore, NoSuch, Number, QuotesWord, SideWord, Word,
 };
 use crate::head::{Head, Missing};
 use crate::reply_lists::{TheAmounts, TheEnds, TheNodes, TheNumbers};
@@ -22,12 +23,12 @@ use hose_words::Cursor;
 use std::alloc::Global;
 
 // `at N`
-type Epoch = Word<At, Number<NoMore>>;
+type Epoch = Word<AtWord, Number<NoMore>>;
 
 // `ID cost C at N`, and the fields after that.
-type Costed<T> = Number<Word<Cost, Number<Word<At, Number<T>>>>>;
+type Costed<T> = Number<Word<CostWord, Number<Word<AtWord, Number<T>>>>>;
 
-type Priced = Costed<Word<Links, TheAmounts>>;
+type CostedAmounts = Costed<Word<LinksWord, TheAmounts>>;
 
 /// The reply that the words of a line tell, as `put_reply` writes it, for tests and embeddings.
 pub fn read_reply(alloc: Global, top: &Topology, line: &[u8]) -> Result<Reply, ReadFault>
@@ -50,25 +51,47 @@ pub fn read_reply(alloc: Global, top: &Topology, line: &[u8]) -> Result<Reply, R
     read_words(alloc, top, &mut Cursor::new(line))
 }
 
+// The first words of replies.
+const HEADS: [(Head, &[u8]); 23] = [
+    (Head::Welcome, b"welcome"),
+    (Head::Admitted, b"admitted"),
+    (Head::Quoted, b"quoted"),
+    (Head::Refused, b"refused"),
+    (Head::Stale, b"stale"),
+    (Head::Released, b"released"),
+    (Head::No, b"no"),
+    (Head::Too, b"too"),
+    (Head::Vpn, b"vpn"),
+    (Head::Vpns, b"vpns"),
+    (Head::Newest, b"newest"),
+    (Head::Link, b"link"),
+    (Head::Down, b"down"),
+    (Head::Up, b"up"),
+    (Head::Already, b"already"),
+    (Head::Denied, b"denied"),
+    (Head::Full, b"full"),
+    (Head::Spent, b"spent"),
+    (Head::Disk, b"disk"),
+    (Head::Memory, b"memory"),
+    (Head::Bad, b"bad"),
+    (Head::Long, b"long"),
+    (Head::Bye, b"bye"),
+];
+
 // The reply that words tell.
-fn read_words(alloc: Global, top: &Topology, words: &mut Cursor<'_>) -> Result<Reply, ReadFault>
+fn read_words(alloc: Global, top: &Topology, words: &mut Cursor<'_>) -> Read<Reply>
     requires { IsNetwork top.now }
     ensures ok { IfOk result (IsReply top.now words.old.left) }
     ensures bad { IfErr result (IsFaultOf (reply_form top.now) words.old) }
     ensures memory { result ≡ Err ReadFault.Memory
         → IsFirst (IsChoice HasLists head_word) words.old.left }
 {
-    let head = words.keyword()?;
+    let head = next_choice(words, &HEADS)?;
     read_after(alloc, top, head, words)
 }
 
 // The reply of a first word and the words after it.
-fn read_after(
-    alloc: Global,
-    top: &Topology,
-    head: Head,
-    words: &mut Cursor<'_>,
-) -> Result<Reply, ReadFault>
+fn read_after(alloc: Global, top: &Topology, head: Head, words: &mut Cursor<'_>) -> Read<Reply>
     requires { IsNetwork top.now }
     ensures ok { IfOk result (IsReply top.now (head_word head ∷ words.old.left)) }
     ensures fault { IfErr result (FailsAt top.now (head_fields head) words.old) }
@@ -79,7 +102,7 @@ fn read_after(
             Ok(Reply::Welcome { at })
         }
         Head::Admitted => {
-            let (id, (cost, (at, amounts))) = Priced::read(alloc, top, words)?;
+            let (id, (cost, (at, amounts))) = CostedAmounts::read(alloc, top, words)?;
             Ok(Reply::Admitted {
                 id,
                 cost,
@@ -88,7 +111,7 @@ fn read_after(
             })
         }
         Head::Quoted => {
-            let (quote, (cost, (at, amounts))) = Priced::read(alloc, top, words)?;
+            let (quote, (cost, (at, amounts))) = CostedAmounts::read(alloc, top, words)?;
             Ok(Reply::Quoted {
                 quote,
                 cost,
@@ -97,7 +120,9 @@ fn read_after(
             })
         }
         Head::Refused => {
-            let (at, side) = Word::<At, Number<Word<Side, TheNodes>>>::read(alloc, top, words)?;
+            let (at, side) = Word::<AtWord, Number<Word<SideWord, TheNodes>>>::read(
+                alloc, top, words,
+            )?;
             Ok(Reply::Refused { at, side })
         }
         Head::Stale => {
@@ -116,12 +141,12 @@ fn read_after(
             }
         }
         Head::Too => {
-            let (at, ()) = Word::<Many, Word<Quotes, Epoch>>::read(alloc, top, words)?;
+            let (at, ()) = Word::<ManyWord, Word<QuotesWord, Epoch>>::read(alloc, top, words)?;
             Ok(Reply::TooMany { at })
         }
         Head::Vpn => {
             let (id, (cost, (at, (hose, amounts)))) = Costed::<
-                Word<Ends, TheEnds<TheAmounts>>,
+                Word<EndsWord, TheEnds<TheAmounts>>,
             >::read(alloc, top, words)?;
             Ok(Reply::Shown {
                 id,
@@ -141,7 +166,7 @@ fn read_after(
         }
         Head::Link => {
             let (link, (load, (out, (at, ())))) = LinkTold::<
-                Word<Load, Number<InService<Number<NoMore>>>>,
+                Word<LoadWord, Number<InService<Number<NoMore>>>>,
             >::read(alloc, top, words)?;
             Ok(Reply::LinkState {
                 link,

@@ -6,12 +6,11 @@ ghost use Rattle.hose_graph.specs.Network.{Network, IsNetwork};
 ghost use Rattle.hose_proto.specs.Command.{Asks, IsCommand, IsId, TakesMemory, an_id, asked_form, nothing, one_link, the_hose, verb_form, verb_word};
 ghost use Rattle.hose_proto.specs.steps.Reading.{IsFaultOf};
 
-use crate::choices::{HasWord, with_word};
 use crate::command::read_ends;
-use crate::fault::ReadFault;
+use crate::fault::{Read, ReadFault};
 use crate::places::read_link_number;
 use hose_graph::{Command, Hose, MOST_EPOCH, Topology};
-use hose_words::{Cursor, Keyword, WrongWord};
+use hose_words::{Cursor, WrongWord};
 use std::alloc::Global;
 
 // What a command's first word says is to be done. The line of each is that of the usage text.
@@ -39,45 +38,18 @@ pub(crate) enum Verb {
     Up,
 }
 
-const VERBS: [Verb; 10] = [
-    Verb::Admit,
-    Verb::AdmitAfter,
-    Verb::Quote,
-    Verb::Take,
-    Verb::Release,
-    Verb::Show,
-    Verb::Vpns,
-    Verb::Link,
-    Verb::Down,
-    Verb::Up,
+pub(crate) const VERBS: [(Verb, &[u8]); 10] = [
+    (Verb::Admit, b"admit"),
+    (Verb::AdmitAfter, b"admit-after"),
+    (Verb::Quote, b"quote"),
+    (Verb::Take, b"take"),
+    (Verb::Release, b"release"),
+    (Verb::Show, b"show"),
+    (Verb::Vpns, b"vpns"),
+    (Verb::Link, b"link"),
+    (Verb::Down, b"down"),
+    (Verb::Up, b"up"),
 ];
-
-impl Keyword for Verb {
-    ghost word_of = { verb_word };
-
-    fn of(word: &[u8]) -> Option<Verb> {
-        with_word(&VERBS, word)
-    }
-}
-
-impl HasWord for Verb {
-    ghost word_of = { verb_word };
-
-    fn word(self) -> &'static [u8] {
-        match self {
-            Verb::Admit => b"admit",
-            Verb::AdmitAfter => b"admit-after",
-            Verb::Quote => b"quote",
-            Verb::Take => b"take",
-            Verb::Release => b"release",
-            Verb::Show => b"show",
-            Verb::Vpns => b"vpns",
-            Verb::Link => b"link",
-            Verb::Down => b"down",
-            Verb::Up => b"up",
-        }
-    }
-}
 
 // The command of a verb and the words after it.
 pub(crate) fn read_after(
@@ -85,7 +57,7 @@ pub(crate) fn read_after(
     top: &Topology,
     verb: Verb,
     words: &mut Cursor<'_>,
-) -> Result<Command, ReadFault>
+) -> Read<Command>
     requires { IsNetwork top.now }
     ensures ok { IfOk result (IsCommand top.now (verb_word verb ∷ words.old.left)) }
     ensures bad { IfErr result (IsFaultOf (verb_form top.now verb) words.old) }
@@ -112,11 +84,7 @@ pub(crate) fn read_after(
 }
 
 // A number, and the endpoints of a hose.
-fn read_bound(
-    alloc: Global,
-    top: &Topology,
-    words: &mut Cursor<'_>,
-) -> Result<(u64, Hose), ReadFault>
+fn read_bound(alloc: Global, top: &Topology, words: &mut Cursor<'_>) -> Read<(u64, Hose)>
     requires { IsNetwork top.now }
     ensures ok { IfOk result
         (λ bound. Asks top.now (an_id the_hose) (bound.0, bound.1) words.old.left) }

@@ -7,7 +7,7 @@ ghost use Rattle.hose_graph.specs.Network.{IsLink, name_of};
 ghost use Rattle.hose_topo.specs.Canonical.{canonical_text, node_line, link_line};
 ghost use Rattle.hose_topo.specs.TopologyText.{IsTopologyText};
 
-use crate::pieces::{Outgoing, Pieces};
+use crate::pieces::{GatheringSink, Pieces};
 use hose_graph::{Link, Topology};
 use hose_io::{Failed, Gather, Sink};
 use sha2::{Digest, Sha256};
@@ -25,12 +25,12 @@ pub fn put_canonical<S: Sink>(sink: &mut S, top: &Topology) -> Result<(), Failed
 {
     let nodes = top.nodes();
     prove!(nodes > 0);
-    let mut out = Outgoing {
+    let mut out = GatheringSink {
         gather: Gather::new(),
         sink,
     };
     add_canonical(&mut out, top);
-    let Outgoing { gather, sink } = out;
+    let GatheringSink { gather, sink } = out;
     gather.finish(sink)
 }
 

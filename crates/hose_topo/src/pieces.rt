@@ -34,12 +34,12 @@ pub trait Pieces {
 
 /// A sink and the gatherer before it.
 #[derive(Drop)]
-pub struct Outgoing<'a, S: Sink> {
+pub struct GatheringSink<'a, S: Sink> {
     pub gather: Gather,
     pub sink: &'a mut S,
 }
 
-impl<'a, S: Sink> Pieces for Outgoing<'a, S> {
+impl<'a, S: Sink> Pieces for GatheringSink<'a, S> {
     // The sink stays the one that was lent.
     ghost adds = { λ old new text.
         IsAdded S.Sink old.gather old.sink.now new.gather new.sink.now text

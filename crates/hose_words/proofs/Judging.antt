@@ -1,5 +1,5 @@
 -- Words that are judged from the left.
-use Rattle.std.proofs.Common.{◌≡◌, ◌∙◌, ℕ, ◌+◌, ◌≤◌, List, [], ◌∷◌, ◌++◌, length, inl, inr, refl, sym, subst, arith, length-append}
+use Rattle.std.proofs.Common.{◌≡◌, ◌∙◌, ℕ, ◌+◌, List, [], ◌∷◌, ◌++◌, length, inl, inr, refl, sym, subst}
 use Rattle.hose_words.specs.Grammar.{Grammar, IsFirst, IsFirstNotAllowed}
 
 -- the next word is not allowed, or missing
@@ -26,10 +26,3 @@ place_unique grammar before (word ∷ words) one other (inl wrong) (inl wrong') 
 place_unique grammar before (word ∷ words) one other (inl wrong) (inr wrong') = absurd (wrong'.0 wrong.0)
 place_unique grammar before (word ∷ words) one other (inr wrong) (inl wrong') = absurd (wrong.0 wrong'.0)
 place_unique grammar before (word ∷ words) one other (inr wrong) (inr wrong') = wrong.1 ∙ sym wrong'.1
-
--- it is one of the words, or one more than all of them
-pub place_bound : (grammar : Grammar) (before words : List (List ℕ)) (place : ℕ) → IsFirstNotAllowed grammar before words place → place ≤ length before + length words + 1
-place_bound grammar before [] place wrong = omega (arith, wrong.1)
-place_bound grammar before (word ∷ words) place (inl wrong) =
-    omega (arith, place_bound grammar (before ++ word ∷ []) words place wrong.1, length-append before (word ∷ []))
-place_bound grammar before (word ∷ words) place (inr wrong) = omega (arith, wrong.1)

@@ -15,7 +15,7 @@ pub struct WrongWord {
     pub number: u64,
 }
 
-/// One of some words that each mean something else, as the first words of commands.
+/// One of some words that each mean something else, as those that begin a line.
 pub trait Keyword: Copy {
     /// The word of each of them.
     ghost word_of: { Self → List ℕ };

@@ -5,7 +5,7 @@ use Rattle.std.specs.List.Sorted.{IsStrictlyIncreasing}
 use Rattle.hose_words.specs.Form.{Form, Fits64, Each, finish, branch, list, until, this}
 use Rattle.hose_words.specs.steps.Form.{number, these}
 use Rattle.hose_graph.specs.Amounts.{ReservedLink, amount_of, link_of}
-use Rattle.hose_graph.specs.Ascending.{IsAscending}
+use Rattle.hose_graph.specs.Ascending.{firsts}
 use Rattle.hose_graph.specs.Hose.{IsEnd, Endpoint, node_of}
 use Rattle.hose_graph.specs.Limits.{least_ends, most_ends}
 use Rattle.hose_graph.specs.Network.{Network, name_of, IsLinkOf, IsNodeOf}
@@ -23,28 +23,38 @@ service_word service.At = codes "at"
 
 -- ---- lists that can be read
 
+-- items of which each is so, and whose numbers ascend
+pub record AreAscending {A : Type 0} (numbers_of : List A → List ℕ) (is : A → Type 0)
+    (items : List A) : Type 0 where
+  pub ascending : IsStrictlyIncreasing (numbers_of items)
+  pub each : All is items
+
+-- an amount on a link of the network
+pub record IsAmountOf (network : Network) (amount : ReservedLink) : Type 0 where
+  pub link : IsLinkOf network (link_of amount)
+  pub fits : Fits64 (amount_of amount)
+
+-- an endpoint at a node of the network
+pub record IsEndOf (network : Network) (end : Endpoint) : Type 0 where
+  pub is_end : IsEnd end
+  pub is_node : IsNodeOf network (node_of end)
+
 -- amounts on links of the network, in ascending order of links
-pub record AreAmounts (network : Network) (amounts : List ReservedLink) : Type 0 where
-  pub ascending : IsAscending amounts
-  pub links : All (λ pair. IsLinkOf network (link_of pair)) amounts
-  pub numbers : All (λ pair. Fits64 (amount_of pair)) amounts
+abbrev pub AreAmounts : Network → List ReservedLink → Type 0
+AreAmounts network amounts = AreAscending firsts (IsAmountOf network) amounts
 
 -- nodes of the network, in ascending order
-pub record IsSide (network : Network) (side : List ℕ) : Type 0 where
-  pub ascending : IsStrictlyIncreasing side
-  pub nodes : All (IsNodeOf network) side
+abbrev pub IsSide : Network → List ℕ → Type 0
+IsSide network side = AreAscending (λ nodes. nodes) (IsNodeOf network) side
+
+-- numbers that 64 bits hold, in ascending order
+abbrev pub AreNumbers : List ℕ → Type 0
+AreNumbers numbers = AreAscending (λ each. each) Fits64 numbers
 
 -- endpoints of a hose that may have more of them: nodes in ascending order
 pub record AreEnds (network : Network) (ends : List Endpoint) : Type 0 where
   pub few : length ends ≤ most_ends
-  pub within : All IsEnd ends
-  pub ascending : IsAscending ends
-  pub nodes : All (λ end. IsNodeOf network (node_of end)) ends
-
--- numbers that 64 bits hold, in ascending order
-pub record AreNumbers (numbers : List ℕ) : Type 0 where
-  pub ascending : IsStrictlyIncreasing numbers
-  pub fit : All Fits64 numbers
+  pub in_order : AreAscending firsts (IsEndOf network) ends
 
 -- ---- fields
 
@@ -91,7 +101,7 @@ form_of network (the_numbers fields) =
     until decimal AreNumbers 0 (codes "at") (form_of network fields)
 
 -- words are those of fields that tell this, which is sound
-pub record Tells (network : Network) (fields : Fields) (values : Values fields)
+pub record FieldsTell (network : Network) (fields : Fields) (values : Values fields)
     (words : List (List ℕ)) : Type 0 where
   pub sound : AreSound network fields values
   pub spelled : words ≡ words_told network fields values

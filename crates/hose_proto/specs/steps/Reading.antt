@@ -2,17 +2,16 @@
 use Rattle.std.specs.Prelude.{◌≡◌, ⊤, ℕ, ◌+◌, ◌<◌, ◌≤◌, List, [], ◌∷◌, ◌++◌, Option, IfNone, IfSome, Any, length, map}
 use Rattle.std.specs.List.Sorted.{IsStrictlyIncreasing}
 use Rattle.hose_words.specs.steps.Cursor.{Position, IsWrong}
-use Rattle.hose_words.specs.Form.{Form, Fits64, TellsItems}
+use Rattle.hose_words.specs.Form.{Form, TellsItems}
 use Rattle.hose_words.specs.Grammar.{IsFirst}
-use Rattle.hose_graph.specs.Amounts.{ReservedLink, amount_of, link_of}
 use Rattle.hose_graph.specs.Ascending.{firsts}
-use Rattle.hose_graph.specs.Hose.{IsEnd, Endpoint, node_of}
-use Rattle.hose_graph.specs.Network.{Network, IsLinkOf, IsNodeOf}
+use Rattle.hose_graph.specs.Hose.{Endpoint, node_of}
+use Rattle.hose_graph.specs.Network.{Network}
 use Rattle.hose_graph.specs.Limits.{most_ends}
 use Rattle.hose_proto.specs.declared.fault.ReadFault.{ReadFault}
 use Rattle.hose_proto.specs.declared.fault.ReadFault.TheVariants.{Bad, Memory}
 use Rattle.hose_proto.specs.Fields.{Fields}
-use Rattle.hose_proto.specs.steps.Fields.{HaveLists, form_of}
+use Rattle.hose_proto.specs.steps.Fields.{HaveLists, IsEndOf, form_of}
 
 -- A word that is told is the first of those to come that a form does not allow. Want of memory
 -- tells nothing of them.
@@ -24,11 +23,6 @@ pub record FailsAt (network : Network) (fields : Fields) (old : Position) (fault
     : Type 0 where
   pub bad : IsFaultOf (form_of network fields) old fault
   pub memory : fault ≡ Memory → HaveLists fields
-
--- an endpoint at a node of the network
-pub record IsEndOf (network : Network) (end : Endpoint) : Type 0 where
-  pub is_end : IsEnd end
-  pub is_node : IsNodeOf network (node_of end)
 
 -- ---- lists
 
@@ -56,7 +50,7 @@ pub record TellsNext {A : Type 0} (word_of : A → List ℕ) (may_come : A → T
   pub none : IfNone told (TellsNone word_of may_come word)
 
 -- a list goes on with the items that may come next, and with no other word
-pub record GoesOn {A : Type 0} (word_of : A → List ℕ) (fine : List A → Type 0)
+pub record ListGoesOn {A : Type 0} (word_of : A → List ℕ) (fine : List A → Type 0)
     (may_come : A → Type 0) (items : List A) : Type 0 where
   pub more : (item : A) → may_come item → fine (items ++ item ∷ [])
   pub only : (word : List ℕ) → TellsItems word_of fine (map word_of items ++ word ∷ [])
@@ -68,28 +62,16 @@ pub record IsNewEnd (network : Network) (ends : List Endpoint) (end : Endpoint) 
   pub is_new : ¬ Any (λ earlier. node_of earlier ≡ node_of end) ends
   pub room : length ends < most_ends
 
+-- an item that is so may come after others, in order
+pub record IsNextItem {A : Type 0} (numbers_of : List A → List ℕ) (is : A → Type 0)
+    (items : List A) (item : A) : Type 0 where
+  pub here : is item
+  pub ascending : IsStrictlyIncreasing (numbers_of (items ++ item ∷ []))
+
 -- an endpoint may come after others, in order
 pub record IsNextEnd (network : Network) (ends : List Endpoint) (end : Endpoint) : Type 0 where
-  pub is_end : IsEndOf network end
-  pub ascending : IsStrictlyIncreasing (firsts ends ++ node_of end ∷ [])
+  pub in_order : IsNextItem firsts (IsEndOf network) ends end
   pub room : length ends < most_ends
-
--- an amount may come after others
-pub record IsNextPair (network : Network) (pairs : List ReservedLink) (pair : ReservedLink)
-    : Type 0 where
-  pub link : IsLinkOf network (link_of pair)
-  pub amount : Fits64 (amount_of pair)
-  pub ascending : IsStrictlyIncreasing (firsts pairs ++ link_of pair ∷ [])
-
--- a node may come after others
-pub record IsNextNode (network : Network) (nodes : List ℕ) (node : ℕ) : Type 0 where
-  pub is_node : IsNodeOf network node
-  pub ascending : IsStrictlyIncreasing (nodes ++ node ∷ [])
-
--- a number may come after others
-pub record IsNextNumber (numbers : List ℕ) (number : ℕ) : Type 0 where
-  pub fits : Fits64 number
-  pub ascending : IsStrictlyIncreasing (numbers ++ number ∷ [])
 
 -- The next word tells no item more of a list, and is not the word that ends it once it has so many
 -- items. This is the word's number.

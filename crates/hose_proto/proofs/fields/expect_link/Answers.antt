@@ -3,9 +3,6 @@ use Rattle.hose_words.proofs.Exits.{still_wrong}
 use Rattle.hose_words.proofs.Forms.{wrong_place, wrong_later}
 use Rattle.hose_proto.proofs.fields.expect_link.Goals as goal
 
-pub returns-in_err-expect_node-clause-wrong : goal.returns-in_err-expect_node-clause-wrong
-returns-in_err-expect_node-clause-wrong c = rw c.link-link.ensures.value (still_wrong c.from_residual.result c.from_residual.ensures.1 (wrong_place c.in_err-expect_node.ensures.wrong))
-
 pub returns-in_err-expect_node-2-clause-wrong : goal.returns-in_err-expect_node-2-clause-wrong
 returns-in_err-expect_node-2-clause-wrong c = rw c.link-link.ensures.value (still_wrong c.from_residual-in_err-expect_node-2.result c.from_residual-in_err-expect_node-2.ensures.1 (wrong_later c.in_ok-expect_node.ensures.ok refl (wrong_place c.in_err-expect_node-2.ensures.wrong)))
 

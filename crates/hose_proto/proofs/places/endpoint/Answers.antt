@@ -3,8 +3,8 @@ use Rattle.std.proofs.lemmas.Bool.{false≢true}
 use Rattle.std.proofs.lemmas.List.{get_or_default}
 use Rattle.std.proofs.lemmas.Option.{get_or_from_slice_get}
 use Rattle.hose_graph.specs.Network.{name_of}
-use Rattle.hose_proto.proofs.EndWords.{name_of_end, named_cut, names_its_node}
-use Rattle.hose_proto.proofs.Colons.{end_told}
+use Rattle.hose_proto.proofs.EndWords.{name_of_end, names_its_node}
+use Rattle.hose_proto.proofs.Colons.{named_cut, named_told}
 use Rattle.hose_proto.proofs.places.endpoint.Goals as goal
 
 pub returns-clause-spelled : goal.returns-clause-spelled
@@ -12,7 +12,7 @@ returns-clause-spelled c =
     let network = c.args.top.now in
     let named : c.in_ok-name.name ≡ name_of network c.in_ok-node.node =
     sym (get_or_from_slice_get network.nodes c.in_ok-node.node c.in_ok-name.name [] c.in_ok-node.ensures.named) in
-    end_told network c.args.word.now c.in_ok-name.name _ (c.in_ok-node.node, c.in_ok-name.rate) (c.in_ok-name.ensures.spelled ∙ named_cut c.in_ok-name.name c.in_ok-name.rate) named refl
+    named_told c.args.word.now c.in_ok-name.name _ (name_of network c.in_ok-node.node) c.in_ok-name.rate (c.in_ok-name.ensures.spelled ∙ named_cut c.in_ok-name.name c.in_ok-name.rate) named refl
 
 pub returns-in_err-node-clause-none : goal.returns-in_err-node-clause-none
 returns-in_err-node-clause-none c =

@@ -1,8 +1,6 @@
 use Rattle.std.proofs.Common.{refl}
 use Rattle.hose_words.proofs.Exits.{still_wrong}
 use Rattle.hose_words.proofs.Forms.{wrong_place, wrong_later}
-use Rattle.hose_proto.specs.Command.{nothing}
-use Rattle.hose_proto.proofs.OneCommand.{asks_id}
 use Rattle.hose_proto.proofs.verb.read_id.Goals as goal
 
 pub returns-in_err-id-clause-wrong : goal.returns-in_err-id-clause-wrong
@@ -12,6 +10,3 @@ pub returns-in_err-finish-clause-wrong : goal.returns-in_err-finish-clause-wrong
 returns-in_err-finish-clause-wrong c =
     still_wrong c.from_residual-in_err-finish.result c.from_residual-in_err-finish.ensures.1
     (wrong_later c.in_ok-id.ensures.ok (c.in_ok-id.id, refl, c.in_ok-id.ensures.within) c.in_err-finish.ensures.wrong)
-
-pub returns-clause-ok : goal.returns-clause-ok
-returns-clause-ok c network = asks_id network nothing tt c.in_ok-id.ensures.ok c.in_ok-id.ensures.within c.in_ok-finish.ensures.ok

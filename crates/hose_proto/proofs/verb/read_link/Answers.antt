@@ -1,7 +1,5 @@
 use Rattle.hose_words.proofs.Exits.{still_wrong}
 use Rattle.hose_words.proofs.Forms.{wrong_choice, wrong_chosen}
-use Rattle.hose_proto.specs.Command.{nothing}
-use Rattle.hose_proto.proofs.OneCommand.{asks_link}
 use Rattle.hose_proto.proofs.Words.{links_apart}
 use Rattle.hose_proto.proofs.verb.read_link.Goals as goal
 
@@ -12,6 +10,3 @@ pub returns-in_err-finish-clause-wrong : goal.returns-in_err-finish-clause-wrong
 returns-in_err-finish-clause-wrong c =
     still_wrong c.from_residual-in_err-finish.result c.from_residual-in_err-finish.ensures.1
     (wrong_chosen c.in_ok-link.link c.in_ok-link.ensures.is_link (links_apart c.args.top.now c.requires) c.in_ok-link.ensures.ok c.in_err-finish.ensures.wrong)
-
-pub returns-clause-ok : goal.returns-clause-ok
-returns-clause-ok c = asks_link c.args.top.now nothing tt c.in_ok-link.ensures.ok c.in_ok-link.ensures.is_link c.in_ok-finish.ensures.ok

@@ -2,9 +2,6 @@ use Rattle.std.proofs.Common.{◌∙◌, ℕ, Any, ◌≡◌, refl, sym, subst}
 use Rattle.hose_proto.proofs.Items.{ends_spelled}
 use Rattle.hose_proto.proofs.command.NewEndsItems.next.Goals as goal
 
-pub returns-in_default : goal.returns-in_default
-returns-in_default c = record { some = tt; none = λ end told new. c.in_default.ensures.none end told new.is_end }
-
 pub returns-then-has_node : goal.returns-then-has_node
 returns-then-has_node c = record {
   some = tt;
