@@ -16,15 +16,6 @@ pair_first pair bytes fits =
     let second = big_number-reads_back 4 pair.1 [] (omega (arith, fits.second)) in
     λ i. (first i, second i) ∷ pairs_of bytes
 
--- a pair in front, and those after it
-pub next_pair_of : (pair : ℕ × ℕ) (bytes rest : List ℕ) → Begins pair_field FitsPair pair bytes rest → pairs_of bytes ≡ pair ∷ pairs_of rest
-next_pair_of pair bytes rest begins = ap pairs_of begins.parts ∙ pair_first pair rest begins.may_be
-
--- too few bytes for a pair
-pub no_pair_of : (bytes : List ℕ) → length bytes < PAIR_BYTES → pairs_of bytes ≡ []
-no_pair_of (a ∷ b ∷ c ∷ d ∷ e ∷ f ∷ bytes) short = absurd (omega arith)
-no_pair_of bytes short = λ i. []
-
 -- pairs that fit their bytes are those of their bytes
 pub pairs_of_field : (bound most least : ℕ) (pairs : List (ℕ × ℕ)) → bound ≤ 2 ^ 16 → most < 2 ^ 32 → ArePairsFrom bound most least pairs → pairs_of (pairs_field pairs) ≡ pairs
 pairs_of_field bound most least [] small few are = λ i. []

@@ -16,11 +16,11 @@ use std::marker::Model;
 
 /// The bytes that are left to be read. A contract sees them as a list.
 #[derive(Drop)]
-pub struct Fields<'a> {
+pub struct EntryReader<'a> {
     rest: &'a [u8],
 }
 
-impl<'a> Model for Fields<'a> {
+impl<'a> Model for EntryReader<'a> {
     ghost use Rattle.std.specs.Prelude.{ℕ, List};
 
     ghost Value = { List ℕ };
@@ -28,11 +28,11 @@ impl<'a> Model for Fields<'a> {
     ghost view = { λ fields. fields.rest.now };
 }
 
-impl<'a> Fields<'a> {
-    pub fn new(bytes: &'a [u8]) -> Fields<'a>
+impl<'a> EntryReader<'a> {
+    pub fn new(bytes: &'a [u8]) -> EntryReader<'a>
         ensures { result ≡ bytes.now }
     {
-        Fields { rest: bytes }
+        EntryReader { rest: bytes }
     }
 
     /// Makes sure that nothing is left.
@@ -183,7 +183,7 @@ fn are_pairs(bytes: &[u8], bound: u32, most: u64) -> bool
     ensures spelled { (count : ℕ) → length bytes.now ≡ PAIR_BYTES * count →
         pairs_field (pairs_of bytes.now) ≡ bytes.now }
 {
-    let mut fields = Fields::new(bytes);
+    let mut fields = EntryReader::new(bytes);
     let mut least = 0;
     while let Some((first, second)) = fields.next_pair() {
         if !(least..bound).contains(&first) || !(1..=most).contains(&second) {
@@ -201,7 +201,7 @@ pub fn pairs_of(alloc: Global, bytes: &[u8]) -> Result<Vec<(u32, u64)>, AllocErr
     ensures { IfOk result (λ pairs. pairs.items ≡ pairs_of bytes.now) }
 {
     let mut pairs = Vec::with_capacity(alloc, bytes.len() / PAIR_BYTES)?;
-    let mut fields = Fields::new(bytes);
+    let mut fields = EntryReader::new(bytes);
     while let Some(pair) = fields.next_pair() {
         pairs.push_reserved(pair);
     }

@@ -7,7 +7,7 @@ ghost use Rattle.hose_graph.specs.steps.Ranges.{IsInRanges};
 ghost use Rattle.hose_codec.specs.Fields.{link_field};
 ghost use Rattle.hose_codec.specs.steps.Reading.{ReadsWhole};
 
-use crate::fields::{Fields, pairs_of};
+use crate::fields::{EntryReader, pairs_of};
 use crate::limits::{ADMIT, CodecFault, DOWN, RELEASE, UP};
 use hose_graph::{Amounts, Entry, Hose, MOST_LINKS};
 use std::alloc::Global;
@@ -34,7 +34,7 @@ pub fn decode(alloc: Global, bytes: &[u8]) -> Result<Entry, CodecFault>
 fn entry_of(alloc: Global, bytes: &[u8]) -> Result<Entry, CodecFault>
     ensures { Decodes bytes.now result }
 {
-    let mut fields = Fields::new(bytes);
+    let mut fields = EntryReader::new(bytes);
     match fields.byte()? {
         ADMIT => admission(alloc, fields),
         RELEASE => release(fields),
@@ -49,7 +49,7 @@ fn entry_of(alloc: Global, bytes: &[u8]) -> Result<Entry, CodecFault>
 }
 
 // The admission whose fields these are, after its kind.
-fn admission(alloc: Global, mut fields: Fields) -> Result<Entry, CodecFault>
+fn admission(alloc: Global, mut fields: EntryReader) -> Result<Entry, CodecFault>
     ensures { Decodes (ADMIT ∷ fields.entry) result }
 {
     let Some(customer) = fields.name() else {
@@ -66,7 +66,7 @@ fn admission(alloc: Global, mut fields: Fields) -> Result<Entry, CodecFault>
 }
 
 // The release whose fields these are, after its kind.
-fn release(mut fields: Fields) -> Result<Entry, CodecFault>
+fn release(mut fields: EntryReader) -> Result<Entry, CodecFault>
     ensures { Decodes (RELEASE ∷ fields.entry) result }
 {
     let Some(customer) = fields.name() else {
@@ -78,7 +78,7 @@ fn release(mut fields: Fields) -> Result<Entry, CodecFault>
 }
 
 // The link whose number is all that these fields have.
-fn only_link(mut fields: Fields) -> Result<u32, CodecFault>
+fn only_link(mut fields: EntryReader) -> Result<u32, CodecFault>
     ensures { ReadsWhole link_field (λ link. link < MOST_LINKS) (λ link. link)
         fields.entry result }
 {

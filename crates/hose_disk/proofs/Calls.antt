@@ -8,7 +8,7 @@ use Rattle.hose_disk.specs.Disk.{NoneNew}
 use Rattle.hose_disk.specs.steps.Disk.{StepsTo, Elapses}
 use Rattle.hose_disk.specs.steps.Images.{DiskStep, IsImage, LeftSince}
 use Rattle.hose_disk.specs.steps.Recording.{CallRecord, with_call, reads}
-use Rattle.hose_disk.specs.steps.MemState.{Ends, IsMemCall, MemState, ToFail, after_kind, content_of, image_of, left_since_of, moment_of, of_kind}
+use Rattle.hose_disk.specs.steps.MemState.{EndsCall, IsMemCall, MemState, ToFail, after_kind, content_of, image_of, left_since_of, moment_of, of_kind}
 use Rattle.hose_disk.specs.declared.call.DiskCall.{DiskCall}
 use Rattle.hose_disk.proofs.Images.{elapses, elapses_same}
 
@@ -16,7 +16,7 @@ use Rattle.hose_disk.proofs.Images.{elapses, elapses_same}
 pub mem_call : {E : Type 0} (kind : DiskCall) (done begun : DiskStep) (old new : MemState) (made : CallRecord) (failing : ToFail) (fails : Bool) (recorded : Result ⊤ E) (result : Result ⊤ Failed)
     → (IsTrue fails ↔ Contains (of_kind kind old.failing) 1) → failing ≡ after_kind kind old.failing
     → (IsFalse fails → OnOk recorded (made ≡ with_call old.made done)) → (IsTrue fails → OnOk recorded (made ≡ with_call old.made begun)) → OnErr recorded (made ≡ old.made)
-    → Ends (is_err recorded) fails (record old { made = made; failing = failing }) new result → IsMemCall kind done begun old new result
+    → EndsCall (is_err recorded) fails (record old { made = made; failing = failing }) new result → IsMemCall kind done begun old new result
 mem_call kind done begun old new made failing fails (Err none) (Ok value) listed later is_done is_begun same ends = absurd (false≢true ends.0)
 mem_call kind done begun old new made failing fails (Err none) (Err failed) listed later is_done is_begun same ends =
     inl (ends.1 ∙ (λ i. record old { made = same i; failing = later i; faults = one_starved old.faults; has_failed = true }))

@@ -1,6 +1,6 @@
 -- Each picked image is one that a stop may leave.
-use Rattle.std.proofs.Common.{◌≡◌, ◌⊎◌, inl, inr, ℕ, zero, suc, ◌+◌, ◌-◌, ◌<◌, ◌≤◌, ◌^◌, min, List, [], ◌∷◌, ◌++◌, length, get_or, take, drop, replicate, map, reverse, refl, sym, ◌∙◌, ap, subst, arith, length-append}
-use Rattle.std.proofs.lemmas.List.{length-replicate, length-take, reverse-append, map-append, length-reverse, length-map, length-drop, take-append-drop, drop_at, take_more}
+use Rattle.std.proofs.Common.{◌≡◌, ◌⊎◌, inl, inr, ℕ, zero, suc, ◌+◌, ◌-◌, ◌<◌, ◌≤◌, ◌^◌, min, List, [], ◌∷◌, ◌++◌, length, take, drop, replicate, map, reverse, refl, sym, ◌∙◌, ap, subst, arith, length-append}
+use Rattle.std.proofs.lemmas.List.{length-replicate, length-take, reverse-append, map-append, length-reverse, length-map, length-drop, take-append-drop, drop_at}
 use Rattle.std.proofs.lemmas.Bool.{cases_lt}
 use native.Mathlib.Nat.{le_trans}
 use Rattle.hose_disk.specs.steps.Disk.{Torn}
@@ -64,9 +64,6 @@ picked_image (Fill byte) first calls fits = inr (fill_reached byte first calls f
 -- one recorded call more
 pub steps_push : (calls : List Recorded) (call : Recorded) → steps_of (calls ++ call ∷ []) ≡ step_of call ∷ steps_of calls
 steps_push calls call = ap reverse (map-append step_of calls (call ∷ [])) ∙ reverse-append (map step_of calls) (step_of call ∷ [])
-
-pub steps_more : (calls : List Recorded) (i : ℕ) (d : Recorded) → i < length calls → steps_of (take (i + 1) calls) ≡ step_of (get_or calls i d) ∷ steps_of (take i calls)
-steps_more calls i d lt = ap steps_of (take_more calls i d lt) ∙ steps_push (take i calls) (get_or calls i d)
 
 -- the first recorded calls are those that were done at a moment
 pub steps_at : (calls : List Recorded) (k : ℕ) → k ≤ length calls → steps_of (take k calls) ≡ calls_at (steps_of calls) k

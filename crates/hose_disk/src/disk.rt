@@ -1,7 +1,7 @@
 // What is read, written and made durable: its contract.
 ghost use Rattle.std.specs.Prelude.{◌≡◌, ◌+◌, ◌<◌, ◌≤◌, ◌^◌, ℕ, List, Option, None, IfOk, IfSome, OnOk, OnErr, length, take};
 ghost use Rattle.hose_disk.specs.Disk.{DiskFrame, NoneNew};
-ghost use Rattle.hose_disk.specs.steps.Disk.{IsCalled, IsOverwritten, Torn, IsCut, IsTruncated, IsReadAt, Told, StepsTo, Only, Elapses};
+ghost use Rattle.hose_disk.specs.steps.Disk.{IsCalled, IsOverwritten, Torn, IsCut, IsTruncated, IsReadAt, ContentSteps, StepsTo, Only, Elapses};
 
 use hose_io::Failed;
 
@@ -55,9 +55,9 @@ pub trait Disk: Drop {
         requires small { at + length bytes.now < 2 ^ 62 }
         requires within { IfSome (content self.old) (λ old. at ≤ length old) }
         ensures written { OnOk result
-            (Told (IsOverwritten at bytes.now) (content self.old) (content self.new)) }
+            (ContentSteps (IsOverwritten at bytes.now) (content self.old) (content self.new)) }
         ensures begun { OnErr result
-            (Told (Torn at (length bytes.now)) (content self.old) (content self.new)) }
+            (ContentSteps (Torn at (length bytes.now)) (content self.old) (content self.new)) }
         ensures images { StepsTo (Torn at (length bytes.now))
             (may_leave self.old) (may_leave self.new) }
         ensures time { Elapses (moment self.old) (moment self.new)
@@ -68,8 +68,10 @@ pub trait Disk: Drop {
     fn cut(&mut self, len: u64) -> Result<(), Failed>
         requires small { len < 2 ^ 62 }
         requires within { IfSome (content self.old) (λ old. len ≤ length old) }
-        ensures cut { OnOk result (Told (IsTruncated len) (content self.old) (content self.new)) }
-        ensures begun { OnErr result (Told (IsCut len) (content self.old) (content self.new)) }
+        ensures cut { OnOk result
+            (ContentSteps (IsTruncated len) (content self.old) (content self.new)) }
+        ensures begun { OnErr result
+            (ContentSteps (IsCut len) (content self.old) (content self.new)) }
         ensures images { StepsTo (IsCut len) (may_leave self.old) (may_leave self.new) }
         ensures time { Elapses (moment self.old) (moment self.new)
             (left_since self.old) (left_since self.new) (may_leave self.new) }

@@ -2,9 +2,9 @@
 ghost use Rattle.std.specs.Prelude.{◌≡◌, ◌+◌, ◌<◌, ◌≤◌, ◌^◌, ℕ, ◌∷◌, ◌++◌, [], IfOk, OnOk, OnErr, length, take};
 ghost use Rattle.hose_disk.specs.steps.CabinetState.{reopened};
 ghost use Rattle.hose_disk.specs.Disk.{NoneNew};
-ghost use Rattle.hose_disk.specs.steps.Disk.{IsCalled, IsOverwritten, Torn, IsCut, IsTruncated, IsReadAt, Told, StepsTo, Only, Elapses};
+ghost use Rattle.hose_disk.specs.steps.Disk.{IsCalled, IsOverwritten, Torn, IsCut, IsTruncated, IsReadAt, ContentSteps, StepsTo, Only, Elapses};
 ghost use Rattle.hose_disk.specs.steps.Images.{IsImage, calls_at, idle, wrote, tried_write, cut_to, tried_cut, synced};
-ghost use Rattle.hose_disk.specs.steps.MemState.{of_kind, with_kind, fresh_disk, mem_disk_frame, content_of, moment_of, image_of, left_since_of, Ends, IsMemCall};
+ghost use Rattle.hose_disk.specs.steps.MemState.{of_kind, with_kind, fresh_disk, mem_disk_frame, content_of, moment_of, image_of, left_since_of, EndsCall, IsMemCall};
 ghost use Rattle.hose_disk.specs.steps.Picks.{picked};
 ghost use Rattle.hose_disk.specs.steps.Recording.{reads};
 ghost use Rattle.hose_disk.specs.declared.call.DiskCall.TheVariants.{Len, Read, Write, Cut, Sync};
@@ -123,7 +123,7 @@ impl MemDisk {
 
     // Ends a call whose record found no memory, or that was to fail, or that is done.
     fn end(&mut self, starves: bool, fails: bool) -> Result<(), Failed>
-        ensures ends { Ends starves fails self.old self.new result }
+        ensures ends { EndsCall starves fails self.old self.new result }
         ensures call { IsCalled (mem_disk_frame self.old) (mem_disk_frame self.new) result }
     {
         self.has_failed = starves | fails;
@@ -210,10 +210,10 @@ impl Disk for MemDisk {
     fn write_at(&mut self, at: u64, bytes: &[u8]) -> Result<(), Failed>
         requires small { at + length bytes.now < 2 ^ 62 }
         requires within { at ≤ length (reads self.old.made) }
-        ensures written { OnOk result
-            (Told (IsOverwritten at bytes.now) (content_of self.old) (content_of self.new)) }
-        ensures begun { OnErr result
-            (Told (Torn at (length bytes.now)) (content_of self.old) (content_of self.new)) }
+        ensures written { OnOk result (ContentSteps (IsOverwritten at bytes.now)
+            (content_of self.old) (content_of self.new)) }
+        ensures begun { OnErr result (ContentSteps (Torn at (length bytes.now))
+            (content_of self.old) (content_of self.new)) }
         ensures images { StepsTo (Torn at (length bytes.now))
             (image_of self.old) (image_of self.new) }
         ensures time { Elapses (moment_of self.old) (moment_of self.new)
@@ -231,9 +231,9 @@ impl Disk for MemDisk {
         requires small { len < 2 ^ 62 }
         requires within { len ≤ length (reads self.old.made) }
         ensures cut { OnOk result
-            (Told (IsTruncated len) (content_of self.old) (content_of self.new)) }
+            (ContentSteps (IsTruncated len) (content_of self.old) (content_of self.new)) }
         ensures begun { OnErr result
-            (Told (IsCut len) (content_of self.old) (content_of self.new)) }
+            (ContentSteps (IsCut len) (content_of self.old) (content_of self.new)) }
         ensures images { StepsTo (IsCut len) (image_of self.old) (image_of self.new) }
         ensures time { Elapses (moment_of self.old) (moment_of self.new)
             (left_since_of self.old) (left_since_of self.new) (image_of self.new) }

@@ -20,7 +20,7 @@ use Rattle.hose_follow.specs.Follower.{Faulted}
 use Rattle.hose_follow.specs.steps.Follower.{FollowerTellings}
 use Rattle.hose_follow.specs.steps.Offering.{AreOffered, IsOffered, none_yet, packet_more}
 use Rattle.hose_follow.specs.Packet.{BeginsNoPacket, IsPacket, IsPartOfPacket, Packet, packet_bytes, packets_bytes}
-use Rattle.hose_follow.specs.steps.Exchanging.{AdvancesTo, Answers, FollowState, FollowsOn, TakesMoreBytes, TouchesNone, follower_of}
+use Rattle.hose_follow.specs.steps.Exchanging.{AdvancesTo, AnswersPending, FollowState, FollowsOn, TakesMoreBytes, TouchesNone, follower_of}
 use Rattle.hose_follow.specs.declared.answers.Offered.{Offered}
 use Rattle.hose_follow.specs.declared.answers.Offered.TheVariants.{Have, Want, Differs, Memory, Unsound, Disk}
 use Rattle.hose_follow.specs.declared.following.FollowEnd.{FollowEnd}
@@ -91,7 +91,7 @@ module _ {S O D : Type 0} (tells : FollowerTellings S O D) where
 
   -- a packet that was offered, passed and answered
   pub answers_with : (old new : FollowState S O D) (puts : List ℕ → Type 0) (packet : Packet) (shown rest : List ℕ) (size : ℕ) (answer : Offered) → shown ≡ old.input.pending → BeginsPacket shown packet rest → size ≡ 38 + length packet.body
-      → new.input.pending ≡ drop size old.input.pending → IsOffered tells.disk old.store packet answer new.store → puts (answer_line answer) → new.input.source ≡ old.input.source → new.input.taken ≡ old.input.taken → Answers tells old new puts
+      → new.input.pending ≡ drop size old.input.pending → IsOffered tells.disk old.store packet answer new.store → puts (answer_line answer) → new.input.source ≡ old.input.source → new.input.taken ≡ old.input.taken → AnswersPending tells old new puts
   answers_with old new puts packet shown rest size answer same starts is_size is offered out same_source same_taken =
       let begins = subst (λ (l : List ℕ). BeginsPacket l packet rest) same starts in
       record {
@@ -132,7 +132,7 @@ module _ {S O D : Type 0} (tells : FollowerTellings S O D) where
       ∙ sym (append_assoc (packets_bytes packets) (packet_bytes packet) rest)
       ∙ ap (λ (l : List ℕ). l ++ rest) (sym (last_of packet_bytes packets packet))
 
-  pub answered : (first now next : FollowState S O D) → FollowsOn tells first now → Answers tells now next (Grows (tells.sink.content now.sink) (tells.sink.content next.sink)) → tells.sink.frame next.sink ≡ tells.sink.frame now.sink
+  pub answered : (first now next : FollowState S O D) → FollowsOn tells first now → AnswersPending tells now next (Grows (tells.sink.content now.sink) (tells.sink.content next.sink)) → tells.sink.frame next.sink ≡ tells.sink.frame now.sink
       → FollowsOn tells first next
   answered first now next before exchange held =
       let told = answer_tells tells.disk now.store next.store exchange.packet exchange.answer exchange.offered in

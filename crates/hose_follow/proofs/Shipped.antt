@@ -30,7 +30,7 @@ use Rattle.hose_store.specs.declared.fault.StoreFault.{StoreFault}
 use Rattle.hose_store.specs.declared.replay.Replay.{Replay}
 use Rattle.hose_follow.specs.Follower.{Faulted}
 use Rattle.hose_follow.specs.Packet.{Packet, packet_after, packet_bytes, packets_after, packets_bytes, packets_from}
-use Rattle.hose_follow.specs.steps.Shipping.{AddsAll, HasAdded, HasAddedAll, HasAddedUpTo, Outgoing, Shipment, Ships, ShipsUpTo, outgoing, shipment, shipped_of}
+use Rattle.hose_follow.specs.steps.Shipping.{AddsAll, HasAdded, HasAddedAll, HasAddedUpTo, OutgoingPackets, Shipment, Ships, ShipsUpTo, outgoing_packets, shipment, shipped_of}
 
 drop_none : {X : Type 0} (n : ℕ) (none : List X) → none ≡ [] → drop n none ≡ []
 drop_none zero none is = is
@@ -111,16 +111,16 @@ module _ {S D : Type 0} (sink : SinkGhosts S) (disk : DiskGhosts D) where
     ships = shipment was network from
 
     -- before the first entry
-    pub added_none : (replay : Replay D) (gather : Gathered) (output : S) → IsReplaying disk was network replay [] → HasAdded sink disk ships (outgoing gather output) replay (outgoing gather output)
+    pub added_none : (replay : Replay D) (gather : Gathered) (output : S) → IsReplaying disk was network replay [] → HasAdded sink disk ships (outgoing_packets gather output) replay (outgoing_packets gather output)
     added_none replay gather output replaying = record {
       entries = [];
       replaying = replaying;
       added = subst (λ (packets : List Packet). IsAdded sink gather output gather output (packets_bytes packets)) (sym (drop_none (from - 1) [] refl)) (IsAdded-none sink gather output);
     }
 
-    module _ (start : Outgoing S) (old : Replay D) (gather : Gathered) (output : S) (has : HasAdded sink disk ships start old (outgoing gather output)) where
+    module _ (start : OutgoingPackets S) (old : Replay D) (gather : Gathered) (output : S) (has : HasAdded sink disk ships start old (outgoing_packets gather output)) where
       -- no entry was left
-      pub added_all : (new : Replay D) → HasEntries network (disk.content was) has.entries → HasReplayed disk was network new has.entries (Ok None) → HasAddedAll sink disk ships start new (outgoing gather output)
+      pub added_all : (new : Replay D) → HasEntries network (disk.content was) has.entries → HasReplayed disk was network new has.entries (Ok None) → HasAddedAll sink disk ships start new (outgoing_packets gather output)
       added_all new held (replaying, read, count, opened, kept) = record {
         has = record { entries = has.entries; replaying = replaying; added = has.added };
         held = held;
@@ -131,7 +131,7 @@ module _ {S D : Type 0} (sink : SinkGhosts S) (disk : DiskGhosts D) where
       }
 
       -- a fault was met
-      pub added_until : (new : Replay D) (fault : StoreFault) → HasEntries network (disk.content was) has.entries → HasReplayed disk was network new has.entries (Err fault) → HasAddedUpTo sink disk ships start new.reading.disk (outgoing gather output) fault
+      pub added_until : (new : Replay D) (fault : StoreFault) → HasEntries network (disk.content was) has.entries → HasReplayed disk was network new has.entries (Err fault) → HasAddedUpTo sink disk ships start new.reading.disk (outgoing_packets gather output) fault
       added_until new fault held (refused, opened, kept) = record {
         entries = has.entries;
         held = held;
@@ -143,7 +143,7 @@ module _ {S D : Type 0} (sink : SinkGhosts S) (disk : DiskGhosts D) where
 
       -- one entry more was read, which is wanted
       pub added_wanted : (new : Replay D) (ready : Ready) (after : Gathered) (now : S) (epoch : ℕ) (value : List ℕ) → HasReplayed disk was network new has.entries (Ok (Some ready)) → epoch ≡ length has.entries + 1 → value ≡ chain (digest_of network) has.entries
-          → from ≤ epoch → IsAdded sink gather output after now (packet_bytes (record { epoch = epoch; chain = value; body = ready.bytes.items })) → HasAdded sink disk ships start new (outgoing after now)
+          → from ≤ epoch → IsAdded sink gather output after now (packet_bytes (record { epoch = epoch; chain = value; body = ready.bytes.items })) → HasAdded sink disk ships start new (outgoing_packets after now)
       added_wanted new ready after now epoch value (entry, is_ready, replaying) is_epoch is_value low added =
           let is_packet : packet_bytes (record { epoch = epoch; chain = value; body = ready.bytes.items }) ≡ packet_bytes (packet_after network has.entries entry) =
           ap (λ (n : ℕ). packet_bytes (record { epoch = n; chain = value; body = ready.bytes.items })) is_epoch
@@ -159,7 +159,7 @@ module _ {S D : Type 0} (sink : SinkGhosts S) (disk : DiskGhosts D) where
           }
 
       -- one entry more was read, which is passed over
-      pub added_passed : (new : Replay D) (ready : Ready) (epoch : ℕ) → HasReplayed disk was network new has.entries (Ok (Some ready)) → epoch ≡ length has.entries + 1 → epoch < from → HasAdded sink disk ships start new (outgoing gather output)
+      pub added_passed : (new : Replay D) (ready : Ready) (epoch : ℕ) → HasReplayed disk was network new has.entries (Ok (Some ready)) → epoch ≡ length has.entries + 1 → epoch < from → HasAdded sink disk ships start new (outgoing_packets gather output)
       added_passed new ready epoch (entry, is_ready, replaying) is_epoch high = record {
         entries = has.entries ++ entry ∷ [];
         replaying = replaying;
@@ -170,7 +170,7 @@ module _ {S D : Type 0} (sink : SinkGhosts S) (disk : DiskGhosts D) where
 
     module _ (replay : Replay D) (gather : Gathered) (first after now : S) where
       abbrev Adds : Result ⊤ StoreFault → Type 0
-      Adds added = AddsAll sink disk ships (outgoing none_gathered first) replay (outgoing gather after) added
+      Adds added = AddsAll sink disk ships (outgoing_packets none_gathered first) replay (outgoing_packets gather after) added
 
       pub shipped : (added : Result ⊤ StoreFault) (sent : Result ⊤ Failed) (count : ℕ) → Adds added → IsFinished sink gather after now sent → ((entries : List Entry) → IsReplaying disk was network replay entries → count ≡ length entries - (from - 1))
           → Ships sink disk first now ships replay.reading.disk (shipped_of added sent count)

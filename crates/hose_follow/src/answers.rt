@@ -1,5 +1,5 @@
 // The answers of a follower, and how they are written.
-ghost use Rattle.std.specs.Prelude.{◌≡◌, ◌++◌};
+ghost use Rattle.std.specs.Prelude.{◌++◌, decimal};
 ghost use Rattle.hex.specs.Hex.{encode_lower};
 ghost use Rattle.hose_io.specs.steps.Gather.{IsAdded};
 ghost use Rattle.hose_io.specs.steps.Writing.{IsPut};
@@ -53,24 +53,12 @@ fn add_answer<O: Sink>(gather: &mut Gather, sink: &mut O, answer: &Offered)
     ensures { IsAdded O.Sink gather.old sink.old gather.new sink.new (offered_text answer.now) }
 {
     match answer {
-        Offered::Have { n } => {
-            gather.add(sink, b"have ");
-            gather.add_number(sink, *n);
-        }
-        Offered::Want { n } => {
-            gather.add(sink, b"want ");
-            gather.add_number(sink, *n);
-        }
+        Offered::Have { n } => add_numbered(gather, sink, b"have ", *n),
+        Offered::Want { n } => add_numbered(gather, sink, b"want ", *n),
         Offered::Differs { at, own, given } => add_differs(gather, sink, *at, own, given),
         Offered::Memory => gather.add(sink, b"memory"),
-        Offered::Unsound { epoch } => {
-            gather.add(sink, b"unsound ");
-            gather.add_number(sink, *epoch);
-        }
-        Offered::Disk { at } => {
-            gather.add(sink, b"disk at ");
-            gather.add_number(sink, *at);
-        }
+        Offered::Unsound { epoch } => add_numbered(gather, sink, b"unsound ", *epoch),
+        Offered::Disk { at } => add_numbered(gather, sink, b"disk at ", *at),
     }
 }
 
@@ -85,12 +73,20 @@ fn add_differs<O: Sink>(
     ensures { IsAdded O.Sink gather.old sink.old gather.new sink.new
         (offered_text (Offered.Differs at own.now given.now)) }
 {
-    gather.add(sink, b"differs at ");
-    gather.add_number(sink, at);
+    add_numbered(gather, sink, b"differs at ", at);
     gather.add(sink, b" ");
     add_value(gather, sink, own);
     gather.add(sink, b" ");
     add_value(gather, sink, given);
+}
+
+// Adds words, and a number after them.
+fn add_numbered<O: Sink>(gather: &mut Gather, sink: &mut O, words: &[u8], number: u64)
+    ensures { IsAdded O.Sink gather.old sink.old gather.new sink.new
+        (words.now ++ decimal number) }
+{
+    gather.add(sink, words);
+    gather.add_number(sink, number);
 }
 
 // Adds a chain value in hexadecimal digits.

@@ -1,5 +1,5 @@
 // Bytes that were taken of a source and belong to no packet yet that was answered.
-ghost use Rattle.std.specs.Prelude.{◌≡◌, ◌+◌, ◌-◌, ◌<◌, ◌≤◌, [], ◌++◌, List, ℕ, drop, length, take, IfOk};
+ghost use Rattle.std.specs.Prelude.{◌≡◌, ◌+◌, ◌-◌, ◌<◌, ◌≤◌, [], drop, length, IfOk};
 ghost use Rattle.std.specs.List.{slice_range};
 ghost use Rattle.hose_io.specs.steps.Filling.{IsFilled};
 

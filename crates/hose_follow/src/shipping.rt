@@ -8,7 +8,7 @@ ghost use Rattle.hose_journal.specs.Opening.{KeepsDisk};
 ghost use Rattle.hose_store.specs.Opening.{IsAtOpening};
 ghost use Rattle.hose_store.specs.Replaying.{IsOnlyOpened};
 ghost use Rattle.hose_store.specs.steps.Replaying.{IsReplaying};
-ghost use Rattle.hose_follow.specs.steps.Shipping.{AddsAll, AddsNext, HasAdded, Outgoing, Ships, outgoing, shipment, shipped_of};
+ghost use Rattle.hose_follow.specs.steps.Shipping.{AddsAll, AddsNext, HasAdded, OutgoingPackets, Ships, outgoing_packets, shipment, shipped_of};
 
 use crate::packet::add_packet;
 use hose_disk::Disk;
@@ -98,8 +98,8 @@ fn add_all<S: Sink, D: Disk>(
 ) -> Result<(), StoreFault>
     requires { (was : D) × (network : Network) × IsReplaying D.Disk was network replay.old [] }
     ensures { (was : D) → (network : Network) → IsReplaying D.Disk was network replay.old [] →
-        AddsAll S.Sink D.Disk (shipment was network from) (outgoing gather.old sink.old)
-        replay.new (outgoing gather.new sink.new) result }
+        AddsAll S.Sink D.Disk (shipment was network from) (outgoing_packets gather.old sink.old)
+        replay.new (outgoing_packets gather.new sink.new) result }
 {
     while add_next(replay, gather, sink, from)? {}
     Ok(())
@@ -114,11 +114,11 @@ fn add_next<S: Sink, D: Disk>(
 ) -> Result<bool, StoreFault>
     requires { (was : D) × (network : Network) × (entries : List Entry)
         × IsReplaying D.Disk was network replay.old entries }
-    ensures adds { (was : D) → (network : Network) → (start : Outgoing S) →
+    ensures adds { (was : D) → (network : Network) → (start : OutgoingPackets S) →
         HasAdded S.Sink D.Disk (shipment was network from) start
-        replay.old (outgoing gather.old sink.old) →
+        replay.old (outgoing_packets gather.old sink.old) →
         AddsNext S.Sink D.Disk (shipment was network from) start
-        replay.new (outgoing gather.new sink.new) result }
+        replay.new (outgoing_packets gather.new sink.new) result }
     ensures more { result ≡ Ok true →
         (replay.new.book.book.epoch ≡ replay.old.book.book.epoch + 1)
         × (replay.new.book.book.epoch ≤ most_epoch) }

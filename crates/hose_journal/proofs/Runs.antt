@@ -1,7 +1,7 @@
 -- How runs of calls go on.
 use Rattle.std.proofs.Common.{◌≡◌, inl, inr, ⊎_elim, ℕ, ◌≤◌, List, Option, None, Some, refl, sym, ◌∙◌, subst, arith, IfSome, ap}
 use Rattle.std.specs.Prelude.{Result, Ok, Err, OnErr, OnOk}
-use Rattle.hose_disk.specs.steps.Disk.{Only, Told, Elapses}
+use Rattle.hose_disk.specs.steps.Disk.{Only, ContentSteps, Elapses}
 use Rattle.hose_journal.specs.Moments.{Images, LeavesOnly}
 use Rattle.hose_journal.specs.steps.Moments.{IsTornFrom}
 use Rattle.hose_disk.specs.declared.disk.Disk.{Ghosts}
@@ -53,14 +53,14 @@ module _ {D : Type 0} (disk : Ghosts D) where
 
   -- a sync leaves what a step that was done made of one of the images of before
   synced_told : (step : List ℕ → List ℕ → Type 0) (was done : Option (List ℕ)) (old new : List ℕ → Type 0) → IfSome was old → ((image : List ℕ) → was ≡ None → new image → ⊥)
-      → Told step was done → IfSome done (λ bytes. Only bytes new) → (image : List ℕ) → new image → (before : List ℕ) × old before × step before image
+      → ContentSteps step was done → IfSome done (λ bytes. Only bytes new) → (image : List ℕ) → new image → (before : List ℕ) × old before × step before image
   synced_told step None None old new is_image untold told only image is = absurd (untold image refl is)
   synced_told step None (Some done) old new is_image untold told only image is = absurd told
   synced_told step (Some before) None old new is_image untold told only image is = absurd told
   synced_told step (Some before) (Some done) old new is_image untold told only image is =
       (before, is_image, subst (λ (bytes : List ℕ). step before bytes) (sym (only image is)) told)
 
-  told_none : (step : List ℕ → List ℕ → Type 0) (was done : Option (List ℕ)) → Told step was done → was ≡ None → done ≡ None
+  told_none : (step : List ℕ → List ℕ → Type 0) (was done : Option (List ℕ)) → ContentSteps step was done → was ≡ None → done ≡ None
   told_none step None None told none = refl
   told_none step None (Some done) told none = absurd told
   told_none step (Some before) None told none = absurd told
@@ -69,7 +69,7 @@ module _ {D : Type 0} (disk : Ghosts D) where
   pub synced_step : (step : List ℕ → List ℕ → Type 0) (old mid new : D) → IfSome (disk.content old) (disk.may_leave old)
       → ((t : ℕ) (image : List ℕ) → t ≤ disk.moment new → disk.may_leave new image → disk.left_since new t image)
       → ((t : ℕ) (image : List ℕ) → disk.content new ≡ None → disk.left_since new t image → ⊥)
-      → Told step (disk.content old) (disk.content mid) → disk.content new ≡ disk.content mid → IfSome (disk.content mid) (λ bytes. Only bytes (disk.may_leave new))
+      → ContentSteps step (disk.content old) (disk.content mid) → disk.content new ≡ disk.content mid → IfSome (disk.content mid) (λ bytes. Only bytes (disk.may_leave new))
       → (image : List ℕ) → disk.may_leave new image → (before : List ℕ) × disk.may_leave old before × step before image
   synced_step step old mid new is_image counts untold told same only =
       synced_told step (disk.content old) (disk.content mid) (disk.may_leave old) (disk.may_leave new) is_image

@@ -1,9 +1,9 @@
 -- Nodes and links of a network that stay in another one.
-use Rattle.std.proofs.Common.{◌≡◌, ◌∙◌, ℕ, ◌<◌, ◌≤◌, List, [], length, Some, None, sym, arith, get_or, subst, ⊎_elim, ◌+◌}
+use Rattle.std.proofs.Common.{◌≡◌, ◌∙◌, ℕ, ◌<◌, ◌≤◌, List, length, Some, None, sym, arith, subst, ⊎_elim, ◌+◌}
 use Rattle.std.proofs.lemmas.Bool.{cases_lt}
 use Rattle.std.specs.List.{slice_get}
-use Rattle.std.proofs.lemmas.Option.{slice_get-get_or, slice_get_past}
-use Rattle.hose_graph.specs.Network.{IsNodeOf, Network}
+use Rattle.std.proofs.lemmas.Option.{slice_get_past}
+use Rattle.hose_graph.specs.Network.{Network}
 use Rattle.hose_graph.specs.declared.topology.Link.{Link}
 use Rattle.hose_move.specs.Changing.{JoinSame, HaveSameLink, HaveSameNode}
 
@@ -12,15 +12,6 @@ some_of x y same = cc same
 
 none_some : {X : Type 0} (x : X) → None ≡ Some x → ⊥
 none_some x same = absurd (cc same)
-
--- a node that is there no more does not stay
-pub no_node : (old new : Network) (node : ℕ) → IsNodeOf old node → length new.nodes ≤ node → ¬ HaveSameNode old new node
-no_node old new node is past same =
-    let there = slice_get-get_or old.nodes node [] is in
-    none_some (get_or old.nodes node []) (sym (slice_get_past new.nodes node past) ∙ same ∙ there)
-
-pub node_same : (old new : Network) (node : ℕ) (was is : List ℕ) → slice_get old.nodes node ≡ Some was → slice_get new.nodes node ≡ Some is → was ≡ is → HaveSameNode old new node
-node_same old new node was is at_old at_new same = cc (at_old, at_new, same)
 
 pub same_node : (old new : Network) (node : ℕ) (was is : List ℕ) → slice_get old.nodes node ≡ Some was → slice_get new.nodes node ≡ Some is → HaveSameNode old new node → was ≡ is
 same_node old new node was is at_old at_new same = some_of was is (sym at_old ∙ sym same ∙ at_new)

@@ -115,18 +115,13 @@ module _ {D : Type 0} (disk : Ghosts D) (was : D) (network : Network) (entries :
 
 -- ---- spellings
 
-spelled_by : (one entry : Entry) (own : Ready) (bytes : List ℕ) → IsReady one own → own.bytes.items ≡ bytes → IsSpelling entry bytes → one ≡ entry
-spelled_by one entry own bytes is same spelled = (same_entries one entry [] [] is.is_entry spelled.is_entry (ap (λ (l : List ℕ). l ++ []) (sym is.bytes ∙ same ∙ spelled.spelled))).0
-
--- the entry of a place is the one that these bytes spell
-pub spelled_same : (entries : List Entry) (place : ℕ) (one entry : Entry) (own : Ready) (bytes : List ℕ) → slice_get entries place ≡ Some one → IsReady one own → own.bytes.items ≡ bytes → IsSpelling entry bytes → slice_get entries place ≡ Some entry
-spelled_same entries place one entry own bytes there is same spelled = there ∙ ap (λ (e : Entry). Some e) (spelled_by one entry own bytes is same spelled)
+-- an entry that has these bytes is the one that they spell
+pub spelled_same : (one entry : Entry) (own : Ready) (bytes : List ℕ) → IsReady one own → own.bytes.items ≡ bytes → IsSpelling entry bytes → one ≡ entry
+spelled_same one entry own bytes is same spelled = (same_entries one entry [] [] is.is_entry spelled.is_entry (ap (λ (l : List ℕ). l ++ []) (sym is.bytes ∙ same ∙ spelled.spelled))).0
 
 -- it is another one
-pub spelled_other : (entries : List Entry) (place : ℕ) (one entry : Entry) (own : Ready) (bytes : List ℕ) → slice_get entries place ≡ Some one → IsReady one own → (own.bytes.items ≡ bytes → ⊥) → IsSpelling entry bytes → slice_get entries place ≢ Some entry
-spelled_other entries place one entry own bytes there is not spelled at =
-    let same : one ≡ entry = cc (there, at) in
-    not (is.bytes ∙ ap spelling same ∙ sym spelled.spelled)
+pub spelled_other : (one entry : Entry) (own : Ready) (bytes : List ℕ) → IsReady one own → (own.bytes.items ≡ bytes → ⊥) → IsSpelling entry bytes → one ≢ entry
+spelled_other one entry own bytes is not spelled same = not (is.bytes ∙ ap spelling same ∙ sym spelled.spelled)
 
 -- an entry that was compared is never told as none
 pub never_none : (entries : List Entry) (place : ℕ) (bytes : List ℕ) (result : Result Bool MoveFault) → ComparesEntry entries place bytes result → result ≡ Ok false → ⊥

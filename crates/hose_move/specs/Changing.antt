@@ -2,8 +2,8 @@
 use Rattle.std.specs.Prelude.{◌≡◌, ◌⊎◌, ℕ, ◌<◌, Option, Some, None, slice_get}
 use Rattle.hose_graph.specs.Network.{IsLinkOf, IsNodeOf, Network}
 use Rattle.hose_graph.specs.declared.topology.Link.{Link}
-use Rattle.hose_move.specs.declared.changing.Change.{Change}
-use Rattle.hose_move.specs.declared.changing.Change.TheVariants as change
+use Rattle.hose_move.specs.declared.changing.NetworkChange.{NetworkChange}
+use Rattle.hose_move.specs.declared.changing.NetworkChange.TheVariants as change
 
 -- two links join the same nodes, whichever of them each names first
 abbrev pub JoinSame : Link → Link → Type 0
@@ -40,7 +40,7 @@ pub record IsChangedLink (old new : Network) (link : ℕ) : Type 0 where
 
 -- The first change from the old network to the new one: a node, or a link where all nodes stay;
 -- none where the new network goes on from the old one.
-abbrev pub IsFirstChange : Network → Network → Option Change → Type 0
+abbrev pub IsFirstChange : Network → Network → Option NetworkChange → Type 0
 IsFirstChange old new None = GoesOnFrom old new
 IsFirstChange old new (Some (change.Node node)) = IsChangedNode old new node
 IsFirstChange old new (Some (change.Link link)) =

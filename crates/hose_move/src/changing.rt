@@ -1,13 +1,13 @@
 // Whether a network goes on from another one.
-ghost use Rattle.std.specs.Prelude.{◌≡◌, ◌↔◌, ◌<◌, ℕ, length, IfNone, IfSome, IsTrue};
+ghost use Rattle.std.specs.Prelude.{◌↔◌, IsTrue};
 ghost use Rattle.hose_graph.specs.Network.{IsLinkOf, IsNodeOf};
-ghost use Rattle.hose_move.specs.Changing.{IsChangedLink, IsChangedNode, IsFirstChange, JoinSame, HaveSameLink, HaveSameNode};
+ghost use Rattle.hose_move.specs.Changing.{IsFirstChange, JoinSame, HaveSameLink, HaveSameNode};
 
 use hose_graph::{Link, Topology};
 
 /// The first thing of a network that is not where it was.
 #[derive(Clone, Copy, Debug, PartialEq, Eq)]
-pub enum Change {
+pub enum NetworkChange {
     /// The node of this number has another name, or there are fewer.
     Node(u32),
     /// The link of this number joins other nodes, or there are fewer.
@@ -18,41 +18,17 @@ pub enum Change {
 /// first nodes have the old ones' names, in order, and its first links join the same nodes, in
 /// order. Nodes are looked at first. More may follow, and capacities, lengths and costs may be
 /// others.
-pub fn first_change(old: &Topology, new: &Topology) -> Option<Change>
+pub fn first_change(old: &Topology, new: &Topology) -> Option<NetworkChange>
     ensures { IsFirstChange old.now new.now result }
-{
-    if let Some(node) = changed_node(old, new) {
-        return Some(Change::Node(node));
-    }
-    match changed_link(old, new) {
-        Some(link) => Some(Change::Link(link)),
-        None => None,
-    }
-}
-
-// The first node that does not stay.
-fn changed_node(old: &Topology, new: &Topology) -> Option<u32>
-    ensures none { IfNone result ((node : ℕ) → IsNodeOf old.now node →
-        HaveSameNode old.now new.now node) }
-    ensures first { IfSome result (IsChangedNode old.now new.now) }
 {
     for node in 0..old.nodes() {
         if !node_stays(old, new, node) {
-            return Some(node);
+            return Some(NetworkChange::Node(node));
         }
     }
-    None
-}
-
-// The first link that does not stay.
-fn changed_link(old: &Topology, new: &Topology) -> Option<u32>
-    ensures none { IfNone result ((link : ℕ) → IsLinkOf old.now link →
-        HaveSameLink old.now new.now link) }
-    ensures first { IfSome result (IsChangedLink old.now new.now) }
-{
     for link in 0..old.links() {
         if !link_stays(old, new, link) {
-            return Some(link);
+            return Some(NetworkChange::Link(link));
         }
     }
     None

@@ -70,31 +70,25 @@ fn compare_entry(
     requires few { place ≤ length entries.now }
     ensures { ComparesEntry entries.now place bytes.now result }
 {
-    match is_spelled(alloc, entries, place, bytes) {
+    let epoch = place as u64 + 1;
+    let Some(entry) = entries.get(place) else {
+        return Err(MoveFault::Differs { epoch });
+    };
+    match is_spelled(alloc, entry, bytes) {
         Ok(true) => Ok(true),
-        Ok(false) => Err(MoveFault::Differs {
-            epoch: place as u64 + 1,
-        }),
+        Ok(false) => Err(MoveFault::Differs { epoch }),
         Err(AllocError) => Err(MoveFault::Memory),
     }
 }
 
-// Whether these bytes are the spelling of the entry of a place.
-fn is_spelled(
-    alloc: Global,
-    entries: &[Entry],
-    place: usize,
-    bytes: &[u8],
-) -> Result<bool, AllocError>
-    requires ranges { All IsInRanges entries.now }
-    ensures same { result ≡ Ok true → (entry : Entry) → IsSpelling entry bytes.now →
-        slice_get entries.now place ≡ Some entry }
-    ensures other { result ≡ Ok false → (entry : Entry) → IsSpelling entry bytes.now →
-        slice_get entries.now place ≢ Some entry }
+// Whether these bytes are the spelling of this entry.
+fn is_spelled(alloc: Global, entry: &Entry, bytes: &[u8]) -> Result<bool, AllocError>
+    requires { IsInRanges entry.now }
+    ensures same { result ≡ Ok true → (spelled : Entry) → IsSpelling spelled bytes.now →
+        entry.now ≡ spelled }
+    ensures other { result ≡ Ok false → (spelled : Entry) → IsSpelling spelled bytes.now →
+        entry.now ≢ spelled }
 {
-    let Some(entry) = entries.get(place) else {
-        return Ok(false);
-    };
     let own = ready(alloc, entry)?;
     Ok(is_same(&own.bytes, bytes))
 }

@@ -24,7 +24,7 @@ mod live;
 mod moving;
 mod stating;
 
-pub use changing::{Change, first_change};
+pub use changing::{NetworkChange, first_change};
 pub use fault::MoveFault;
 pub use laws::{law_complete, law_renumbered};
 pub use moving::move_into;

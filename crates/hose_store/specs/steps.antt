@@ -4,5 +4,6 @@ pub mod Beginning
 pub mod Commit
 pub mod Faults
 pub mod Opening
+pub mod ReadingFurther
 pub mod Replaying
 pub mod Store

@@ -6,6 +6,7 @@ ghost use Rattle.hose_graph.specs.Limits.{most_epoch};
 ghost use Rattle.hose_journal.specs.Moments.{KeepsCount};
 ghost use Rattle.hose_journal.specs.steps.Reading.{OnlyRead};
 ghost use Rattle.hose_store.specs.steps.Opening.{HasGiven, HasReadOn, IsRecovering, IsStopped};
+ghost use Rattle.hose_store.specs.steps.ReadingFurther.{ReadsFurther};
 
 use crate::fault::StoreFault;
 use hose_book::Book;
@@ -35,11 +36,7 @@ fn recover_next<D: Disk>(book: &mut Book, reading: &mut Reading<D>) -> Result<bo
     ensures more { result ≡ Ok true →
         (book.new.book.epoch ≡ book.old.book.epoch + 1) × (book.new.book.epoch ≤ most_epoch) }
     ensures closed { result ≡ Ok false → IsTrue reading.new.closed }
-    ensures network { book.new.network ≡ book.old.network }
-    ensures stopped { IfErr result
-        (IsStopped D.Disk reading.old.disk reading.new.disk book.old.network) }
-    ensures only { OnlyRead D.Disk reading.old.disk reading.new.disk }
-    ensures count { OnOk result (KeepsCount D.Disk reading.old.disk reading.new.disk) }
+    ensures on { ReadsFurther D.Disk book.old book.new reading.old reading.new result }
 {
     let Some(entry) = next_sound(book, reading)? else {
         return Ok(false);

@@ -1,17 +1,17 @@
 // A journal whose entries are read one after another and sent on.
-ghost use Rattle.std.specs.Prelude.{◌≡◌, ◌+◌, ◌≤◌, [], List, None, Ok, IfErr, IfOk, IsTrue, MatchResult, OnOk, OnSome, length};
+ghost use Rattle.std.specs.Prelude.{◌≡◌, ◌+◌, ◌≤◌, [], List, None, Ok, IfErr, IfOk, IsTrue, MatchResult, OnSome, length};
 ghost use Rattle.hose_graph.specs.Network.{Network};
 ghost use Rattle.hose_graph.specs.declared.entry.Entry.{Entry};
 ghost use Rattle.hose_graph.specs.Limits.{most_epoch};
 ghost use Rattle.hose_journal.specs.Chain.{chain};
-ghost use Rattle.hose_journal.specs.Moments.{KeepsCount};
 ghost use Rattle.hose_journal.specs.Opening.{AddsNoRecord};
 ghost use Rattle.hose_journal.specs.Reading.{HasFailed};
 ghost use Rattle.hose_journal.specs.steps.Reading.{OnlyRead};
 ghost use Rattle.hose_store.specs.steps.Becoming.{BeginsAtMost, IsStoreOf};
 ghost use Rattle.hose_store.specs.Entries.{HasEntries};
 ghost use Rattle.hose_store.specs.Opening.{IsRefusedStore};
-ghost use Rattle.hose_store.specs.steps.Opening.{HasGiven, IsRecovering, IsStopped};
+ghost use Rattle.hose_store.specs.steps.Opening.{HasGiven, IsRecovering};
+ghost use Rattle.hose_store.specs.steps.ReadingFurther.{ReadsFurther};
 ghost use Rattle.hose_store.specs.Recovery.{digest_of};
 ghost use Rattle.hose_store.specs.Replaying.{IsOnlyOpened};
 ghost use Rattle.hose_store.specs.steps.Replaying.{GivesNext, HasReplayed, IsReplaying};
@@ -142,11 +142,7 @@ fn read_next<D: Disk>(
         GivesNext D.Disk book.new reading.new entries result }
     ensures more { IfOk result (λ next. OnSome next
         ((book.new.book.epoch ≡ book.old.book.epoch + 1) × (book.new.book.epoch ≤ most_epoch))) }
-    ensures network { book.new.network ≡ book.old.network }
-    ensures stopped { IfErr result
-        (IsStopped D.Disk reading.old.disk reading.new.disk book.old.network) }
-    ensures only { OnlyRead D.Disk reading.old.disk reading.new.disk }
-    ensures count { OnOk result (KeepsCount D.Disk reading.old.disk reading.new.disk) }
+    ensures on { ReadsFurther D.Disk book.old book.new reading.old reading.new result }
 {
     let Some(entry) = next_sound(book, reading)? else {
         return Ok(None);

@@ -44,11 +44,11 @@ pub record IsReadAt (at room : ℕ) (bytes got : List ℕ) : Type 0 where
   pub bytes_there : got ≡ take (length got) (drop at bytes)
 
 -- Where a disk tells, what it held and what it holds are in this relation. Whether it tells stays.
-abbrev pub Told : (List ℕ → List ℕ → Type 0) → Option (List ℕ) → Option (List ℕ) → Type 0
-Told step None None = ⊤
-Told step None (Some new) = ⊥
-Told step (Some old) None = ⊥
-Told step (Some old) (Some new) = step old new
+abbrev pub ContentSteps : (List ℕ → List ℕ → Type 0) → Option (List ℕ) → Option (List ℕ) → Type 0
+ContentSteps step None None = ⊤
+ContentSteps step None (Some new) = ⊥
+ContentSteps step (Some old) None = ⊥
+ContentSteps step (Some old) (Some new) = step old new
 
 -- ---- images
 

@@ -127,9 +127,9 @@ IsMemCall kind done begun old new (Err failed) =
     ⊎ (Contains (of_kind kind old.failing) 1 × (new ≡ disk_after_fault kind old begun))
 
 -- How a call ends: its record found no memory, or it was to fail, or it was done.
-abbrev pub Ends : {T : Type 0} → Bool → Bool → MemState → MemState → Result T Failed → Type 0
-Ends true fails old new result =
+abbrev pub EndsCall : {T : Type 0} → Bool → Bool → MemState → MemState → Result T Failed → Type 0
+EndsCall true fails old new result =
     IsErr result × (new ≡ record old { faults = one_starved old.faults; has_failed = true })
-Ends false true old new result =
+EndsCall false true old new result =
     IsErr result × (new ≡ record old { faults = one_fault old.faults; has_failed = true })
-Ends false false old new result = IsOk result × (new ≡ record old { has_failed = false })
+EndsCall false false old new result = IsOk result × (new ≡ record old { has_failed = false })

@@ -107,7 +107,7 @@ follower_of state = follower state.input.source state.sink state.store
 
 module _ {S O D : Type 0} (tells : FollowerTellings S O D) where
   -- The packet that was pending was offered; `puts` says how much is out of its line.
-  pub record Answers (old new : FollowState S O D) (puts : List ℕ → Type 0) : Type 0 where
+  pub record AnswersPending (old new : FollowState S O D) (puts : List ℕ → Type 0) : Type 0 where
     pub packet : Packet
     pub rest : List ℕ
     pub begins : BeginsPacket old.input.pending packet rest
@@ -126,7 +126,7 @@ module _ {S O D : Type 0} (tells : FollowerTellings S O D) where
   -- An exchange: a packet was answered, or more was taken; or how following ends.
   abbrev pub AdvancesTo : FollowState S O D → FollowState S O D → Result ⊤ FollowEnd → Type 0
   AdvancesTo old new (Ok _) =
-      (Answers old new (Grows (tells.sink.content old.sink) (tells.sink.content new.sink))
+      (AnswersPending old new (Grows (tells.sink.content old.sink) (tells.sink.content new.sink))
       × (tells.sink.frame new.sink ≡ tells.sink.frame old.sink))
       ⊎ (TakesMoreBytes tells.source old.input new.input × TouchesNone old new)
   AdvancesTo old new (Err End) = (old.input.pending ≡ [])
@@ -140,7 +140,8 @@ module _ {S O D : Type 0} (tells : FollowerTellings S O D) where
   AdvancesTo old new (Err Read) = IsPartOfPacket old.input.pending
       × BreaksOff tells.source old.input new.input × TouchesNone old new
   AdvancesTo old new (Err Write) =
-      Answers old new (GrowsInPart (tells.sink.content old.sink) (tells.sink.content new.sink))
+      AnswersPending old new
+      (GrowsInPart (tells.sink.content old.sink) (tells.sink.content new.sink))
       × Faulted (tells.sink.frame old.sink) (tells.sink.frame new.sink)
   AdvancesTo old new (Err TooLong) = IsPartOfPacket old.input.pending
       × TakesTooMuch tells.source old.input new.input × TouchesNone old new

@@ -82,25 +82,25 @@ shipped_of (Err fault) (Ok _) count = Err (Store fault)
 -- ---- packet after packet
 
 -- what a gatherer holds, and the sink to which that goes out
-pub record Outgoing (S : Type 0) : Type 0 where
+pub record OutgoingPackets (S : Type 0) : Type 0 where
   pub gather : Gathered
   pub sink : S
 
 -- what a gatherer holds and its sink, as one
-abbrev pub outgoing : {S : Type 0} → Gathered → S → Outgoing S
-outgoing gather sink = record { gather = gather; sink = sink }
+abbrev pub outgoing_packets : {S : Type 0} → Gathered → S → OutgoingPackets S
+outgoing_packets gather sink = record { gather = gather; sink = sink }
 
 module _ {S D : Type 0} (sink : SinkGhosts S) (disk : DiskGhosts D) (shipment : Shipment D)
-    (start : Outgoing S) where
+    (start : OutgoingPackets S) where
   -- The entries that were read are these, and their packets went into a gatherer.
-  pub record HasAdded (replay : Replay D) (out : Outgoing S) : Type 0 where
+  pub record HasAdded (replay : Replay D) (out : OutgoingPackets S) : Type 0 where
     pub entries : List Entry
     pub replaying : IsReplaying disk shipment.was shipment.network replay entries
     pub added : IsAdded sink start.gather start.sink out.gather out.sink
         (shipped_bytes shipment entries)
 
   -- the packets of all entries went into it
-  pub record HasAddedAll (replay : Replay D) (out : Outgoing S) : Type 0 where
+  pub record HasAddedAll (replay : Replay D) (out : OutgoingPackets S) : Type 0 where
     pub has : HasAdded replay out
     pub held : HasEntries shipment.network (disk.content shipment.was) has.entries
     pub read : IfSome (disk.content shipment.was) (IsHistoryOf shipment.network has.entries)
@@ -109,7 +109,7 @@ module _ {S D : Type 0} (sink : SinkGhosts S) (disk : DiskGhosts D) (shipment : 
     pub kept : KeepsRead disk shipment.was replay.reading.disk shipment.network
 
   -- those of the entries before a fault went into it
-  pub record HasAddedUpTo (left : D) (out : Outgoing S) (fault : StoreFault) : Type 0 where
+  pub record HasAddedUpTo (left : D) (out : OutgoingPackets S) (fault : StoreFault) : Type 0 where
     pub entries : List Entry
     pub held : HasEntries shipment.network (disk.content shipment.was) entries
     pub added : IsAdded sink start.gather start.sink out.gather out.sink
@@ -119,12 +119,12 @@ module _ {S D : Type 0} (sink : SinkGhosts S) (disk : DiskGhosts D) (shipment : 
     pub kept : KeepsRead disk shipment.was left shipment.network
 
   -- One entry more was read, or none was left, or a fault was met.
-  abbrev pub AddsNext : Replay D → Outgoing S → Result Bool StoreFault → Type 0
+  abbrev pub AddsNext : Replay D → OutgoingPackets S → Result Bool StoreFault → Type 0
   AddsNext replay out (Ok true) = HasAdded replay out
   AddsNext replay out (Ok false) = HasAddedAll replay out
   AddsNext replay out (Err fault) = HasAddedUpTo replay.reading.disk out fault
 
   -- All were read, or a fault was met.
-  abbrev pub AddsAll : Replay D → Outgoing S → Result ⊤ StoreFault → Type 0
+  abbrev pub AddsAll : Replay D → OutgoingPackets S → Result ⊤ StoreFault → Type 0
   AddsAll replay out (Ok _) = HasAddedAll replay out
   AddsAll replay out (Err fault) = HasAddedUpTo replay.reading.disk out fault

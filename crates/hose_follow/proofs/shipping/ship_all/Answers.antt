@@ -3,7 +3,7 @@ use Rattle.hose_graph.specs.Network.{Network}
 use Rattle.hose_graph.specs.declared.entry.Entry.{Entry}
 use Rattle.hose_io.specs.steps.Gather.{Gathered}
 use Rattle.hose_store.specs.steps.Replaying.{IsReplaying}
-use Rattle.hose_follow.specs.steps.Shipping.{AddsAll, Ships, outgoing, shipment}
+use Rattle.hose_follow.specs.steps.Shipping.{AddsAll, Ships, outgoing_packets, shipment}
 use Rattle.hose_follow.specs.declared.shipping.ShipFault.{ShipFault}
 use Rattle.hose_follow.proofs.Shipped.{shipped, shipped_opened}
 use Rattle.hose_follow.proofs.shipping.ship_all.Goals.{After-add_all-added}
@@ -11,9 +11,9 @@ use Rattle.hose_follow.proofs.shipping.ship_all.Goals as goal
 
 -- what came of adding the packets, from an empty gatherer on
 adds : (g : _) (c : After-add_all-added g) (was : g.row.D.Denot) (network : Network) → IsReplaying g.D.Disk was network c.args.replay.now []
-    → AddsAll g.S.Sink g.D.Disk (shipment was network c.args.from) (outgoing (record { held = []; broke = false }) c.args.sink.now) c.add_all-added.new.replay (outgoing c.add_all-added.new.gather c.add_all-added.new.sink) c.add_all-added.result
+    → AddsAll g.S.Sink g.D.Disk (shipment was network c.args.from) (outgoing_packets (record { held = []; broke = false }) c.args.sink.now) c.add_all-added.new.replay (outgoing_packets c.add_all-added.new.gather c.add_all-added.new.sink) c.add_all-added.result
 adds g c was network replaying =
-    subst (λ (start : Gathered). AddsAll g.S.Sink g.D.Disk (shipment was network c.args.from) (outgoing start c.args.sink.now) c.add_all-added.new.replay (outgoing c.add_all-added.new.gather c.add_all-added.new.sink) c.add_all-added.result) c.new-gather.ensures
+    subst (λ (start : Gathered). AddsAll g.S.Sink g.D.Disk (shipment was network c.args.from) (outgoing_packets start c.args.sink.now) c.add_all-added.new.replay (outgoing_packets c.add_all-added.new.gather c.add_all-added.new.sink) c.add_all-added.result) c.new-gather.ensures
     (c.add_all-added.ensures was network replaying)
 
 pub returns-clause-ships : goal.returns-clause-ships

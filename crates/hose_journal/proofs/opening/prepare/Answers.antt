@@ -1,4 +1,4 @@
-use Rattle.std.proofs.Common.{◌≡◌, ◌∙◌, inl, inr, rules, length, subst, sym, arith, List, Option, ℕ, [], IfSome, IsTrue}
+use Rattle.std.proofs.Common.{◌≡◌, ◌∙◌, inr, rules, length, subst, sym, arith, List, Option, ℕ, [], IfSome, IsTrue}
 use Rattle.std.specs.Prelude.{Err}
 use Rattle.hose_journal.specs.declared.layout.TheConstants.{CHAINED, DIGEST_BYTES}
 use Rattle.hose_journal.specs.Entries.{front_of}
@@ -43,18 +43,6 @@ reloaded_adds g c =
     (unbegun_told g.D.Disk c.load_front.new.disk c.load_front.new.piece c.in_ok-end.end c.in_ok-end.ensures.front (subst IsUnbegun c.rest.ensures (c.is_unbegun.ensures.0 c.if-not-is_unbegun.false)))
     c.begin.ensures.any_moment (g.met.D.Disk.counts_now c.begin.new.disk) (g.met.D.Disk.reads_an_image c.begin.new.disk))
 
-pub returns-in_err-sync-clause-adds : goal.returns-in_err-sync-clause-adds
-returns-in_err-sync-clause-adds g c = inl c.sync.ensures.same
-
-pub returns-in_err-end-clause-adds : goal.returns-in_err-end-clause-adds
-returns-in_err-end-clause-adds g c = inl (c.load_front.ensures.only.same ∙ c.sync.ensures.same)
-
-pub returns-in-Ok-clause-adds : goal.returns-in-Ok-clause-adds
-returns-in-Ok-clause-adds g c = inl (c.load_front.ensures.only.same ∙ c.sync.ensures.same)
-
-pub returns-in-Err-clause-adds : goal.returns-in-Err-clause-adds
-returns-in-Err-clause-adds g c = inl (c.load_front.ensures.only.same ∙ c.sync.ensures.same)
-
 pub returns-in_err-begin-clause-adds : goal.returns-in_err-begin-clause-adds
 returns-in_err-begin-clause-adds g c =
     adds_none g.D.Disk c.args.disk.now c.load_front.new.disk c.begin.new.disk c.args.digest.now (c.load_front.ensures.only.same ∙ c.sync.ensures.same)
@@ -75,9 +63,6 @@ returns-in-Ok-clause-open g c =
     let size : length c.args.digest.now ≡ DIGEST_BYTES = search rules in
     open_begun g.D.Disk c.load_front.new.disk c.load_front.new.piece c.in_ok-end.end c.in-Ok.chained c.args.digest.now size (reads g (goal.at.returns-in-Ok-clause-open g c).After-load_front) c.in_ok-end.ensures.front
     (subst (λ (held : List ℕ). IsHeadOf c.args.digest.now held c.in-Ok.chained) c.rest-then-not-is_unbegun.ensures c.in-Ok.ensures)
-
-pub returns-in-Ok-clause-version : goal.returns-in-Ok-clause-version
-returns-in-Ok-clause-version g c = inl (c.load_front.ensures.only.same ∙ c.sync.ensures.same)
 
 pub returns-in-Err-clause-refused : goal.returns-in-Err-clause-refused
 returns-in-Err-clause-refused g c =

@@ -6,9 +6,6 @@ use Rattle.hose_move.proofs.Collected.{passed_all, passed_more, passed_until, wa
 use Rattle.hose_move.proofs.Compared.{is_spelling}
 use Rattle.hose_move.proofs.collecting.collect_next.Goals as goal
 
-pub next-requires : goal.next-requires
-next-requires g c = (c.requires.0, c.requires.1, c.args.entries.now.items, c.requires.2.replaying)
-
 pub returns-in_err-ready-clause-collects : goal.returns-in_err-ready-clause-collects
 returns-in_err-ready-clause-collects g c = λ was network passed.
     let read = c.in_err-ready.ensures.read was network _ passed.replaying in

@@ -2,9 +2,6 @@ use Rattle.std.proofs.lemmas.Result.{err_from_is_err_and}
 use Rattle.hose_move.proofs.Collected.{passed_all, passed_more, passed_until}
 use Rattle.hose_move.proofs.collecting.pass_next.Goals as goal
 
-pub next-requires : goal.next-requires
-next-requires g c = (c.requires.0, c.requires.1, c.requires.2, c.requires.3.replaying)
-
 pub returns-in_err-_ready-clause-passes : goal.returns-in_err-_ready-clause-passes
 returns-in_err-_ready-clause-passes g c = λ was network entries passed.
     let read = c.in_err-_ready.ensures.read was network _ passed.replaying in

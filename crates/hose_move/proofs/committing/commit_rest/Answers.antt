@@ -4,9 +4,6 @@ use Rattle.std.proofs.lemmas.Result.{err_from_is_err_and}
 use Rattle.hose_move.proofs.Committed.{all_moved, step_ends, step_more}
 use Rattle.hose_move.proofs.committing.commit_rest.Goals as goal
 
-pub loop-place-init : goal.loop-place-init
-loop-place-init g c = λ was network moving. moving
-
 pub loop-place-preserved : goal.loop-place-preserved
 loop-place-preserved g c = λ was network moving.
     let there = slice_get_read c.args.entries.now (length c.args.entries.now) c.loop-place.place c.index-entries-place.result refl (omega arith) c.index-entries-place.is in

@@ -1,9 +1,5 @@
-use Rattle.std.proofs.Common.{take}
 use Rattle.hose_move.proofs.Compared.{compared_fault, compared_none, compared_some, never_none}
 use Rattle.hose_move.proofs.comparing.compare_next.Goals as goal
-
-pub next-requires : goal.next-requires
-next-requires g c = (c.requires.part.0, c.requires.part.1, take c.args.place c.args.entries.now, c.requires.part.2)
 
 pub returns-in-Ok-None-clause-compares : goal.returns-in-Ok-None-clause-compares
 returns-in-Ok-None-clause-compares g c = λ was network replaying.

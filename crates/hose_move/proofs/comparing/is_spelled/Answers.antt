@@ -1,21 +1,15 @@
-use Rattle.std.proofs.Common.{◌≡◌, ◌∙◌, Some, false, length, refl, rules, sym, true}
-use Rattle.std.specs.List.{slice_get}
+use Rattle.std.proofs.Common.{◌≡◌, ◌∙◌, false, sym, true}
 use Rattle.std.proofs.lemmas.Bool.{false≢true}
-use Rattle.std.proofs.lemmas.Option.{slice_get_read}
 use Rattle.hose_move.proofs.Compared.{spelled_other, spelled_same}
 use Rattle.hose_move.proofs.comparing.is_spelled.Goals as goal
 
 pub returns-clause-same : goal.returns-clause-same
 returns-clause-same c = λ ok entry spelled.
-    let there : slice_get c.args.entries.now c.args.place ≡ Some c.in-Some.entry.now =
-    slice_get_read c.args.entries.now (length c.args.entries.now) c.args.place c.in-Some.entry.now refl (search rules) c.in-Some.ensures.lookup.1 in
     let yes : c.is_same.result ≡ true = cc ok in
-    spelled_same c.args.entries.now c.args.place c.in-Some.entry.now entry c.in_ok-own.own c.args.bytes.now there c.in_ok-own.ensures (sym c.deref.ensures.value ∙ c.is_same.ensures.0 yes) spelled
+    spelled_same c.args.entry.now entry c.in_ok-own.own c.args.bytes.now c.in_ok-own.ensures (sym c.deref.ensures.value ∙ c.is_same.ensures.0 yes) spelled
 
 pub returns-clause-other : goal.returns-clause-other
 returns-clause-other c = λ ok entry spelled.
-    let there : slice_get c.args.entries.now c.args.place ≡ Some c.in-Some.entry.now =
-    slice_get_read c.args.entries.now (length c.args.entries.now) c.args.place c.in-Some.entry.now refl (search rules) c.in-Some.ensures.lookup.1 in
     let no_match : c.is_same.result ≡ false = cc ok in
-    spelled_other c.args.entries.now c.args.place c.in-Some.entry.now entry c.in_ok-own.own c.args.bytes.now there c.in_ok-own.ensures
+    spelled_other c.args.entry.now entry c.in_ok-own.own c.args.bytes.now c.in_ok-own.ensures
     (λ same. false≢true (sym no_match ∙ c.is_same.ensures.1 (c.deref.ensures.value ∙ same))) spelled

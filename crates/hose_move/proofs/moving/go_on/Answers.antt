@@ -6,12 +6,6 @@ use Rattle.hose_move.proofs.Compared.{moving_from, refused_at}
 use Rattle.hose_store.specs.declared.fault.StoreFault.TheVariants as store
 use Rattle.hose_move.proofs.moving.go_on.Goals as goal
 
-pub into_store-requires : goal.into_store-requires
-into_store-requires g c = (c.requires.part.0, c.requires.part.1, _, c.requires.part.2.replaying, c.requires.closed)
-
-pub commit_rest-requires-clause-few : goal.commit_rest-requires-clause-few
-commit_rest-requires-clause-few g c = c.requires.part.2.few
-
 pub returns-in-Err-clause-moves : goal.returns-in-Err-clause-moves
 returns-in-Err-clause-moves g c = λ was network part.
     let failed = c.in-Err.ensures.failed was network _ part.replaying in

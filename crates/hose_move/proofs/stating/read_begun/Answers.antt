@@ -14,8 +14,3 @@ returns-in-Err g c =
     refused_open g.D.Disk c.args.disk c.args.old.now c.in-Err.refused.1 c.in-Err.refused.0
     (subst (λ (n : Network). IsRefusedStore g.D.Disk c.args.disk c.in-Err.refused.1 n c.in-Err.refused.0) c.in-Ok.ensures c.in-Err.ensures.refused.0)
     (subst (λ (n : Network). BeginsAtMost g.D.Disk c.args.disk c.in-Err.refused.1 n) c.in-Ok.ensures c.in-Err.ensures.begins)
-
-pub returns : goal.returns
-returns g c =
-    let states = c.state_all-stated.ensures c.args.disk c.in-Ok.topology c.in-Ok-open.ensures.opened in
-    rw (← c.in-Ok.ensures, c.stop.ensures) states

@@ -16,9 +16,6 @@ append-requires-clause-stands g c =
     let has = c.requires.history.2 in
     (account_of book.network history doubt, c.args.entry, has.journal, c.requires.ready, few_entries book.network book.book history c.args.entry has.book c.requires.sound)
 
-pub append-requires-clause-sealed : goal.append-requires-clause-sealed
-append-requires-clause-sealed g c = c.requires.history.2.sealed
-
 pub returns-in-Err-clause-went : goal.returns-in-Err-clause-went
 returns-in-Err-clause-went g c =
     went_failed g.D.Disk (record { ledger = c.args.book.now; journal = c.args.journal.now }) c.append.new.self c.args.entry c.args.ready.now c.requires.ready c.requires.sound

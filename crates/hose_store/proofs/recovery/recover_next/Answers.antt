@@ -3,18 +3,6 @@ use Rattle.hose_book.specs.Ledger.{Ledger}
 use Rattle.hose_store.proofs.Readings.{given_forgotten, given_next}
 use Rattle.hose_store.proofs.recovery.recover_next.Goals as goal
 
-pub returns-in_default-clause-recovering : goal.returns-in_default-clause-recovering
-returns-in_default-clause-recovering g c =
-    let read = c.in_ok-entry.ensures.read c.requires.0 c.requires.1 in
-    let has = rw c.in_default.is at read in
-    (c.requires.0, has.0)
-
-pub returns-in_default-clause-closed : goal.returns-in_default-clause-closed
-returns-in_default-clause-closed g c = λ same.
-    let read = c.in_ok-entry.ensures.read c.requires.0 c.requires.1 in
-    let has = rw c.in_default.is at read in
-    has.1
-
 pub returns-clause-recovering : goal.returns-clause-recovering
 returns-clause-recovering g c =
     let entries = c.requires.0 in

@@ -1,5 +1,4 @@
-use Rattle.std.proofs.Common.{◌∙◌, ap, inr}
-use Rattle.hose_journal.specs.declared.journal.Journal.{Journal}
+use Rattle.std.proofs.Common.{inr}
 use Rattle.hose_journal.proofs.Accounts.{appended, settled_then}
 use Rattle.hose_journal.proofs.Runs.{on_err_so, on_ok_so}
 use Rattle.hose_journal.proofs.journal.Journal.append.Goals as goal
@@ -7,14 +6,6 @@ use Rattle.hose_journal.proofs.journal.Journal.append.Goals as goal
 pub returns-in_err-settle-clause-any_moment : goal.returns-in_err-settle-clause-any_moment
 returns-in_err-settle-clause-any_moment g c = λ account entry stands is_ready few.
     settled_then g.D.Disk account c.args.self.now.disk c.settle.new.self.disk entry (c.settle.ensures.any_moment account stands)
-
-pub add_entry-requires-clause-stands : goal.add_entry-requires-clause-stands
-add_entry-requires-clause-stands g c =
-    let account = c.requires.stands.0 in
-    (account, c.requires.stands.1, c.in_ok-settle.ensures.settled account c.requires.stands.2, c.requires.stands.3, c.requires.stands.4)
-
-pub add_entry-requires-clause-sealed : goal.add_entry-requires-clause-sealed
-add_entry-requires-clause-sealed g c = ap (λ (j : Journal g.row.D.Denot). j.sealed) c.settle.ensures.kept ∙ c.requires.sealed
 
 pub returns-clause-any_moment : goal.returns-clause-any_moment
 returns-clause-any_moment g c = λ account entry stands is_ready few.

@@ -1,9 +1,6 @@
 use Rattle.hose_store.proofs.Becoming.{becomes, fails_after}
 use Rattle.hose_store.proofs.replay.Replay.into_store.Goals as goal
 
-pub from_reading-requires : goal.from_reading-requires
-from_reading-requires g c = (c.requires.2, c.requires.3.given, c.requires.4)
-
 pub returns-clause-becomes : goal.returns-clause-becomes
 returns-clause-becomes g c = becomes g.D.Disk c.args.self c.from_reading.result (g.met.D.Disk.counts_now) c.requires.4 c.from_reading.ensures.ledger c.from_reading.ensures.has c.from_reading.ensures.any_moment c.from_reading.ensures.count c.from_reading.ensures.keeps
 

@@ -3,10 +3,5 @@ use Rattle.hose_store.proofs.replay.Replay.next.Goals as goal
 
 pub returns-clause-read : goal.returns-clause-read
 returns-clause-read g c = λ was network entries replaying.
-    replayed g.D.Disk was network c.args.self.now _ entries replaying (g.met.D.Disk.counts_now replaying.opened) (g.met.D.Disk.untold c.read_next.new.reading.disk) c.read_next.ensures.network c.read_next.ensures.only
-    c.read_next.result (c.read_next.ensures.next entries replaying.given) c.read_next.ensures.count c.read_next.ensures.stopped
-
-pub returns-clause-closed : goal.returns-clause-closed
-returns-clause-closed g c = λ none.
-    let next = c.read_next.ensures.next c.requires.2 c.requires.3.given in
-    (rw none at next).1
+    replayed g.D.Disk was network c.args.self.now _ entries replaying (g.met.D.Disk.counts_now replaying.opened) (g.met.D.Disk.untold c.read_next.new.reading.disk) c.read_next.ensures.on.network c.read_next.ensures.on.only
+    c.read_next.result (c.read_next.ensures.next entries replaying.given) c.read_next.ensures.on.count c.read_next.ensures.on.stopped

@@ -14,9 +14,6 @@ stands : (g : _) (c : After-finish g) (entries : _) → HasGiven g.D.Disk c.args
 stands g c entries given =
     (c.finish.ensures.stands (digest_of c.args.book.network) entries given.reads, few_in_history c.args.book.network entries (sound_items c.args.book.network entries given.sound))
 
-pub finish-requires : goal.finish-requires
-finish-requires g c = (digest_of c.args.book.network, c.requires.0, c.requires.1.reads, c.requires.2)
-
 pub seal_plain-requires-clause-stands : goal.seal_plain-requires-clause-stands
 seal_plain-requires-clause-stands g c =
     let is = stands g (goal.at.seal_plain-requires-clause-stands g c).After-finish c.requires.0 c.requires.1 in

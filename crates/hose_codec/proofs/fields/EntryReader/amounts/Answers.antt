@@ -1,7 +1,7 @@
 use Rattle.std.proofs.Common.{rules, ◌≤◌}
 use Rattle.hose_codec.specs.declared.limits.TheConstants.{MOST_PAIRS}
 use Rattle.hose_codec.proofs.Counted.{amounts_are_read}
-use Rattle.hose_codec.proofs.fields.Fields.amounts.Goals as goal
+use Rattle.hose_codec.proofs.fields.EntryReader.amounts.Goals as goal
 
 pub returns : goal.returns
 returns c =

@@ -3,7 +3,7 @@ use Rattle.std.proofs.lemmas.Result.{err_from_is_err_and}
 use Rattle.hose_codec.specs.declared.limits.CodecFault.TheVariants.{Bad}
 use Rattle.hose_codec.specs.steps.Reading.{ArePairsFrom, pairs_of}
 use Rattle.hose_codec.proofs.Bytes.{no_part_no_pairs, no_pairs_are_read, pairs_are_read}
-use Rattle.hose_codec.proofs.fields.Fields.pairs.Goals as goal
+use Rattle.hose_codec.proofs.fields.EntryReader.pairs.Goals as goal
 
 pub returns-in_err-bytes : goal.returns-in_err-bytes
 returns-in_err-bytes c =

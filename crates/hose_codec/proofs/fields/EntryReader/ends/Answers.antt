@@ -1,7 +1,7 @@
 use Rattle.std.proofs.Common.{rules, ◌≤◌}
 use Rattle.hose_graph.specs.declared.limits.TheConstants.{LEAST_ENDS, MOST_ENDS}
 use Rattle.hose_codec.proofs.Counted.{ends_are_read}
-use Rattle.hose_codec.proofs.fields.Fields.ends.Goals as goal
+use Rattle.hose_codec.proofs.fields.EntryReader.ends.Goals as goal
 
 pub returns : goal.returns
 returns c =

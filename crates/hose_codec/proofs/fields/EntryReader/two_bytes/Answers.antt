@@ -1,7 +1,7 @@
 use Rattle.std.proofs.Common.{◌^◌, rules}
 use Rattle.std.proofs.lemmas.Result.{err_from_is_err_and}
 use Rattle.hose_codec.proofs.NumberFields.{no_number_read, number_read}
-use Rattle.hose_codec.proofs.fields.Fields.two_bytes.Goals as goal
+use Rattle.hose_codec.proofs.fields.EntryReader.two_bytes.Goals as goal
 
 pub returns-in_err-part : goal.returns-in_err-part
 returns-in_err-part c =

@@ -1,0 +1,5 @@
+use Rattle.hose_io.proofs.Gathering.{IsAdded-next}
+use Rattle.hose_follow.proofs.answers.add_numbered.Goals as goal
+
+pub returns : goal.returns
+returns g c = IsAdded-next c.add.ensures c.add_number.ensures
