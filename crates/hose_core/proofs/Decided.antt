@@ -11,7 +11,7 @@ use Rattle.hose_law.specs.Answer.{IsAdmitAnswer, IsAfterAnswer, IsAnswer, IsNewe
 use Rattle.hose_law.specs.Book.{Book, loads_of}
 use Rattle.hose_law.specs.Decision.{IsRefused}
 use Rattle.hose_law.specs.History.{book_of}
-use Rattle.hose_law.specs.Quotes.{Held}
+use Rattle.hose_law.specs.Quotes.{Holding}
 use Rattle.hose_law.specs.Room.{Room, first_links, room_of}
 use Rattle.hose_law.proofs.Bounds.{reserved_ranges}
 use Rattle.hose_plan.specs.steps.Planning.{IsDecision, IsSoundDecision, room_beside}
@@ -70,17 +70,17 @@ bound_of : (network : Network) (book : Book) (customer : List ℕ) (known : Opti
 bound_of network book customer None hose given entry newest answer = answer
 bound_of network book customer (Some known) hose given entry newest answer = after_of network book customer known hose given entry newest answer
 
-bound_answer : (network : Network) (epoch : ℕ) (history : List Entry) (customer : List ℕ) (held : Held) (known : Option ℕ) (hose : List (ℕ × ℕ)) (given : Reply) (entry : Option Entry)
+bound_answer : (network : Network) (epoch : ℕ) (history : List Entry) (customer : List ℕ) (held : Holding) (known : Option ℕ) (hose : List (ℕ × ℕ)) (given : Reply) (entry : Option Entry)
     → IsBoundAnswer network (book_of epoch history) customer known hose given entry → IsAnswer network epoch history customer held (admission_command known hose) given entry held
 bound_answer network epoch history customer held None hose given entry answer = (answer, refl)
 bound_answer network epoch history customer held (Some known) hose given entry answer = (answer, refl)
 
 -- memory may be wanting at it
-bound_wants : (book : Book) (customer : List ℕ) (held : Held) (known : Option ℕ) (hose : List (ℕ × ℕ)) → MayWantMemory book customer held (admission_command known hose)
+bound_wants : (book : Book) (customer : List ℕ) (held : Holding) (known : Option ℕ) (hose : List (ℕ × ℕ)) → MayWantMemory book customer held (admission_command known hose)
 bound_wants book customer held None hose = tt
 bound_wants book customer held (Some known) hose = tt
 
-module _ {K R : Type 0} (books : Ghosts K R) (old new : K) (epoch : ℕ) (history : List Entry) (customer : List ℕ) (held : Held) (known : Option ℕ) (hose : List (ℕ × ℕ)) (here : (books.ledger old).book ≡ book_of epoch history) where
+module _ {K R : Type 0} (books : Ghosts K R) (old new : K) (epoch : ℕ) (history : List Entry) (customer : List ℕ) (held : Holding) (known : Option ℕ) (hose : List (ℕ × ℕ)) (here : (books.ledger old).book ≡ book_of epoch history) where
   abbrev network : Network
   network = (books.ledger old).network
 
@@ -107,7 +107,7 @@ module _ {K R : Type 0} (books : Ghosts K R) (old new : K) (epoch : ℕ) (histor
       admits Is (λ given entry answer. bound_of network book customer known hose given entry newest answer) (reply.Refused at side) (answers_without books old new Is (reply.Refused at side) (is, refused) same)
 
 -- another VPN is the newest
-newest_step : {K R : Type 0} (books : Ghosts K R) (old : K) (epoch : ℕ) (history : List Entry) (customer : List ℕ) (held : Held) (known : Option ℕ) (hose : List (ℕ × ℕ)) → (books.ledger old).book ≡ book_of epoch history
+newest_step : {K R : Type 0} (books : Ghosts K R) (old : K) (epoch : ℕ) (history : List Entry) (customer : List ℕ) (held : Holding) (known : Option ℕ) (hose : List (ℕ × ℕ)) → (books.ledger old).book ≡ book_of epoch history
     → (answer : Reply) → TellsNewest (books.ledger old).book customer known answer → HasStepped books old old epoch history customer held (admission_command known hose) answer
 newest_step books old epoch history customer held (Some known) hose here (reply.Newest id at) tells =
     let Is : Reply → Option Entry → Type 0 = IsAfterAnswer (books.ledger old).network (books.ledger old).book customer known hose in
@@ -201,7 +201,7 @@ module _ {K R : Type 0} (books : Ghosts K R) (old : K) (customer : List ℕ) (kn
   enters_newest plan cost answer tells entry is = record { plan = plan; cost = cost; tells = newest_plan was.book customer known plan cost answer tells; enters = is }
 
 -- A step at all that was seen, where an admission has nothing to be entered.
-pub not_admitted_step : (network : Network) (epoch : ℕ) (history : List Entry) (customer : List ℕ) (held : Held) (known : Option ℕ) (hose : List (ℕ × ℕ)) (answer : Reply) → IsNotAdmitted network (book_of epoch history) customer known hose answer
+pub not_admitted_step : (network : Network) (epoch : ℕ) (history : List Entry) (customer : List ℕ) (held : Holding) (known : Option ℕ) (hose : List (ℕ × ℕ)) (answer : Reply) → IsNotAdmitted network (book_of epoch history) customer known hose answer
     → IsStepOf network epoch history customer held (admission_command known hose) answer None history held
 not_admitted_step _ epoch history customer held (Some known) hose (reply.Newest id at) (inl tells) = ((tells, refl), refl)
 not_admitted_step _ epoch history customer held None hose answer (inl tells) = absurd tells

@@ -12,7 +12,7 @@ use Rattle.hose_graph.specs.declared.command.Reply.TheVariants.{Memory, Quoted a
 use Rattle.hose_graph.specs.declared.limits.TheConstants.{MOST_QUOTES}
 use Rattle.hose_law.specs.Answer.{with_entry}
 use Rattle.hose_law.specs.History.{book_of}
-use Rattle.hose_law.specs.Quotes.{Held, HeldQuote, Holdings, at_number, free_number, none_held, with_held, with_number}
+use Rattle.hose_law.specs.Quotes.{Holding, HeldQuote, Holdings, at_number, free_number, none_held, with_held, with_number}
 use Rattle.hose_law.proofs.Numbers.{at_none_held, at_with_other, at_with_same, length_with, same_free, some_at}
 use Rattle.hose_book.specs.Ledger.{Ledger}
 use Rattle.hose_core.specs.steps.Holding.{AreHeld, AreKept, FitsQuote, HoldsNow, IsMadeAt, IsQuoteOf, AllQuotes, WasMadeBefore, quotes_in}
@@ -43,15 +43,15 @@ module _ (network : Network) (epoch : ℕ) (history next : List Entry) (front : 
       let goes = front one.place of.there in
       (other, is, record { there = goes.0; hose = of.hose; made = subst (λ (h : List Entry). IsMadeAt network (book_of epoch h) other) (sym goes.1) of.made })
 
-  pub held_longer : (held : Held) (quotes : List (Option Quote)) → AreHeld network epoch history held quotes → AreHeld network epoch next held quotes
+  pub held_longer : (held : Holding) (quotes : List (Option Quote)) → AreHeld network epoch history held quotes → AreHeld network epoch next held quotes
   held_longer held quotes are = record { numbers = are.numbers; each = λ number. fits_longer (at_number held number) (at_number quotes number) (are.each number) }
 
-pub held_on : {network : Network} {epoch : ℕ} {history next : List Entry} {held : Held} {quotes : List (Option Quote)} → IsPrefix history next → AreHeld network epoch history held quotes → AreHeld network epoch next held quotes
+pub held_on : {network : Network} {epoch : ℕ} {history next : List Entry} {held : Holding} {quotes : List (Option Quote)} → IsPrefix history next → AreHeld network epoch history held quotes → AreHeld network epoch next held quotes
 held_on {network} {epoch} {history} {next} {held} {quotes} prefix are = held_longer network epoch history next (front_prefix history next prefix) held quotes are
 
 -- ---- one more or one less
 
-module _ (network : Network) (epoch : ℕ) (history : List Entry) (held : Held) (quotes : List (Option Quote)) (are : AreHeld network epoch history held quotes) where
+module _ (network : Network) (epoch : ℕ) (history : List Entry) (held : Holding) (quotes : List (Option Quote)) (are : AreHeld network epoch history held quotes) where
   -- a number has nothing in both or something in both
   same_none : (one : Option HeldQuote) (other : Option Quote) → FitsQuote network epoch history one other → is_none one ≡ is_none other
   same_none None None fits = refl
@@ -106,10 +106,6 @@ module _ (network : Network) (epoch : ℕ) (history : List Entry) (held : Held) 
 -- ---- what is kept
 
 module _ (ledger : Ledger) where
-  -- no quote is kept
-  pub kept_none : AreKept ledger none_held
-  kept_none = record { numbers = refl; made = λ number quote there. absurd (cc (there, at_none_held {X = Quote} number)) }
-
   -- with one that was made before, or none, at a number
   pub kept_with : (quotes : List (Option Quote)) (number : ℕ) (quote : Option Quote) → 1 ≤ number → number ≤ MOST_QUOTES → IfSome quote (WasMadeBefore ledger) → AreKept ledger quotes → AreKept ledger (with_number quotes number quote)
   kept_with quotes number quote some most made kept = record { numbers = length_with quotes number quote ∙ kept.numbers; made = λ other found there. at other found (cases_eq other number) there }
@@ -139,7 +135,7 @@ module _ (ledger : Ledger) where
       at false = others name
 
 -- what each customer holds fits where one customer's does
-pub held_now : (network : Network) (epoch : ℕ) (history : List Entry) (holdings : Holdings) (after : Held) (old new : AllQuotes) (customer : List ℕ) (quotes : List (Option Quote)) → HoldsNow old customer quotes new
+pub held_now : (network : Network) (epoch : ℕ) (history : List Entry) (holdings : Holdings) (after : Holding) (old new : AllQuotes) (customer : List ℕ) (quotes : List (Option Quote)) → HoldsNow old customer quotes new
     → AreHeld network epoch history after quotes → ((name : List ℕ) → AreHeld network epoch history (holdings name) (quotes_in old name))
     → (name : List ℕ) → AreHeld network epoch history (with_held holdings customer after name) (quotes_in new name)
 held_now network epoch history holdings after old new customer quotes holds one others name =

@@ -7,17 +7,17 @@ use Rattle.hose_graph.specs.declared.command.Reply.{Reply}
 use Rattle.hose_law.specs.Answer.{IsStepOf, IsStepOfKind}
 use Rattle.hose_law.specs.History.{IsDecidedAt, book_of}
 use Rattle.hose_law.specs.steps.History.{IsSoundWith}
-use Rattle.hose_law.specs.Quotes.{Held}
+use Rattle.hose_law.specs.Quotes.{Holding}
 use Rattle.hose_law.specs.ReplyKind.{ReplyKind, kind_of}
 use Rattle.hose_law.specs.ReplyKind.ReplyKind.{ByTheBook, ForDisk, ForMemory, ForNoCommand}
 use Rattle.hose_law.proofs.Steps.{step_decided, step_stays}
 use Rattle.hose_core.specs.steps.Stepping.{committed_for, committed_of, history_with}
 
-module _ (network : Network) (epoch : ℕ) (history : List Entry) (customer : List ℕ) (held : Held) (command : Command) where
-  abbrev Is : Reply → Option Entry → List Entry → Held → Type 0
+module _ (network : Network) (epoch : ℕ) (history : List Entry) (customer : List ℕ) (held : Holding) (command : Command) where
+  abbrev Is : Reply → Option Entry → List Entry → Holding → Type 0
   Is reply entry next after = IsStepOf network epoch history customer held command reply entry next after
 
-  entry_leads : (reply : Reply) (entry : Entry) (next : List Entry) (after : Held) → Is reply (Some entry) next after → next ≡ history_with history (Some entry) (committed_of reply)
+  entry_leads : (reply : Reply) (entry : Entry) (next : List Entry) (after : Holding) → Is reply (Some entry) next after → next ≡ history_with history (Some entry) (committed_of reply)
   entry_leads reply entry next after step = at (kind_of reply) step
     where
       at : (kind : ReplyKind) → IsStepOfKind network epoch history customer held command kind reply (Some entry) next after → next ≡ history_with history (Some entry) (committed_for kind)
@@ -26,10 +26,10 @@ module _ (network : Network) (epoch : ℕ) (history : List Entry) (customer : Li
       at ForMemory is = absurd (cc is.1)
       at ForNoCommand is = absurd is
 
-  pub leads : (reply : Reply) (entry : Option Entry) (next : List Entry) (after : Held) → Is reply entry next after → next ≡ history_with history entry (committed_of reply)
+  pub leads : (reply : Reply) (entry : Option Entry) (next : List Entry) (after : Holding) → Is reply entry next after → next ≡ history_with history entry (committed_of reply)
   leads reply None next after step = step_stays network epoch history customer held command reply next after step
   leads reply (Some entry) next after step = entry_leads reply entry next after step
 
-  pub decided : (reply : Reply) (entry : Option Entry) (next : List Entry) (after : Held) → Is reply entry next after → IsSoundWith network (book_of epoch history) entry → IfSome entry (IsDecidedAt network (book_of epoch history))
+  pub decided : (reply : Reply) (entry : Option Entry) (next : List Entry) (after : Holding) → Is reply entry next after → IsSoundWith network (book_of epoch history) entry → IfSome entry (IsDecidedAt network (book_of epoch history))
   decided reply None next after step sound = tt
   decided reply (Some entry) next after step sound = step_decided network epoch history customer held command reply entry next after step sound

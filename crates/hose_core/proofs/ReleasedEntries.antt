@@ -9,7 +9,7 @@ use Rattle.hose_law.specs.Answer.{IsReleaseAnswer}
 use Rattle.hose_law.specs.Book.{Book, HasVpn}
 use Rattle.hose_law.specs.History.{IsSoundAt, book_of}
 use Rattle.hose_graph.specs.Limits.{most_epoch}
-use Rattle.hose_law.specs.Quotes.{Held}
+use Rattle.hose_law.specs.Quotes.{Holding}
 use Rattle.hose_book.specs.declared.books.Books.{Ghosts}
 use Rattle.hose_book.specs.Ledger.{Ledger}
 use Rattle.hose_core.specs.steps.Stepping.{AnswersBy, Goes, HasStepped, IsToldAs}
@@ -29,9 +29,6 @@ module _ {K R : Type 0} (books : Ghosts K R) (old new : K) (customer : List ℕ)
   abbrev Answers : Reply → Type 0
   Answers = AnswersBy books old new Is
 
-  pub none_answers : (told at : ℕ) → told ≡ id → at ≡ book.epoch → (HasVpn book customer id → ⊥) → new ≡ old → Answers (reply.NoVpn told at)
-  none_answers told at tells here refused = answers_without books old new Is (reply.NoVpn told at) (tells, here, refused)
-
   pub spent_answers : (at : ℕ) → at ≡ book.epoch → HasVpn book customer id → at ≡ most_epoch → new ≡ old → Answers (reply.Spent at)
   spent_answers at here has last = answers_without books old new Is (reply.Spent at) (here, sym here ∙ last, has)
 
@@ -50,7 +47,7 @@ module _ {K R : Type 0} (books : Ghosts K R) (old new : K) (customer : List ℕ)
     released_answers answer = answers_entered books old new Is released entry answer is_released sound_at
 
   -- and that is a step
-  pub release_step : (epoch : ℕ) (history : List Entry) (held : Held) (answer : Reply) → book ≡ book_of epoch history → Answers answer → HasStepped books old new epoch history customer held (command.Release id) answer
+  pub release_step : (epoch : ℕ) (history : List Entry) (held : Holding) (answer : Reply) → book ≡ book_of epoch history → Answers answer → HasStepped books old new epoch history customer held (command.Release id) answer
   release_step epoch history held answer here by =
       stepped_by books old new epoch history customer held held (command.Release id) answer Is here
       (λ given more is. (subst (λ (b : Book). IsReleaseAnswer b customer id given more) here is, refl)) by

@@ -9,7 +9,7 @@ use Rattle.hose_graph.specs.declared.command.Reply.TheVariants as reply
 use Rattle.hose_law.specs.Answer.{IsAnswer, IsOperatorAnswer, IsServiceAnswer, MayWantMemory}
 use Rattle.hose_law.specs.Book.{Book}
 use Rattle.hose_law.specs.History.{IsSoundAt, book_of}
-use Rattle.hose_law.specs.Quotes.{Held}
+use Rattle.hose_law.specs.Quotes.{Holding}
 use Rattle.hose_law.specs.ReplyKind.{kind_of}
 use Rattle.hose_law.specs.ReplyKind.ReplyKind.{ByTheBook}
 use Rattle.hose_law.specs.Service.{LinkStands}
@@ -37,7 +37,7 @@ as_ordered Is down other link more same is =
     subst (λ (b : Bool). Is b link) (sym both.0) (subst (Is other) (sym both.1) is)
 
 -- it may want memory where the operator gives it
-pub order_wants : (book : Book) (customer : List ℕ) (held : Held) (down : Bool) (link : ℕ) → customer ≡ operator → MayWantMemory book customer held (service_command down link)
+pub order_wants : (book : Book) (customer : List ℕ) (held : Holding) (down : Bool) (link : ℕ) → customer ≡ operator → MayWantMemory book customer held (service_command down link)
 order_wants book customer held true link is = is
 order_wants book customer held false link is = is
 
@@ -63,7 +63,7 @@ by_operator network book false link (reply.Up told at) (Some entry) answer = (re
 by_operator network book down link given entry answer = absurd answer
 
 -- what answers a customer's order is an answer to the command
-pub order_answer : (network : Network) (epoch : ℕ) (history : List Entry) (customer : List ℕ) (held : Held) (down : Bool) (link : ℕ) (given : Reply) (entry : Option Entry)
+pub order_answer : (network : Network) (epoch : ℕ) (history : List Entry) (customer : List ℕ) (held : Holding) (down : Bool) (link : ℕ) (given : Reply) (entry : Option Entry)
     → IsOperatorAnswer network (book_of epoch history) customer down link given entry → IsAnswer network epoch history customer held (service_command down link) given entry held
 order_answer network epoch history customer held true link given entry answer = (answer, refl)
 order_answer network epoch history customer held false link given entry answer = (answer, refl)
@@ -111,7 +111,7 @@ module _ {K R : Type 0} (books : Ghosts K R) (old new : K) (down : Bool) (link :
         answers_entered books old new Is done entry answer is_done sound_at goes (subst (λ (r : Reply). IsToldAs r (Some entry) answer book (books.ledger new).book) tells is)
 
   -- and that is a step of the operator
-  pub service_step : (epoch : ℕ) (history : List Entry) (held : Held) (answer : Reply) → book ≡ book_of epoch history → Answers answer → HasStepped books old new epoch history operator held (service_command down link) answer
+  pub service_step : (epoch : ℕ) (history : List Entry) (held : Holding) (answer : Reply) → book ≡ book_of epoch history → Answers answer → HasStepped books old new epoch history operator held (service_command down link) answer
   service_step epoch history held answer here by =
       stepped_by books old new epoch history operator held held (service_command down link) answer Is here
       (λ given more is.

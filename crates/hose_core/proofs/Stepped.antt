@@ -9,7 +9,7 @@ use Rattle.hose_law.specs.Answer.{IsAnswer, IsStepOf, with_entry}
 use Rattle.hose_law.specs.Book.{Book}
 use Rattle.hose_law.specs.History.{book_of, opening_book}
 use Rattle.hose_law.specs.steps.History.{IsSoundWith}
-use Rattle.hose_law.specs.Quotes.{Held}
+use Rattle.hose_law.specs.Quotes.{Holding}
 use Rattle.hose_law.proofs.Scripts.{book_after_push}
 use Rattle.hose_law.proofs.Steps.{step_of}
 use Rattle.hose_book.specs.declared.books.Books.{Ghosts}
@@ -20,7 +20,7 @@ pub book_with_entry : (epoch : ℕ) (history : List Entry) (entry : Option Entry
 book_with_entry epoch history None = refl
 book_with_entry epoch history (Some entry) = sym (book_after_push (opening_book epoch) history entry)
 
-module _ {K R : Type 0} (books : Ghosts K R) (old new : K) (epoch : ℕ) (history : List Entry) (customer : List ℕ) (held after : Held) (command : Command) (given answer : Reply) (entry : Option Entry)
+module _ {K R : Type 0} (books : Ghosts K R) (old new : K) (epoch : ℕ) (history : List Entry) (customer : List ℕ) (held after : Holding) (command : Command) (given answer : Reply) (entry : Option Entry)
     (here : (books.ledger old).book ≡ book_of epoch history)
     (is : IsAnswer (books.ledger old).network epoch history customer held command given entry after)
     (sound : IsSoundWith (books.ledger old).network (books.ledger old).book entry) (goes : Goes books old answer entry new) where
@@ -62,7 +62,7 @@ module _ {K R : Type 0} (books : Ghosts K R) (old new : K) (epoch : ℕ) (histor
   told_stepped (inr told) = failed told.0 told.1 told.2
 
 -- books that answered a command at a history made a step there
-pub stepped_by : {K R : Type 0} (books : Ghosts K R) (old new : K) (epoch : ℕ) (history : List Entry) (customer : List ℕ) (held after : Held) (command : Command) (answer : Reply) (Is : Reply → Option Entry → Type 0)
+pub stepped_by : {K R : Type 0} (books : Ghosts K R) (old new : K) (epoch : ℕ) (history : List Entry) (customer : List ℕ) (held after : Holding) (command : Command) (answer : Reply) (Is : Reply → Option Entry → Type 0)
     → (books.ledger old).book ≡ book_of epoch history
     → ((given : Reply) (entry : Option Entry) → Is given entry → IsAnswer (books.ledger old).network epoch history customer held command given entry after)
     → AnswersBy books old new Is answer → HasStepped books old new epoch history customer held command answer

@@ -15,7 +15,7 @@ use Rattle.hose_law.specs.steps.Answer.{ChangesHeld}
 use Rattle.hose_law.specs.Book.{Book}
 use Rattle.hose_law.specs.Decision.{IsPlanned, IsRefused}
 use Rattle.hose_law.specs.History.{book_of}
-use Rattle.hose_law.specs.Quotes.{Held, HeldQuote, Holdings, at_number, free_number, with_held, with_number}
+use Rattle.hose_law.specs.Quotes.{Holding, HeldQuote, Holdings, at_number, free_number, with_held, with_number}
 use Rattle.hose_law.specs.Room.{room_of}
 use Rattle.hose_law.proofs.Numbers.{some_at}
 use Rattle.hose_law.proofs.Steps.{IsAnswered, IsIdle, step_cases, step_keeps}
@@ -39,7 +39,7 @@ use Rattle.hose_core.proofs.HeldQuotes.{IsFront, free_alike, front_same, front_w
 
 -- ---- one step
 
-module _ {K R : Type 0} (books : Ghosts K R) (old new : K) (epoch : ℕ) (history : List Entry) (customer : List ℕ) (held : Held) (asked : Command) (answer : Reply)
+module _ {K R : Type 0} (books : Ghosts K R) (old new : K) (epoch : ℕ) (history : List Entry) (customer : List ℕ) (held : Holding) (asked : Command) (answer : Reply)
     (stepped : HasStepped books old new epoch history customer held asked answer) where
   abbrev Cases : Type 0
   Cases = IsIdle (books.ledger old).network epoch history customer held answer stepped.entry stepped.next stepped.after
@@ -76,7 +76,7 @@ module _ {K R : Type 0} (books : Ghosts K R) (old new : State K) (epoch : ℕ) (
   abbrev network : Network
   network = (books.ledger old.books).network
 
-  abbrev held : Held
+  abbrev held : Holding
   held = holdings customer
 
   abbrev Stepped : Command → Reply → Type 0
@@ -106,7 +106,7 @@ module _ {K R : Type 0} (books : Ghosts K R) (old new : State K) (epoch : ℕ) (
       let quotes : List (Option Quote) = quotes_in old.quotes customer in
       let holds = subst (HoldsNow old.quotes customer quotes) (sym unchanged) (holds_same old.quotes customer quotes refl) in
       let longer = held_longer network epoch history stepped.next (front_of books old.books new.books epoch history customer held asked answer stepped) held quotes (fits.held customer) in
-      changes_on asked answer stepped quotes holds (subst (λ (h : Held). AreHeld network epoch stepped.next h quotes) (sym keeps) longer)
+      changes_on asked answer stepped quotes holds (subst (λ (h : Holding). AreHeld network epoch stepped.next h quotes) (sym keeps) longer)
 
   pub keeps_on : (asked : Command) (answer : Reply) → ¬ ChangesHeld asked → Stepped asked answer → new.quotes ≡ old.quotes → On asked answer
   keeps_on asked answer keeping stepped unchanged =
@@ -122,7 +122,7 @@ module _ {K R : Type 0} (books : Ghosts K R) (old new : State K) (epoch : ℕ) (
       let longer = held_longer network epoch history stepped.next (front_of books old.books new.books epoch history customer held (command.Take number) answer stepped) (with_number held number None) (with_number quotes number None)
       (held_with network epoch history held quotes (fits.held customer) number None None range.0 range.1 refl) in
       changes_on (command.Take number) answer stepped (with_number quotes number None) holds
-      (subst (λ (h : Held). AreHeld network epoch stepped.next h (with_number quotes number None)) (sym (at one.0 one.1 (cases books old.books new.books epoch history customer held (command.Take number) answer stepped))) longer)
+      (subst (λ (h : Holding). AreHeld network epoch stepped.next h (with_number quotes number None)) (sym (at one.0 one.1 (cases books old.books new.books epoch history customer held (command.Take number) answer stepped))) longer)
     where
       taken : (found : Option HeldQuote) (one : HeldQuote) (given : Reply) → found ≡ Some one → IsTakeAnswer network epoch history customer number held found given stepped.entry stepped.after → stepped.after ≡ with_number held number None
       taken None one given is answered = absurd (cc is)
@@ -138,7 +138,7 @@ module _ {K R : Type 0} (books : Ghosts K R) (old : State K) (epoch : ℕ) (hist
   abbrev was : Ledger
   was = books.ledger old.books
 
-  abbrev mine : Held
+  abbrev mine : Holding
   mine = holdings customer
 
   abbrev quotes : List (Option Quote)

@@ -11,7 +11,7 @@ use Rattle.hose_law.specs.Answer.{IsAnswer, IsPlannedAnswer, IsTakeAnswer, IsTak
 use Rattle.hose_law.specs.Book.{Book, loads_of}
 use Rattle.hose_law.specs.Decision.{HaveEqualGrounds, IsPlannedOver}
 use Rattle.hose_law.specs.History.{book_of}
-use Rattle.hose_law.specs.Quotes.{Held, HeldQuote, at_number, with_number}
+use Rattle.hose_law.specs.Quotes.{Holding, HeldQuote, at_number, with_number}
 use Rattle.hose_law.specs.Room.{first_links, room_of}
 use Rattle.hose_law.proofs.CanonicalPlans.{planned_sound, same_decisions}
 use Rattle.hose_plan.specs.steps.Planning.{AreGroundsOf, allowed_links}
@@ -43,7 +43,7 @@ taking_of network earlier book customer hose (reply.Full at) None equal answer =
 taking_of network earlier book customer hose (reply.Admitted id cost at amounts) (Some entry) equal answer = (equal, answer)
 taking_of network earlier book customer hose given entry equal answer = absurd answer
 
-module _ {K R : Type 0} (books : Ghosts K R) (old new : K) (epoch number : ℕ) (history : List Entry) (customer : List ℕ) (held : Held) (one : HeldQuote) (quote : Quote)
+module _ {K R : Type 0} (books : Ghosts K R) (old new : K) (epoch number : ℕ) (history : List Entry) (customer : List ℕ) (held : Holding) (one : HeldQuote) (quote : Quote)
     (here : (books.ledger old).book ≡ book_of epoch history) (there : at_number held number ≡ Some one) (is : IsQuoteOf (books.ledger old).network epoch history one quote) where
   abbrev network : Network
   network = (books.ledger old).network

@@ -8,13 +8,13 @@ use Rattle.hose_graph.specs.declared.command.Reply.TheVariants as reply
 use Rattle.hose_law.specs.Answer.{IsLinkAnswer, IsShowAnswer, IsStepOf, IsVpnsAnswer}
 use Rattle.hose_law.specs.Book.{Book, HasVpn}
 use Rattle.hose_law.specs.History.{book_of}
-use Rattle.hose_law.specs.Quotes.{Held}
+use Rattle.hose_law.specs.Quotes.{Holding}
 use Rattle.hose_book.specs.Ledger.{Ledger}
 use Rattle.hose_book.specs.declared.books.Books.{Ghosts}
 use Rattle.hose_core.specs.steps.Stepping.{HasStepped}
 use Rattle.hose_core.specs.steps.Telling.{AreShown, IsShown}
 
-module _ {K R : Type 0} (books : Ghosts K R) (old : K) (epoch : ℕ) (history : List Entry) (customer : List ℕ) (held : Held) (here : (books.ledger old).book ≡ book_of epoch history) where
+module _ {K R : Type 0} (books : Ghosts K R) (old : K) (epoch : ℕ) (history : List Entry) (customer : List ℕ) (held : Holding) (here : (books.ledger old).book ≡ book_of epoch history) where
   abbrev was : Ledger
   was = books.ledger old
 

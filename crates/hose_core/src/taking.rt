@@ -5,7 +5,7 @@ ghost use Rattle.hose_graph.specs.declared.command.Command.{Command};
 ghost use Rattle.hose_graph.specs.declared.entry.Entry.{Entry};
 ghost use Rattle.hose_law.specs.Book.{Book};
 ghost use Rattle.hose_law.specs.Decision.{HaveEqualGrounds};
-ghost use Rattle.hose_law.specs.Quotes.{Held, HeldQuote, at_number};
+ghost use Rattle.hose_law.specs.Quotes.{Holding, HeldQuote, at_number};
 ghost use Rattle.hose_book.specs.Ledger.{HasBookOf};
 ghost use Rattle.hose_core.specs.steps.Claiming.{IsClaimOf};
 ghost use Rattle.hose_core.specs.steps.Holding.{HasGroundsSince, IsMade, IsMadeAt, IsQuoteOf};
@@ -27,7 +27,7 @@ pub fn take_now<K: Books>(books: &mut K, quote: &Quote, claim: Claim<K>) -> Repl
     requires made { IsMade (K.ledger books.old).network quote.now }
     requires since { HasGroundsSince (K.ledger books.old) quote.now }
     requires claim { (customer : List ℕ) × IsClaimOf K.Books claim customer quote.now }
-    ensures step { (customer : List ℕ) (epoch number : ℕ) (history : List Entry) (held : Held)
+    ensures step { (customer : List ℕ) (epoch number : ℕ) (history : List Entry) (held : Holding)
         (one : HeldQuote) → IsClaimOf K.Books claim customer quote.now
         → HasBookOf epoch history (K.ledger books.old)
         → at_number held number ≡ Some one

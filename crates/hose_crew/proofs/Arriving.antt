@@ -1,5 +1,5 @@
 -- Connections that arrive, one after another.
-use Rattle.std.proofs.Common.{◌≡◌, ◌∙◌, ℕ, zero, suc, ◌+◌, List, [], ◌∷◌, drop, is_some, false, Option, None, Some, Result, refl, subst, sym, arith}
+use Rattle.std.proofs.Common.{◌≡◌, ◌∙◌, ℕ, zero, suc, ◌+◌, List, [], ◌∷◌, drop, is_some, false, Option, None, Some, Result, subst, sym, arith}
 use Rattle.std.proofs.Math.Numerals.{suc-eq-add-one}
 use Rattle.hose_io.specs.Connections.{Connections}
 use Rattle.hose_io.specs.steps.Connections.{Accepts}
@@ -13,10 +13,6 @@ drop_next [] ys x zero same = cc same
 drop_next (z ∷ xs) ys x zero same = cc same
 drop_next [] ys x (suc n) same = cc same
 drop_next (z ∷ xs) ys x (suc n) same = drop_next xs ys x n same
-
-pub none_arrived : (was : Option Connections) → AreArrived was was 0
-none_arrived None = tt
-none_arrived (Some was) = record { accepted = omega arith; coming = refl; ended = refl }
 
 pub one_arrived : (was old new : Option Connections) (count : ℕ) (input : Option Stream) (output : Option (List ℕ)) (number : ℕ) → AreArrived was old count → Accepts old new input output number → AreArrived was new (count + 1)
 one_arrived None None None count input output number is next = tt

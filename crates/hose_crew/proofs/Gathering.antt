@@ -17,9 +17,6 @@ use Rattle.hose_crew.specs.steps.Crew.{ServesDoor}
 use Rattle.hose_crew.specs.steps.Desk.{AreArrived, HasStopped, started_at}
 use Rattle.hose_crew.specs.steps.Hands.{AreBack, IsGathered}
 
-pub all_first : {A : Type 0} (P : A → Type 0) (first : A) (rest : List A) → All P (first ∷ rest) → P first
-all_first P first rest all = all 0 first (omega arith)
-
 pub all_rest : {A : Type 0} (P : A → Type 0) (first : A) (rest : List A) → All P (first ∷ rest) → All P rest
 all_rest P first rest all = λ place else below. all (suc place) else (omega (arith, below))
 

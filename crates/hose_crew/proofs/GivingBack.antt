@@ -1,8 +1,7 @@
 -- Connections that come back to a door, one after another.
 use Rattle.std.proofs.Common.{◌≡◌, ◌∙◌, ℕ, suc, ◌+◌, ◌≤◌, List, [], ◌∷◌, ◌++◌, length, map, IsTrue, IsSome, is_some, Option, None, Some, refl, sym, ap, subst, arith, length-append, append_assoc, append-nil}
-use Rattle.std.proofs.lemmas.List.{map-append}
 use Rattle.hose_io.specs.Connections.{Connection, Connections}
-use Rattle.hose_io.specs.steps.Connections.{AreAccounted, ComesBack, MayComeBack}
+use Rattle.hose_io.specs.steps.Connections.{AreAccounted, MayComeBack}
 use Rattle.hose_session.specs.Accounts.{AccountFor}
 use Rattle.hose_turn.specs.Known.{Known}
 use Rattle.hose_crew.specs.steps.Desk.{AreArrived}
@@ -43,20 +42,6 @@ may_next (Some old) (Some now) all before after one split may back = (
       let same : now.accepted ≡ old.accepted = ap (λ (c : Connections). c.accepted) back.2 in
       omega (arith, size, told, whole, same, room)),
   first_told may.1 before one after (sym split ∙ may.2),
-)
-
--- and is back then
-pub back_next : (old now next : Option Connections) (before : List (Option Connection)) (one : Option Connection) → AllComeBack old now before → ComesBack now next one → AllComeBack old next (before ++ one ∷ [])
-back_next None None None before one back more = tt
-back_next None None (Some next) before one back more = absurd more
-back_next None (Some now) next before one back more = absurd back
-back_next (Some old) None next before one back more = absurd back
-back_next (Some old) (Some now) None before one back more = absurd more
-back_next (Some old) (Some now) (Some next) before None back more = absurd more
-back_next (Some old) (Some now) (Some next) before (Some one) back more = (
-  back.0 ++ one ∷ [],
-  rw (back.1, map-append (λ (x : Connection). Some x) back.0 (one ∷ [])) refl,
-  rw (more, back.2, append_assoc old.ended back.0 (one ∷ [])) refl,
 )
 
 -- ---- what a worker ended

@@ -1,17 +1,14 @@
 // A worker and what it has in hand.
 ghost use Rattle.std.specs.Prelude.{◌≡◌, ◌+◌, ◌<◌, ◌≤◌, ◌∷◌, [], ◌++◌, IfOk, IsTrue, List, Option, Some, is_some, map, vec_capacity};
-ghost use mathlib.Core.List.{IsPrefix};
-ghost use Rattle.hose_io.specs.Connections.{Connection};
 ghost use Rattle.hose_io.specs.steps.Connections.{AreAccounted};
-ghost use Rattle.hose_session.specs.Accounts.{AccountFor};
-ghost use Rattle.hose_shared.specs.steps.Sharing.{IsPassOf, IsSamePass};
-ghost use Rattle.hose_crew.specs.steps.Desk.{AreArrived, AreFresh};
+ghost use Rattle.hose_shared.specs.steps.Sharing.{IsPassOf};
+ghost use Rattle.hose_crew.specs.steps.Desk.{AreArrived};
 ghost use Rattle.hose_crew.specs.steps.Hands.{AllComeBack, AllMayComeBack, AreBack, HasWorked, IsGathered, IsIdle, MayServe, Works, part_of};
 
 use crate::desk::{Accept, Accepted, DoorStart};
 use hose_disk::Disk;
 use hose_io::Door;
-use hose_paths::{RowMaker, RowsInAdvance};
+use hose_paths::RowsInAdvance;
 use hose_pool::Gate;
 use hose_session::{Session, serve_session};
 use hose_shared::{Begun, Context, Shared};
@@ -89,39 +86,7 @@ impl<L: Door, N: DoorStart> Hand<L, N> {
     }
 }
 
-impl<'a, W: Wait, D: Disk, B: Begun<D>, G: Gate> Work<'a, W, D, B, G> {
-    // Serves a connection to its end, along the pass.
-    fn serve<L: Door, N: DoorStart, R: RowMaker>(
-        &self,
-        one: Accepted<L>,
-        pass: Pass,
-        rows: &mut R,
-    ) -> (L::Done, Pass)
-        requires of { IsPassOf self.now.shared.now pass }
-        requires fresh { AreFresh L.In.Source L.Out.Sink N.start.told one.input one.output }
-        ensures same { IsSamePass pass result.1 }
-        ensures accounts { IsTrue (is_some N.start.told)
-            → IsPrefix pass.origin.since pass.seen → (connections : List Connection)
-            → AccountFor connections pass → (connection : Connection)
-            × (L.came_to result.0 ≡ Some connection)
-            × AccountFor (connections ++ connection ∷ []) result.1 }
-    {
-        let Accepted {
-            session,
-            mut input,
-            mut output,
-        } = one;
-        let session = Session {
-            context: &self.context,
-            shared: self.shared,
-            number: session,
-        };
-        let (_, pass) = serve_session(session, &mut input, &mut output, pass, rows);
-        (L::done(input, output), pass)
-    }
-}
-
-// Serves one connection after another, until no more is told of.
+// Serves one connection after another, each to its end along the pass, until no more is told of.
 fn serve_one_by_one<W: Wait, D: Disk, B: Begun<D>, G: Gate, L: Door, N: DoorStart, A: Accept<L, N>>(
     work: &Work<'_, W, D, B, G>,
     first: &Snapshot<Pass>,
@@ -148,9 +113,19 @@ fn serve_one_by_one<W: Wait, D: Disk, B: Begun<D>, G: Gate, L: Door, N: DoorStar
         let Some(one) = from.accept(&mut share) else {
             return Place { pass, share };
         };
-        let (done, later) = work.serve::<L, N, _>(one, pass, &mut rows);
+        let Accepted {
+            session,
+            mut input,
+            mut output,
+        } = one;
+        let session = Session {
+            context: &work.context,
+            shared: work.shared,
+            number: session,
+        };
+        let (_, later) = serve_session(session, &mut input, &mut output, pass, &mut rows);
         pass = later;
-        ended.push_reserved(done);
+        ended.push_reserved(L::done(input, output));
     }
 }
 

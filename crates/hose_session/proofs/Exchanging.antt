@@ -11,7 +11,7 @@ use Rattle.hose_graph.specs.declared.command.Command.{Command}
 use Rattle.hose_graph.specs.declared.command.Reply.{Reply}
 use Rattle.hose_graph.specs.declared.command.Reply.TheVariants.{Welcome, Memory, Bad, Long, Bye}
 use Rattle.hose_book.specs.declared.books.Committed.TheVariants.{Disk as Failing}
-use Rattle.hose_law.specs.Quotes.{Held, none_held}
+use Rattle.hose_law.specs.Quotes.{Holding, none_held}
 use Rattle.hose_law.specs.ReplyKind.{ReplyKind, failures_of, kind_of}
 use Rattle.hose_law.specs.ReplyKind.ReplyKind.{ByTheBook, ForDisk, ForMemory, ForNoCommand}
 use Rattle.hose_law.specs.Script.{one_if_disk}
@@ -47,7 +47,7 @@ told_faults old new reply failed more = at (kind_of reply) failed
     at ForMemory failed = omega (arith, more)
     at ForNoCommand failed = omega (arith, more)
 
-module _ (network : Network) (old new : Known) (customer : List ℕ) (held : Held) (command : Command) (answer : Reply) (along : StepsAlong network customer held command answer old new) where
+module _ (network : Network) (old new : Known) (customer : List ℕ) (held : Holding) (command : Command) (answer : Reply) (along : StepsAlong network customer held command answer old new) where
   within : along.next ≤ length new.seen
   within = elim along.step.moves [
     | inl stays ↦ omega (arith, stays.1, along.step.there)
@@ -78,7 +78,7 @@ same_pass : (one other : Known) → Some one ≡ Some other → one ≡ other
 same_pass one other is = cc is
 
 pub provided_exchange : (network : Network) (old : Known) (client : Client) (new : Known) {command : Command} {answer : Reply} {left : Customer} → Provides network (record { pass = Some old; quotes = client.quotes }) left client.name command answer → left.pass ≡ Some new
-    → (held : Held) → AreHeld network 0 old.seen held client.quotes → ServesClientOn network old new client (record client { quotes = left.quotes }) held (Asks command) answer
+    → (held : Holding) → AreHeld network 0 old.seen held client.quotes → ServesClientOn network old new client (record client { quotes = left.quotes }) held (Asks command) answer
 provided_exchange network old client new {command = command} {answer = answer} {left = left} provides is held are =
     let before = same_pass old provides.before provides.was in
     let after = same_pass provides.after new (sym provides.is ∙ is) in
@@ -112,7 +112,7 @@ module _ (network : Network) (pass : Known) (same : IsSamePass pass pass) where
       no_disk IsLong plain = ap one_if_disk plain
       no_disk Unread plain = ap one_if_disk plain
 
-  module _ (client : Client) (held : Held) (are : AreHeld network 0 pass.seen held client.quotes) where
+  module _ (client : Client) (held : Holding) (are : AreHeld network 0 pass.seen held client.quotes) where
     abbrev ServesOn : SessionLine → Reply → Type 0
     ServesOn = ServesClientOn network pass pass client client held
 
@@ -128,7 +128,7 @@ module _ (network : Network) (pass : Known) (same : IsSamePass pass pass) where
     pub memory_exchange : ServesOn Unread Memory
     memory_exchange = here Unread Memory refl (λ from. (refl, refl, refl, refl))
 
-  pub bye_exchange : (customer : List ℕ) (held : Held) → IsExchange network pass pass (Serving customer held) Leaves Bye Left
+  pub bye_exchange : (customer : List ℕ) (held : Holding) → IsExchange network pass pass (Serving customer held) Leaves Bye Left
   bye_exchange customer held = plain_exchange (Serving customer held) Left Leaves Bye refl (λ from. (refl, refl, refl, refl))
 
   -- a first line that is no greeting
@@ -155,7 +155,7 @@ greeted_exchange network old new customer at is more = record {
 
 module _ (network : Network) (old new : Known) (line : Line) (reply : Reply) where
   -- a client was served on
-  pub served_at : (client client' : Client) (held : Held) (said : SessionLine) → ShownSays (SaysLater network) line said → ServesClientOn network old new client client' held said reply
+  pub served_at : (client client' : Client) (held : Holding) (said : SessionLine) → ShownSays (SaysLater network) line said → ServesClientOn network old new client client' held said reply
       → AnswersAt network old (record { pass = new; phase = phase.Serving client' }) (Serving client.name held) line reply
   served_at client client' held said says serves = record {
     said = said;
@@ -181,13 +181,13 @@ module _ (network : Network) (old new : Known) (line : Line) (reply : Reply) whe
   refused_at said says exchange = record { said = said; next = StageRefused; says = says; exchange = exchange; at = refl }
 
   -- a customer left
-  pub left_at : (customer : List ℕ) (held : Held) → ShownSays (SaysLater network) line Leaves → IsExchange network old new (Serving customer held) Leaves reply Left
+  pub left_at : (customer : List ℕ) (held : Holding) → ShownSays (SaysLater network) line Leaves → IsExchange network old new (Serving customer held) Leaves reply Left
       → AnswersAt network old (record { pass = new; phase = phase.Left }) (Serving customer held) line reply
   left_at customer held says exchange = record { said = Leaves; next = Left; says = says; exchange = exchange; at = refl }
 
 -- what is answered to a client, whatever it holds whose quotes these are, is answered at the stage of its session
 pub answers_client : (network : Network) (progress new : Progress) (client : Client) (line : Line) (reply : Reply) → progress.phase ≡ phase.Serving client
-    → ((held : Held) → AreHeld network 0 progress.pass.seen held client.quotes → AnswersAt network progress.pass new (Serving client.name held) line reply) → (stage : Stage) → IsAt network progress stage
+    → ((held : Holding) → AreHeld network 0 progress.pass.seen held client.quotes → AnswersAt network progress.pass new (Serving client.name held) line reply) → (stage : Stage) → IsAt network progress stage
     → AnswersAt network progress.pass new stage line reply
 answers_client network progress new client line reply is answers stage at =
     let here = subst (λ (p : Phase). IsPhaseAt network progress.pass.seen p stage) is at in

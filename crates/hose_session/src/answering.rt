@@ -1,7 +1,7 @@
 // What is answered to a customer.
 ghost use Rattle.std.specs.Prelude.{◌≡◌, false};
 ghost use Rattle.hose_graph.specs.steps.Naming.{AsksOf, NamesPlaces};
-ghost use Rattle.hose_law.specs.Quotes.{Held};
+ghost use Rattle.hose_law.specs.Quotes.{Holding};
 ghost use Rattle.hose_law.specs.Transcript.{SessionLine, Stage};
 ghost use Rattle.hose_law.specs.Transcript.Stage.{Waiting};
 ghost use Rattle.hose_core.specs.steps.Holding.{AreHeld};
@@ -111,9 +111,9 @@ impl<'a, W: Wait, D: Disk, B: Begun<D>, G: Gate> Session<'a, W, D, B, G> {
     ) -> (Reply, Pass, Client)
         requires of { IsPassOf self.now.shared.now pass }
         requires asks { AsksOf self.now.shared.now.network command }
-        requires quotes { (held : Held)
+        requires quotes { (held : Holding)
             × AreHeld self.now.shared.now.network 0 pass.seen held client.quotes }
-        ensures exchange { (held : Held)
+        ensures exchange { (held : Holding)
             → AreHeld self.now.shared.now.network 0 pass.seen held client.quotes
             → ServesClientOn self.now.shared.now.network pass result.1 client result.2 held
             (SessionLine.Asks command) result.0 }

@@ -12,7 +12,7 @@ use Rattle.hose_graph.specs.declared.command.Reply.TheVariants as reply
 use Rattle.hose_law.specs.Answer.{IsStepOf, MayWantMemory}
 use Rattle.hose_law.specs.Book.{Book, loads_of}
 use Rattle.hose_law.specs.History.{book_of}
-use Rattle.hose_law.specs.Quotes.{Held, none_held}
+use Rattle.hose_law.specs.Quotes.{Holding, none_held}
 use Rattle.hose_law.specs.Room.{first_links}
 use Rattle.hose_book.specs.declared.books.Committed.TheVariants.{Done}
 use Rattle.hose_core.specs.steps.Bound.{HasNewest, admission_command}
@@ -33,15 +33,15 @@ use Rattle.hose_shared.proofs.Turned.{none_joined, reads_turn}
 -- ---- without an entry
 
 -- want of memory comes first, bound or not
-bound_wants : (book : Book) (customer : List ℕ) (held : Held) (known : Option ℕ) (hose : List Endpoint) → MayWantMemory book customer held (admission_command known hose)
+bound_wants : (book : Book) (customer : List ℕ) (held : Holding) (known : Option ℕ) (hose : List Endpoint) → MayWantMemory book customer held (admission_command known hose)
 bound_wants book customer held None hose = tt
 bound_wants book customer held (Some known) hose = tt
 
 module _ (network : Network) (seen : List Entry) (customer : List ℕ) (known : Option ℕ) (hose : List Endpoint) where
-  pub memory_step : (held : Held) → IsStepOf network 0 seen customer held (admission_command known hose) reply.Memory None seen held
+  pub memory_step : (held : Holding) → IsStepOf network 0 seen customer held (admission_command known hose) reply.Memory None seen held
   memory_step held = (bound_wants (book_of 0 seen) customer held known hose, refl, refl, refl)
 
-  pub untried_step : (answer : Reply) (held : Held) → IsNotTried network (book_of 0 seen) customer known hose answer → IsStepOf network 0 seen customer held (admission_command known hose) answer None seen held
+  pub untried_step : (answer : Reply) (held : Holding) → IsNotTried network (book_of 0 seen) customer known hose answer → IsStepOf network 0 seen customer held (admission_command known hose) answer None seen held
   untried_step answer held (inl is) = subst (λ (r : Reply). IsStepOf network 0 seen customer held (admission_command known hose) r None seen held) (sym is) (memory_step held)
   untried_step answer held (inr none) = not_admitted_step network 0 seen customer held known hose answer none
 
@@ -75,7 +75,7 @@ planned_bound network book customer known hose (Err answer) newest none = inr (i
 -- ---- in a turn
 
 -- want of memory adds nothing of the pass's own
-pub idle_more : (network : Network) (history : List Entry) (customer : List ℕ) (held : Held) (asked : Command) (old new : Known) → StepsAt network customer held asked reply.Memory history old new → HasSeenMore old new
+pub idle_more : (network : Network) (history : List Entry) (customer : List ℕ) (held : Holding) (asked : Command) (old new : Known) → StepsAt network customer held asked reply.Memory history old new → HasSeenMore old new
 idle_more network history customer held asked old new at =
     let none = none_joined history at.joined (ap length at.step.2) in
     record { same = at.same; own = at.own ∙ ap (λ (joined : Option Entry). old.own ++ place_of history joined) none ∙ append-nil old.own }
@@ -88,13 +88,13 @@ module _ {D : Type 0} {disk : Ghosts D} {Begins : List Entry → KeptStore D →
       (λ epoch history held here. record { entry = None; next = history; after = held; step = (tt, refl, refl, refl); sound = tt; goes = refl; book = here }) refl
 
   -- a turn in which a plan was taken
-  pub claimed_turn : (entry : Entry) → told ≡ Some entry → (held : Held) (answer : Reply) → AdmitsAtOnce (store_books disk) old new customer (record { known = bound; hose = hose }) answer (Some entry)
+  pub claimed_turn : (entry : Entry) → told ≡ Some entry → (held : Holding) (answer : Reply) → AdmitsAtOnce (store_books disk) old new customer (record { known = bound; hose = hose }) answer (Some entry)
       → AnswersTurn disk known.seen was new told customer held (admission_command bound hose) answer
   claimed_turn entry is held answer admits = subst (λ (t : Option Entry). AnswersTurn disk known.seen was new t customer held (admission_command bound hose) answer) (sym is)
       (admit_turn begun same admits.answered (Some entry) customer held (record { known = bound; hose = hose }) admits)
 
   -- or was stale
   pub settled_turn : (entry : Entry) → told ≡ Some entry → (settled : Option Reply) → MatchOption settled (new ≡ old) (λ answer. AdmitsAtOnce (store_books disk) old new customer (record { known = bound; hose = hose }) answer (Some entry))
-      → (name : List ℕ) × (held : Held) × (asked : Command) × (answer : Reply) × AnswersTurn disk known.seen was new told name held asked answer
+      → (name : List ℕ) × (held : Holding) × (asked : Command) × (answer : Reply) × AnswersTurn disk known.seen was new told name held asked answer
   settled_turn entry is None stays = (customer, none_held, command.Admit hose, reply.Memory, idle_turn stays)
   settled_turn entry is (Some answer) admits = (customer, none_held, admission_command bound hose, answer, claimed_turn entry is none_held answer admits)

@@ -21,7 +21,7 @@ use Rattle.hose_law.specs.Decision.{HasFirstFit, HaveEqualGrounds, IsPlanned}
 use Rattle.hose_law.specs.History.{book_of}
 use Rattle.hose_law.specs.Plan.{plan_cost}
 use Rattle.hose_law.specs.steps.Plan.{AreNodes}
-use Rattle.hose_law.specs.Quotes.{Held, HeldQuote, at_number, free_number, with_number}
+use Rattle.hose_law.specs.Quotes.{Holding, HeldQuote, at_number, free_number, with_number}
 use Rattle.hose_law.specs.ReplyKind.{ReplyKind, kind_of}
 use Rattle.hose_law.specs.ReplyKind.ReplyKind.{ByTheBook, ForDisk, ForMemory, ForNoCommand}
 use Rattle.hose_law.specs.Room.{first_links, room_of, safe_links}
@@ -55,9 +55,9 @@ joined_is P None Done is = tt
 joined_is P (Some entry) Done is = is entry refl refl
 joined_is P entry Disk is = tt
 
-module _ (network : Network) (history : List Entry) (customer : List ℕ) (held : Held) (asked : Command) where
+module _ (network : Network) (history : List Entry) (customer : List ℕ) (held : Holding) (asked : Command) where
   -- a step whose entry was committed is an answer
-  answered : (answer : Reply) (entry : Entry) (next : List Entry) (after : Held) → committed_of answer ≡ Done → IsStepOf network 0 history customer held asked answer (Some entry) next after
+  answered : (answer : Reply) (entry : Entry) (next : List Entry) (after : Holding) → committed_of answer ≡ Done → IsStepOf network 0 history customer held asked answer (Some entry) next after
       → IsAnswer network 0 history customer held asked answer (Some entry) after
   answered answer entry next after done step = at (kind_of answer) done step
     where
@@ -73,7 +73,7 @@ released : (book : Book) (customer : List ℕ) (id : ℕ) (answer : Reply) (entr
 released book customer id (reply.Released told at) entry is = is.4
 released book customer id answer entry is = absurd is
 
-pub release_entry : (network : Network) (history : List Entry) (customer : List ℕ) (held : Held) (id : ℕ) (answer : Reply) (entry : Option Entry) (next : List Entry) (after : Held)
+pub release_entry : (network : Network) (history : List Entry) (customer : List ℕ) (held : Holding) (id : ℕ) (answer : Reply) (entry : Option Entry) (next : List Entry) (after : Holding)
     → IsStepOf network 0 history customer held (command.Release id) answer entry next after → IfSome (joined_of entry (committed_of answer)) (λ one. one ≡ Release customer id)
 release_entry network history customer held id answer entry next after step = joined_is (λ one. one ≡ Release customer id) entry (committed_of answer) (λ one is done.
     released (book_of 0 history) customer id answer one
@@ -86,12 +86,12 @@ ordered network book customer true link (reply.Down told at) entry is = is.1.4
 ordered network book customer false link (reply.Up told at) entry is = is.1.4
 ordered network book customer down link answer entry is = absurd is.1
 
-module _ (network : Network) (history : List Entry) (customer : List ℕ) (held : Held) where
-  answer_ordered : (down : Bool) (link : ℕ) (answer : Reply) (entry : Entry) (after : Held) → IsAnswer network 0 history customer held (service_command down link) answer (Some entry) after → entry ≡ service_entry down link
+module _ (network : Network) (history : List Entry) (customer : List ℕ) (held : Holding) where
+  answer_ordered : (down : Bool) (link : ℕ) (answer : Reply) (entry : Entry) (after : Holding) → IsAnswer network 0 history customer held (service_command down link) answer (Some entry) after → entry ≡ service_entry down link
   answer_ordered true link answer entry after is = ordered network (book_of 0 history) customer true link answer entry is.0
   answer_ordered false link answer entry after is = ordered network (book_of 0 history) customer false link answer entry is.0
 
-  pub order_entry : (down : Bool) (link : ℕ) (answer : Reply) (entry : Option Entry) (next : List Entry) (after : Held) → IsStepOf network 0 history customer held (service_command down link) answer entry next after
+  pub order_entry : (down : Bool) (link : ℕ) (answer : Reply) (entry : Option Entry) (next : List Entry) (after : Holding) → IsStepOf network 0 history customer held (service_command down link) answer entry next after
       → IfSome (joined_of entry (committed_of answer)) (λ one. one ≡ service_entry down link)
   order_entry down link answer entry next after step = joined_is (λ one. one ≡ service_entry down link) entry (committed_of answer) (λ one is done.
       answer_ordered down link answer one after
@@ -137,13 +137,13 @@ module _ (network : Network) (earlier book : Book) (customer : List ℕ) (hose :
 
 -- ---- an admission
 
-module _ (network : Network) (history : List Entry) (customer : List ℕ) (held : Held) (hose : List Endpoint) where
+module _ (network : Network) (history : List Entry) (customer : List ℕ) (held : Holding) (hose : List Endpoint) where
   -- an entry is that of an admission, bound to a number or to none
-  bound_admits : (bound : Option ℕ) (answer : Reply) (entry : Entry) (after : Held) → IsAnswer network 0 history customer held (admission_command bound hose) answer (Some entry) after → IsAdmitAnswer network (book_of 0 history) customer hose answer (Some entry)
+  bound_admits : (bound : Option ℕ) (answer : Reply) (entry : Entry) (after : Holding) → IsAnswer network 0 history customer held (admission_command bound hose) answer (Some entry) after → IsAdmitAnswer network (book_of 0 history) customer hose answer (Some entry)
   bound_admits None answer entry after is = is.0
   bound_admits (Some known) answer entry after is = after_admits network (book_of 0 history) customer hose known answer entry is.0
 
-  pub admit_entry : (bound : Option ℕ) (answer : Reply) (mine : Entry) (entry : Option Entry) (next : List Entry) (after : Held) → EntersPlan customer hose answer mine
+  pub admit_entry : (bound : Option ℕ) (answer : Reply) (mine : Entry) (entry : Option Entry) (next : List Entry) (after : Holding) → EntersPlan customer hose answer mine
       → IsStepOf network 0 history customer held (admission_command bound hose) answer entry next after → IfSome (joined_of entry (committed_of answer)) (λ joined. joined ≡ mine)
   admit_entry bound answer mine entry next after enters step = joined_is (λ joined. joined ≡ mine) entry (committed_of answer) (λ joined is done.
       entered_is network (book_of 0 history) customer hose answer joined mine enters (bound_admits bound answer joined after
@@ -159,18 +159,18 @@ grounds_same network book hose differ =
     λ fit. differ (record { service = service; fits = true; safe = replicate (length network.links) false; here = (refl, fit, refl); there = (refl, fit, refl) }) in
     differ (record { service = service; fits = false; safe = safe_links (room_of network book) hose; here = (refl, no_fit, refl); there = (refl, no_fit, refl) })
 
-module _ (network : Network) (history : List Entry) (customer : List ℕ) (held : Held) (number : ℕ) (one : HeldQuote) (there : at_number held number ≡ Some one) where
-  abbrev Taken : Reply → Option Entry → List Entry → Held → Type 0
+module _ (network : Network) (history : List Entry) (customer : List ℕ) (held : Holding) (number : ℕ) (one : HeldQuote) (there : at_number held number ≡ Some one) where
+  abbrev Taken : Reply → Option Entry → List Entry → Holding → Type 0
   Taken answer entry next after = IsStepOf network 0 history customer held (command.Take number) answer entry next after
 
   abbrev earlier : Book
   earlier = book_of 0 (take one.place history)
 
-  taking : (answer : Reply) (entry : Option Entry) (after : Held) → IsTakeAnswer network 0 history customer number held (at_number held number) answer entry after
+  taking : (answer : Reply) (entry : Option Entry) (after : Holding) → IsTakeAnswer network 0 history customer number held (at_number held number) answer entry after
       → IsTakingAnswer network earlier (book_of 0 history) customer one.hose answer entry
   taking answer entry after is = (subst (λ (found : Option HeldQuote). IsTakeAnswer network 0 history customer number held found answer entry after) there is).0
 
-  pub take_entry : (plan : List ReservedLink) (cost : ℕ) (answer : Reply) (entry : Option Entry) (next : List Entry) (after : Held) → TellsPlan plan cost answer → Taken answer entry next after
+  pub take_entry : (plan : List ReservedLink) (cost : ℕ) (answer : Reply) (entry : Option Entry) (next : List Entry) (after : Holding) → TellsPlan plan cost answer → Taken answer entry next after
       → IfSome (joined_of entry (committed_of answer)) (λ joined. joined ≡ Admit customer one.hose plan)
   take_entry plan cost answer entry next after tells step = joined_is (λ joined. joined ≡ Admit customer one.hose plan) entry (committed_of answer) (λ joined is done.
       planned_is network (book_of 0 history) customer one.hose plan cost answer joined tells
@@ -178,7 +178,7 @@ module _ (network : Network) (history : List Entry) (customer : List ℕ) (held 
       (taking answer (Some joined) after (answered network history customer held (command.Take number) answer joined next after done (subst (λ (e : Option Entry). Taken answer e next after) is step)))))
 
   -- a quote that is stale at a place was made at an earlier one
-  pub stale_later : one.place ≤ length history → (answer : Reply) (seen now : ℕ) (entry : Option Entry) (next : List Entry) (after : Held) → answer ≡ reply.Stale seen now → Taken answer entry next after → (seen < now) × (now ≡ length history)
+  pub stale_later : one.place ≤ length history → (answer : Reply) (seen now : ℕ) (entry : Option Entry) (next : List Entry) (after : Holding) → answer ≡ reply.Stale seen now → Taken answer entry next after → (seen < now) × (now ≡ length history)
   stale_later within answer seen now None next after is step =
       let told = taking (reply.Stale seen now) None after (subst (λ (r : Reply). Taken r None next after) is step).0 in
       let made : seen ≡ one.place = told.0 ∙ epoch_of (take one.place history) ∙ length-take-le one.place history within in
@@ -193,7 +193,7 @@ module _ (network : Network) (history : List Entry) (customer : List ℕ) (held 
 -- ---- what a turn answered, by the command
 
 module _ {D : Type 0} {disk : Ghosts D} {Begins : List Entry → KeptStore D → Type 0} {known : Known} {count at : ℕ} {old was new : KeptStore D} {answer : Reply}
-    (begun : BeginsTurn disk Begins known count at was) (same : old ≡ was) (answered : HaveAnswered (store_books disk) old new answer) (told : Option Entry) (customer : List ℕ) (held : Held) where
+    (begun : BeginsTurn disk Begins known count at was) (same : old ≡ was) (answered : HaveAnswered (store_books disk) old new answer) (told : Option Entry) (customer : List ℕ) (held : Holding) where
   abbrev Stepped : Command → Type 0
   Stepped asked = HasStepped (store_books disk) old new 0 known.seen customer held asked answer
 
@@ -242,7 +242,7 @@ module _ {D : Type 0} {disk : Ghosts D} {Begins : List Entry → KeptStore D →
 -- ---- replies without an entry
 
 -- A reply without an entry, at all that the pass has seen then.
-pub stays_along : {network : Network} {customer : List ℕ} {held : Held} {asked : Command} {answer : Reply} {old new : Known} (after : Held) → HasSeenMore old new → committed_of answer ≡ Done
+pub stays_along : {network : Network} {customer : List ℕ} {held : Holding} {asked : Command} {answer : Reply} {old new : Known} (after : Holding) → HasSeenMore old new → committed_of answer ≡ Done
     → IsStepOf network 0 new.seen customer held asked answer None new.seen after → StepsAlong network customer held asked answer old new
 stays_along {network = network} {customer = customer} {held = held} {asked = asked} {answer = answer} {old = old} {new = new} after more done step = along_of network customer held asked answer old new new more (record {
   entry = None;
@@ -258,14 +258,14 @@ stays_along {network = network} {customer = customer} {held = held} {asked = ask
 })
 
 -- A reply without an entry, with what is held then.
-pub stays_holding : {network : Network} {customer : List ℕ} {held : Held} {asked : Command} {answer : Reply} {old new : Known} {quotes : List (Option Quote)} (after : Held) → HasSeenMore old new → committed_of answer ≡ Done
+pub stays_holding : {network : Network} {customer : List ℕ} {held : Holding} {asked : Command} {answer : Reply} {old new : Known} {quotes : List (Option Quote)} (after : Holding) → HasSeenMore old new → committed_of answer ≡ Done
     → IsStepOf network 0 new.seen customer held asked answer None new.seen after → AreHeld network 0 new.seen after quotes → StepsHolding network customer held asked answer old new quotes
 unfolding stays_along
 stays_holding after more done step are = record { along = stays_along after more done step; holds = are }
 
 -- ---- what was planned, or not
 
-module _ (network : Network) (seen : List Entry) (customer : List ℕ) (held : Held) (hose : List Endpoint) where
+module _ (network : Network) (seen : List Entry) (customer : List ℕ) (held : Holding) (hose : List Endpoint) where
   pub unplanned_quote : (answer : Reply) → IsSome (free_number held) → IsNotPlanned network (book_of 0 seen) hose answer → IsStepOf network 0 seen customer held (command.Quote hose) answer None seen held
   unplanned_quote reply.Memory some is = (some, refl, refl, refl)
   unplanned_quote (reply.Refused at side) some is = ((refl, (is.0, some, is.1, refl)), refl)
@@ -283,7 +283,7 @@ module _ (network : Network) (seen : List Entry) (customer : List ℕ) (held : H
   pub told_quote : (quote : Quote) (number : ℕ) (quotes now : List (Option Quote)) (answer : Reply) → AreHeld network 0 seen held quotes → free_number held ≡ Some number → IsPlannedFor network (book_of 0 seen) hose quote
       → HasTold number quote quotes now answer
       → ((one : HeldQuote) → IsQuoteOf network 0 seen one quote → AreHeld network 0 seen (with_number held number (Some one)) (with_number quotes number (Some quote)))
-      → (after : Held) × IsStepOf network 0 seen customer held (command.Quote hose) answer None seen after × AreHeld network 0 seen after now × (committed_of answer ≡ Done)
+      → (after : Holding) × IsStepOf network 0 seen customer held (command.Quote hose) answer None seen after × AreHeld network 0 seen after now × (committed_of answer ≡ Done)
   told_quote quote number quotes now reply.Memory are free planned told put = (held, (subst IsSome (sym free) refl, refl, refl, refl), subst (AreHeld network 0 seen held) (sym told) are, refl)
   told_quote quote number quotes now (reply.Quoted given cost at amounts) are free planned (is_number, is_cost, is_at, is_amounts, is_now) put =
       let one : HeldQuote = record { hose = hose; place = length seen } in
@@ -299,16 +299,16 @@ module _ (network : Network) (seen : List Entry) (customer : List ℕ) (held : H
       )
   told_quote quote number quotes now answer are free planned told put = absurd told
 
-module _ (network : Network) (seen : List Entry) (customer : List ℕ) (held : Held) (number : ℕ) where
+module _ (network : Network) (seen : List Entry) (customer : List ℕ) (held : Holding) (number : ℕ) where
   -- nothing stands at the number
   pub no_quote : (at : ℕ) → at ≡ (book_of 0 seen).epoch → at_number held number ≡ None → IsStepOf network 0 seen customer held (command.Take number) (reply.NoQuote number at) None seen held
   no_quote at here none = (subst (λ (found : Option HeldQuote). IsTakeAnswer network 0 seen customer number held found (reply.NoQuote number at) None held) (sym none) (ap (reply.NoQuote number) here, refl, refl), refl)
 
-  taken_by : (one : HeldQuote) → at_number held number ≡ Some one → (given : Reply) (entry : Option Entry) (after : Held) → IsTakeAnswer network 0 seen customer number held (at_number held number) given entry after → after ≡ with_number held number None
+  taken_by : (one : HeldQuote) → at_number held number ≡ Some one → (given : Reply) (entry : Option Entry) (after : Holding) → IsTakeAnswer network 0 seen customer number held (at_number held number) given entry after → after ≡ with_number held number None
   taken_by one there given entry after is = (subst (λ (found : Option HeldQuote). IsTakeAnswer network 0 seen customer number held found given entry after) there is).1
 
   -- a take that was answered has used its quote up
-  pub taken_after : (one : HeldQuote) → at_number held number ≡ Some one → (answer : Reply) (entry : Option Entry) (next : List Entry) (after : Held) → answer ≢ reply.Memory
+  pub taken_after : (one : HeldQuote) → at_number held number ≡ Some one → (answer : Reply) (entry : Option Entry) (next : List Entry) (after : Holding) → answer ≢ reply.Memory
       → IsStepOf network 0 seen customer held (command.Take number) answer entry next after → after ≡ with_number held number None
   taken_after one there answer entry next after told step = elim (step_cases network 0 seen customer held (command.Take number) answer entry next after step) [
     | inl idle ↦ absurd (told idle.tells)

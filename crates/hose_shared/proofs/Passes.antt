@@ -14,7 +14,7 @@ use Rattle.hose_graph.specs.declared.command.Reply.{Reply}
 use Rattle.hose_graph.specs.Network.{Network}
 use Rattle.hose_law.specs.Answer.{IsStepOf, with_entry}
 use Rattle.hose_law.specs.History.{IsDecidedAt, book_of}
-use Rattle.hose_law.specs.Quotes.{Held}
+use Rattle.hose_law.specs.Quotes.{Holding}
 use Rattle.hose_law.proofs.Fronts.{front_of, prefix_length, prefix_on, prefix_same}
 use Rattle.hose_law.proofs.Transcripts.{front_longer}
 use Rattle.hose_book.specs.steps.Commit.{IsMet}
@@ -62,7 +62,7 @@ same_on one two three here there = record {
 pub more_on : (one two three : Known) → HasSeenMore one two → HasSeenMore two three → HasSeenMore one three
 more_on one two three here there = record { same = same_on one two three here.same there.same; own = there.own ∙ here.own }
 
-module _ (network : Network) (customer : List ℕ) (held : Held) (command : Command) (answer : Reply) where
+module _ (network : Network) (customer : List ℕ) (held : Holding) (command : Command) (answer : Reply) where
   -- a step of a pass that had seen more
   abbrev pub along_on : (one two three : Known) → HasSeenMore one two → StepsAlong network customer held command answer two three → StepsAlong network customer held command answer one three
   along_on one two three more along = record {

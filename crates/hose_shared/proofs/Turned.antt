@@ -10,7 +10,7 @@ use Rattle.hose_graph.specs.declared.command.Reply.{Reply}
 use Rattle.hose_law.specs.Answer.{IsStepOf, with_entry}
 use Rattle.hose_law.specs.Book.{Book}
 use Rattle.hose_law.specs.History.{IsDecidedAt, book_of}
-use Rattle.hose_law.specs.Quotes.{Held}
+use Rattle.hose_law.specs.Quotes.{Holding}
 use Rattle.hose_law.specs.Tracks.{Tracks}
 use Rattle.hose_law.proofs.Cheapest.{canonical_cheapest}
 use Rattle.hose_book.specs.steps.Commit.{IsMet}
@@ -85,7 +85,7 @@ others_joined known (Some entry) = (refl, refl, refl, refl)
 
 -- ---- the store
 
-module _ {D : Type 0} (disk : Ghosts D) (Begins : List Entry → KeptStore D → Type 0) (origin : Origin) (history : List Entry) (old new : KeptStore D) (customer : List ℕ) (held : Held) (command : Command) (answer : Reply)
+module _ {D : Type 0} (disk : Ghosts D) (Begins : List Entry → KeptStore D → Type 0) (origin : Origin) (history : List Entry) (old new : KeptStore D) (customer : List ℕ) (held : Holding) (command : Command) (answer : Reply)
     (stood : StandsShared disk Begins origin history old) (stepped : HasStepped (store_books disk) old new 0 history customer held command answer)
     (network : new.ledger.network ≡ old.ledger.network) where
   abbrev pub joined : Option Entry
@@ -183,7 +183,7 @@ one_told None told entry some is = tt
 one_told (Some one) told entry some is = cc (is, some)
 
 -- A turn's answer by what the store was, which is what the call that answered has begun with.
-pub answers_turn : {D : Type 0} (disk : Ghosts D) (before : List Entry) (old was new : KeptStore D) (told : Option Entry) (customer : List ℕ) (held : Held) (command : Command) (answer : Reply) → old ≡ was
+pub answers_turn : {D : Type 0} (disk : Ghosts D) (before : List Entry) (old was new : KeptStore D) (told : Option Entry) (customer : List ℕ) (held : Holding) (command : Command) (answer : Reply) → old ≡ was
     → (stepped : HasStepped (store_books disk) old new 0 before customer held command answer) → new.ledger.network ≡ old.ledger.network
     → IsMet (object_frame (disk.frame old.journal.disk)) (committed_of answer) (object_frame (disk.frame new.journal.disk))
     → (new ≡ old) ⊎ IfSome (joined_of stepped.entry (committed_of answer)) (λ one. told ≡ Some one) → AnswersTurn disk before was new told customer held command answer
@@ -192,7 +192,7 @@ answers_turn disk before old was new told customer held command answer same step
 
 -- and where the store was only read
 pub reads_turn : {D : Type 0} {disk : Ghosts D} {Begins : List Entry → KeptStore D → Type 0} {known : Known} {count at : ℕ} {read was now : KeptStore D} {told : Option Entry} {answer : Reply} → BeginsTurn disk Begins known count at was → read ≡ was → now ≡ was
-    → (customer : List ℕ) (held : Held) (command : Command) → StepsAtEach (store_books disk) read read customer command answer → committed_of answer ≡ Done → AnswersTurn disk known.seen was now told customer held command answer
+    → (customer : List ℕ) (held : Holding) (command : Command) → StepsAtEach (store_books disk) read read customer command answer → committed_of answer ≡ Done → AnswersTurn disk known.seen was now told customer held command answer
 reads_turn {disk = disk} {known = known} {read = read} {was = was} {told = told} {answer = answer} begun same stays customer held command steps done =
     subst (λ (s : KeptStore _). AnswersTurn disk known.seen was s told customer held command answer) (sym stays)
     (subst (λ (s : KeptStore _). AnswersTurn disk known.seen s s told customer held command answer) same (record {
@@ -203,12 +203,12 @@ reads_turn {disk = disk} {known = known} {read = read} {was = was} {told = told}
     }))
 
 -- a turn loses no fault that was met
-pub turn_above : {D : Type 0} {disk : Ghosts D} {Begins : List Entry → KeptStore D → Type 0} {known : Known} {floor epoch : ℕ} {before : List Entry} {old new : KeptStore D} {told : Option Entry} {customer : List ℕ} {held : Held} {command : Command} {answer : Reply}
+pub turn_above : {D : Type 0} {disk : Ghosts D} {Begins : List Entry → KeptStore D → Type 0} {known : Known} {floor epoch : ℕ} {before : List Entry} {old new : KeptStore D} {told : Option Entry} {customer : List ℕ} {held : Holding} {command : Command} {answer : Reply}
     → BeginsTurn disk Begins known floor epoch old → AnswersTurn disk before old new told customer held command answer → floor ≤ faults_in disk new
 turn_above {disk = disk} {old = old} {new = new} {answer = answer} begun turn =
     omega (arith, met_above (object_frame (disk.frame old.journal.disk)) (object_frame (disk.frame new.journal.disk)) (committed_of answer) turn.met, begun.floor)
 
-module _ {D : Type 0} {disk : Ghosts D} {Begins : List Entry → KeptStore D → Type 0} {known : Known} {floor epoch : ℕ} {old new : KeptStore D} {told : Option Entry} {customer : List ℕ} {held : Held} {command : Command} {answer : Reply}
+module _ {D : Type 0} {disk : Ghosts D} {Begins : List Entry → KeptStore D → Type 0} {known : Known} {floor epoch : ℕ} {old new : KeptStore D} {told : Option Entry} {customer : List ℕ} {held : Holding} {command : Command} {answer : Reply}
     (begun : BeginsTurn disk Begins known floor epoch old) (turn : AnswersTurn disk known.seen old new told customer held command answer) where
   abbrev pub entered : Option Entry
   entered = joined_of turn.stepped.entry (committed_of answer)

@@ -3,7 +3,7 @@ ghost use Rattle.std.specs.Prelude.{◌≡◌, List, option_map, ℕ};
 ghost use Rattle.hose_graph.specs.declared.command.Command.{Command};
 ghost use Rattle.hose_graph.specs.declared.command.Reply.{Reply};
 ghost use Rattle.hose_graph.specs.declared.entry.Entry.{Entry};
-ghost use Rattle.hose_law.specs.Quotes.{Held as HeldQuotes};
+ghost use Rattle.hose_law.specs.Quotes.{Holding};
 ghost use Rattle.hose_turn.specs.steps.Held.{floor_of, holder, value_of};
 ghost use Rattle.hose_shared.specs.steps.Sharing.{HasSeenMore, IsPassOf};
 ghost use Rattle.hose_shared.specs.steps.Turns.{AnswersTurn, BeginsTurn, StepsAt};
@@ -57,11 +57,11 @@ impl<D: Disk, B: Begun<D>> Shared<D, B> {
         requires network { start.was.value.store.ledger.network ≡ self.now.network }
         requires begun { BeginsTurn D.Disk B.begins (holder held) (floor_of held) start.epoch
             start.was.value.store }
-        requires answers { (customer : List ℕ) × (quotes : HeldQuotes) × (command : Command)
+        requires answers { (customer : List ℕ) × (quotes : Holding) × (command : Command)
             × (answer : Reply) × AnswersTurn D.Disk (holder held).seen start.was.value.store
             (value_of held).store (option_map (λ one. one.value) entry) customer quotes command
             answer }
-        ensures { (customer : List ℕ) (quotes : HeldQuotes) (command : Command)
+        ensures { (customer : List ℕ) (quotes : Holding) (command : Command)
             (answer : Reply) → AnswersTurn D.Disk (holder held).seen start.was.value.store
             (value_of held).store (option_map (λ one. one.value) entry) customer quotes command
             answer → StepsAt self.now.network customer quotes command answer (holder held).seen

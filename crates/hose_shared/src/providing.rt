@@ -1,4 +1,5 @@
 // A shared book, as it answers one customer along a pass.
+ghost use Rattle.std.specs.Prelude.{◌≡◌, IsSome, Some};
 
 use crate::caller::{Caller, Context};
 use crate::kept::Begun;
@@ -47,17 +48,9 @@ impl<'a, W: Wait, D: Disk, B: Begun<D>, G: Gate> Provider for SharedProvider<'a,
         asked: Admission,
         rows: &mut R,
     ) -> Reply {
-        let Some(pass) = self.pass.take() else {
-            unreachable!();
-        };
-        let caller = Caller {
-            context: self.context,
-            session: self.session,
-            customer,
-        };
-        let (reply, pass) = self.shared.admit_bound(&caller, pass, asked, rows);
-        self.pass = Some(pass);
-        reply
+        let (caller, pass) = caller_with_pass(self.context, self.session, &mut self.pass, customer);
+        let answered = self.shared.admit_bound(&caller, pass, asked, rows);
+        reply_with_pass_back(&mut self.pass, answered)
     }
 
     fn quote<R: RowMaker>(
@@ -67,102 +60,78 @@ impl<'a, W: Wait, D: Disk, B: Begun<D>, G: Gate> Provider for SharedProvider<'a,
         hose: Hose,
         rows: &mut R,
     ) -> Reply {
-        let Some(pass) = self.pass.take() else {
-            unreachable!();
-        };
-        let caller = Caller {
-            context: self.context,
-            session: self.session,
-            customer,
-        };
-        let (reply, pass) = self
+        let (caller, pass) = caller_with_pass(self.context, self.session, &mut self.pass, customer);
+        let answered = self
             .shared
             .quote(&caller, pass, &mut self.quotes, hose, rows);
-        self.pass = Some(pass);
-        reply
+        reply_with_pass_back(&mut self.pass, answered)
     }
 
     fn take(&mut self, _alloc: Global, customer: &Name, number: u64) -> Reply {
-        let Some(pass) = self.pass.take() else {
-            unreachable!();
-        };
-        let caller = Caller {
-            context: self.context,
-            session: self.session,
-            customer,
-        };
-        let (reply, pass) = self.shared.take(&caller, pass, &mut self.quotes, number);
-        self.pass = Some(pass);
-        reply
+        let (caller, pass) = caller_with_pass(self.context, self.session, &mut self.pass, customer);
+        let answered = self.shared.take(&caller, pass, &mut self.quotes, number);
+        reply_with_pass_back(&mut self.pass, answered)
     }
 
     fn release(&mut self, _alloc: Global, customer: &Name, id: u64) -> Reply {
-        let Some(pass) = self.pass.take() else {
-            unreachable!();
-        };
-        let caller = Caller {
-            context: self.context,
-            session: self.session,
-            customer,
-        };
-        let (reply, pass) = self.shared.release(&caller, pass, id);
-        self.pass = Some(pass);
-        reply
+        let (caller, pass) = caller_with_pass(self.context, self.session, &mut self.pass, customer);
+        let answered = self.shared.release(&caller, pass, id);
+        reply_with_pass_back(&mut self.pass, answered)
     }
 
     fn show(&mut self, _alloc: Global, customer: &Name, id: u64) -> Reply {
-        let Some(pass) = self.pass.take() else {
-            unreachable!();
-        };
-        let caller = Caller {
-            context: self.context,
-            session: self.session,
-            customer,
-        };
-        let (reply, pass) = self.shared.show(&caller, pass, id);
-        self.pass = Some(pass);
-        reply
+        let (caller, pass) = caller_with_pass(self.context, self.session, &mut self.pass, customer);
+        let answered = self.shared.show(&caller, pass, id);
+        reply_with_pass_back(&mut self.pass, answered)
     }
 
     fn vpns(&mut self, _alloc: Global, customer: &Name) -> Reply {
-        let Some(pass) = self.pass.take() else {
-            unreachable!();
-        };
-        let caller = Caller {
-            context: self.context,
-            session: self.session,
-            customer,
-        };
-        let (reply, pass) = self.shared.vpns(&caller, pass);
-        self.pass = Some(pass);
-        reply
+        let (caller, pass) = caller_with_pass(self.context, self.session, &mut self.pass, customer);
+        let answered = self.shared.vpns(&caller, pass);
+        reply_with_pass_back(&mut self.pass, answered)
     }
 
     fn link(&mut self, _alloc: Global, customer: &Name, link: u32) -> Reply {
-        let Some(pass) = self.pass.take() else {
-            unreachable!();
-        };
-        let caller = Caller {
-            context: self.context,
-            session: self.session,
-            customer,
-        };
-        let (reply, pass) = self.shared.link(&caller, pass, link);
-        self.pass = Some(pass);
-        reply
+        let (caller, pass) = caller_with_pass(self.context, self.session, &mut self.pass, customer);
+        let answered = self.shared.link(&caller, pass, link);
+        reply_with_pass_back(&mut self.pass, answered)
     }
 
     fn operate(&mut self, _alloc: Global, customer: &Name, link: u32, down: bool) -> Reply {
-        let Some(pass) = self.pass.take() else {
-            unreachable!();
-        };
-        let caller = Caller {
-            context: self.context,
-            session: self.session,
-            customer,
-        };
-        let (reply, pass) = self.shared.operate(&caller, pass, link, down);
-        self.pass = Some(pass);
-        reply
+        let (caller, pass) = caller_with_pass(self.context, self.session, &mut self.pass, customer);
+        let answered = self.shared.operate(&caller, pass, link, down);
+        reply_with_pass_back(&mut self.pass, answered)
     }
+}
+
+// Who calls, and the pass that is at hand, with which a command begins.
+fn caller_with_pass<'a, W, G>(
+    context: &'a Context<'a, W, G>,
+    session: u64,
+    at_hand: &mut Option<Pass>,
+    customer: &'a Name,
+) -> (Caller<'a, W, G>, Pass)
+    requires { IsSome at_hand.old }
+    ensures customer { result.0.customer.now ≡ customer.now }
+    ensures pass { at_hand.old ≡ Some result.1 }
+{
+    let Some(pass) = at_hand.take() else {
+        unreachable!();
+    };
+    let caller = Caller {
+        context,
+        session,
+        customer,
+    };
+    (caller, pass)
+}
+
+// The reply that a command came to, whose pass is at hand again.
+fn reply_with_pass_back(at_hand: &mut Option<Pass>, answered: (Reply, Pass)) -> Reply
+    ensures reply { result ≡ answered.0 }
+    ensures pass { at_hand.new ≡ Some answered.1 }
+{
+    let (reply, pass) = answered;
+    *at_hand = Some(pass);
+    reply
 }

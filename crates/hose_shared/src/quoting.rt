@@ -4,7 +4,7 @@ ghost use Rattle.hose_graph.specs.steps.Naming.{NamesPlaces};
 ghost use Rattle.hose_graph.specs.declared.command.Command.{Command};
 ghost use Rattle.hose_graph.specs.declared.command.Reply.{Reply};
 ghost use Rattle.hose_law.specs.steps.Plan.{AreNodes};
-ghost use Rattle.hose_law.specs.Quotes.{Held as HeldQuotes, HeldQuote, at_number};
+ghost use Rattle.hose_law.specs.Quotes.{Holding, HeldQuote, at_number};
 ghost use Rattle.hose_store.specs.steps.Commit.{store_books};
 ghost use Rattle.hose_core.specs.steps.Claiming.{IsClaimOf};
 ghost use Rattle.hose_core.specs.steps.Holding.{AreHeld, IsQuoteOf};
@@ -38,9 +38,9 @@ impl<D: Disk, B: Begun<D>> Shared<D, B> {
     ) -> (Reply, Pass)
         requires of { IsPassOf self.now pass }
         requires nodes { AreNodes self.now.network hose }
-        requires quotes { (held : HeldQuotes)
+        requires quotes { (held : Holding)
             × AreHeld self.now.network 0 pass.seen held quotes.old }
-        ensures steps { (customer : List ℕ) (held : HeldQuotes)
+        ensures steps { (customer : List ℕ) (held : Holding)
             → AreHeld self.now.network 0 pass.seen held quotes.old
             → StepsHolding self.now.network customer held (Command.Quote hose) result.0
             pass result.1 quotes.new }
@@ -68,9 +68,9 @@ impl<D: Disk, B: Begun<D>> Shared<D, B> {
         quote: u64,
     ) -> (Reply, Pass)
         requires of { IsPassOf self.now pass }
-        requires quotes { (held : HeldQuotes)
+        requires quotes { (held : Holding)
             × AreHeld self.now.network 0 pass.seen held quotes.old }
-        ensures steps { (held : HeldQuotes) → AreHeld self.now.network 0 pass.seen held quotes.old
+        ensures steps { (held : Holding) → AreHeld self.now.network 0 pass.seen held quotes.old
             → StepsHolding self.now.network caller.now.customer.now held (Command.Take quote)
             result.0 pass result.1 quotes.new }
         // Of a stale quote both numbers are of this history, and other entries came after it.
@@ -103,7 +103,7 @@ impl<D: Disk, B: Begun<D>> Shared<D, B> {
             × IsQuoteOf self.now.network 0 pass.seen one quote.now }
         requires claim { (customer : List ℕ)
             × IsClaimOf (store_books D.Disk) claim customer quote.now }
-        ensures steps { (customer : List ℕ) (holds : HeldQuotes) (number : ℕ) (one : HeldQuote)
+        ensures steps { (customer : List ℕ) (holds : Holding) (number : ℕ) (one : HeldQuote)
             → IsClaimOf (store_books D.Disk) claim customer quote.now
             → at_number holds number ≡ Some one
             → IsQuoteOf self.now.network 0 pass.seen one quote.now

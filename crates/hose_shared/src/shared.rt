@@ -6,8 +6,7 @@ ghost use Rattle.hose_graph.specs.declared.entry.Entry.{Entry};
 ghost use Rattle.hose_law.specs.Tracks.{Tracks};
 ghost use Rattle.hose_book.specs.Ledger.{HasBookOf};
 ghost use Rattle.hose_turn.specs.Faults.{end_of_count};
-ghost use Rattle.hose_turn.specs.steps.Known.{first_known, HasOwnPlaces};
-ghost use Rattle.hose_turn.specs.steps.Places.{AreApart};
+ghost use Rattle.hose_turn.specs.steps.Known.{first_known, HasJoined};
 ghost use Rattle.hose_shared.specs.steps.Closing.{HasShared};
 ghost use Rattle.hose_shared.specs.steps.Keeping.{StandsShared};
 ghost use Rattle.hose_shared.specs.steps.Sharing.{HasSeenMore, IsPassOf};
@@ -138,15 +137,7 @@ impl<D: Disk, B: Begun<D>> Shared<D, B> {
     pub fn join(&self, pass: &mut Pass, other: Pass)
         requires of { IsPassOf self.now pass.old }
         requires other { IsPassOf self.now other }
-        ensures same { (pass.new.turn ≡ pass.old.turn) × (pass.new.origin ≡ pass.old.origin) }
-        ensures share { pass.new.share ≡ pass.old.share + other.share }
-        ensures own { pass.new.own ≡ pass.old.own ++ other.own }
-        ensures apart { AreApart pass.old.own other.own }
-        ensures places { HasOwnPlaces pass.new }
-        ensures faults { pass.new.faults ≡ pass.old.faults + other.faults }
-        ensures one { (pass.new.seen ≡ pass.old.seen) ⊎ (pass.new.seen ≡ other.seen) }
-        ensures seen { IsPrefix pass.old.seen pass.new.seen }
-        ensures told { IsPrefix other.seen pass.new.seen }
+        ensures { HasJoined pass.old other pass.new }
     {
         self.turn.join(pass, other);
     }

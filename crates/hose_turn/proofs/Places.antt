@@ -22,9 +22,6 @@ one_within-none first place = grind (arith, nat_tests)
 one_within-one : (first last place : ℕ) → one_within first last place ≤ 1
 one_within-one first last place = grind (arith, nat_tests)
 
-one_within-longer : (first last more place : ℕ) → last ≤ more → one_within first last place ≤ one_within first more place
-one_within-longer first last more place le = grind (arith, nat_tests)
-
 -- where two have a place once together, and each has it below a bound, they have it once below what neither bound is above
 one_within-both : (first last since one after other longer place a b : ℕ) → a + b ≤ one_within first last place → a ≤ one_within since one place → b ≤ one_within after other place
     → one ≤ longer → other ≤ longer → a + b ≤ one_within first longer place
@@ -32,12 +29,6 @@ one_within-both first last since one after other longer place a b both mine thei
 
 pub no_places : (first last : ℕ) → HasSomePlaces first last []
 no_places first last place = omega arith
-
-pub places_longer : (first last more : ℕ) (places : List ℕ) → last ≤ more → HasSomePlaces first last places → HasSomePlaces first more places
-places_longer first last more places le are place = let a = are place in let b = one_within-longer first last more place le in omega arith
-
-pub places_push : (first last : ℕ) (places : List ℕ) → first ≤ last → HasSomePlaces first last places → HasSomePlaces first (last + 1) (places ++ last ∷ [])
-places_push first last places le are place = let a = are place in omega (arith, times-append place places (last ∷ []), one_within-push first last place le)
 
 pub places_both : (first last since one after other longer : ℕ) (places others : List ℕ) → HasSomePlaces first last (places ++ others) → HasSomePlaces since one places → HasSomePlaces after other others
     → one ≤ longer → other ≤ longer → HasSomePlaces first longer (places ++ others)

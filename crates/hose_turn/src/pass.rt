@@ -6,7 +6,7 @@ ghost use Rattle.hose_turn.specs.steps.Limits.{all_shares};
 ghost use Rattle.hose_turn.specs.steps.Places.{HasSomePlaces};
 ghost use Rattle.hose_turn.specs.steps.Views.{known_of, IsAtRest};
 
-use crate::rule::Place;
+use crate::rule::BoardSeat;
 use crate::view::View;
 use atomic_table::Badge;
 use std::marker::Model;
@@ -49,7 +49,7 @@ impl Pass {
         let _badge = &self.badge;
     }
 
-    pub(crate) fn into_place<S>(self) -> Place<S>
+    pub(crate) fn take_seat<S>(self) -> BoardSeat<S>
         ensures known { known_of result.table_id result.me.0 ≡ self }
         ensures rests { IsAtRest result.me.0 }
         ensures slots { result.me.1 ≡ [] }
@@ -58,28 +58,28 @@ impl Pass {
         badge.into_seat()
     }
 
-    pub(crate) fn of<S>(place: Place<S>) -> Pass
-        requires rests { IsAtRest place.me.0 }
-        requires slots { place.me.1 ≡ [] }
-        ensures { result ≡ known_of place.table_id place.me.0 }
+    pub(crate) fn of<S>(seat: BoardSeat<S>) -> Pass
+        requires rests { IsAtRest seat.me.0 }
+        requires slots { seat.me.1 ≡ [] }
+        ensures { result ≡ known_of seat.table_id seat.me.0 }
     {
         Pass {
-            badge: place.into_badge(),
+            badge: seat.into_badge(),
         }
     }
 }
 
 /// A pass that has the turn, with the value. It is not `Drop`: a turn ends by `unlock`.
 pub struct Held<S> {
-    pub(crate) place: Place<S>,
+    pub(crate) seat: BoardSeat<S>,
     pub(crate) value: S,
-    ghost live: { 0 < place.me.0.share },
-    ghost turn: { place.me.0.has_turn ≡ true },
-    ghost told: { place.me.0.told ≡ [] },
-    ghost slot: { place.me.1 ≡ (0, None) ∷ [] },
-    ghost since: { length place.me.0.origin.since ≤ length place.me.0.seen },
-    ghost own: { HasSomePlaces (length place.me.0.origin.since) (length place.me.0.seen)
-        place.me.0.own },
+    ghost live: { 0 < seat.me.0.share },
+    ghost turn: { seat.me.0.has_turn ≡ true },
+    ghost told: { seat.me.0.told ≡ [] },
+    ghost slot: { seat.me.1 ≡ (0, None) ∷ [] },
+    ghost since: { length seat.me.0.origin.since ≤ length seat.me.0.seen },
+    ghost own: { HasSomePlaces (length seat.me.0.origin.since) (length seat.me.0.seen)
+        seat.me.0.own },
 }
 
 impl<S> Held<S> {

@@ -32,7 +32,7 @@ impl<S: HoldsHistory> TableRule<Option<S>, View, ()> for OneHistory {
 
 pub(crate) type Board<S> = Table<Option<S>, View, (), OneHistory, Global>;
 
-pub(crate) type Place<S> = Seat<Option<S>, View>;
+pub(crate) type BoardSeat<S> = Seat<Option<S>, View>;
 
 /// The first pass takes the turn at a table that has no value yet.
 pub(crate) struct Begin;
@@ -63,11 +63,11 @@ impl<S: HoldsHistory> Play<Option<S>, View> for Look {
 }
 
 /// The history gains an entry, which is the pass's own.
-pub(crate) struct Count<N> {
+pub(crate) struct CountEntry<N> {
     named: PhantomData<N>,
 }
 
-impl<S, N: Counted> Play<Option<S>, View> for Count<N> {
+impl<S, N: Counted> Play<Option<S>, View> for CountEntry<N> {
     ghost then = { Counts N.entry };
 }
 

@@ -4,18 +4,18 @@ ghost use mathlib.Core.List.{IsPrefix};
 ghost use Rattle.hose_graph.specs.declared.entry.Entry.{Entry};
 ghost use Rattle.hose_turn.specs.declared.view.Origin.{Origin};
 ghost use Rattle.std.specs.Borrow.{sem, follows};
-ghost use Rattle.hose_turn.specs.steps.Known.{first_known, with_own_entry, HasOwnPlaces, HasWholeHistory};
-ghost use Rattle.hose_turn.specs.steps.Places.{AreApart};
+ghost use Rattle.hose_turn.specs.steps.Known.{first_known, HasJoined, HasOwnPlaces, HasWholeHistory};
 ghost use Rattle.hose_turn.specs.Faults.{end_of_count};
 ghost use Rattle.hose_turn.specs.steps.Faults.{rise};
 ghost use Rattle.hose_turn.specs.steps.Views.{unborn, opener};
-ghost use Rattle.hose_turn.specs.steps.Held.{holder, value_of, floor_of};
+ghost use Rattle.hose_turn.specs.steps.Held.{holder, value_of, floor_of, HasCounted};
 ghost use Rattle.hose_turn.specs.contracts.pass.Held.{the_row};
 
 use crate::bells::Bells;
 use crate::pass::{ALL_SHARES, Held, Pass};
 use crate::rule::{
-    Begin, Board, Count, Cut, Draw, EPOCH, Glue, Look, Open, PassOn, Place, SERVING, Settle, TICKET,
+    Begin, Board, BoardSeat, CountEntry, Cut, Draw, EPOCH, Glue, Look, Open, PassOn, SERVING,
+    Settle, TICKET,
 };
 use crate::view::{Counted, HoldsHistory};
 use atomic_table::{Badge, Table};
@@ -84,30 +84,30 @@ impl<S: HoldsHistory + Drop> Turn<S> {
             return Err(value);
         };
         let words = [0, ticket.wrapping_add(1), ticket];
-        let Ok((board, mut place)) = Table::vacant(alloc, &words, 1, &()) else {
+        let Ok((board, mut seat)) = Table::vacant(alloc, &words, 1, &()) else {
             return Err(value);
         };
-        Turn::begin(&board, &mut place, value);
-        board.shared.fetch_add::<Open>(&mut place, SERVING, 1);
-        Ok((Turn { board, bells }, Pass::of(place)))
+        Turn::begin(&board, &mut seat, value);
+        board.shared.fetch_add::<Open>(&mut seat, SERVING, 1);
+        Ok((Turn { board, bells }, Pass::of(seat)))
     }
 
     /// The first pass has the turn at a table with no value, and has the value.
-    fn begin(board: &Board<S>, place: &mut Place<S>, value: S)
+    fn begin(board: &Board<S>, seat: &mut BoardSeat<S>, value: S)
         requires words { board.now.shared.table_id.words ≡ 3 }
-        requires table { place.old.table_id ≡ board.now.shared.table_id }
-        requires unborn { place.old.me ≡ (unborn, []) }
+        requires table { seat.old.table_id ≡ board.now.shared.table_id }
+        requires unborn { seat.old.me ≡ (unborn, []) }
         requires stands { (origin : Origin) × S.stands origin origin.since value }
-        ensures table { place.new.table_id ≡ place.old.table_id }
+        ensures table { seat.new.table_id ≡ seat.old.table_id }
         ensures begun { (origin : Origin) × (ticket : ℕ) × S.stands origin origin.since value
-            × (place.new.me ≡ (opener origin ticket (S.faults value), (0, Some value) ∷ [])) }
+            × (seat.new.me ≡ (opener origin ticket (S.faults value), (0, Some value) ∷ [])) }
     {
         let epoch = value.epoch();
         let value = Some(value);
         board
             .shared
-            .compare_exchange_with::<Begin>(place, EPOCH, 0, epoch, &value);
-        board.shared.exchange(place, 0, value);
+            .compare_exchange_with::<Begin>(seat, EPOCH, 0, epoch, &value);
+        board.shared.exchange(seat, 0, value);
     }
 
     /// One share of the pass goes to a new pass, which has seen as much. Both have one at least.
@@ -118,9 +118,9 @@ impl<S: HoldsHistory + Drop> Turn<S> {
         ensures given { result ≡ record pass.old { share = 1; own = []; faults = 0 } }
     {
         let badge = replace(&mut pass.badge, Badge::blank());
-        let mut place: Place<S> = badge.into_seat();
-        let other = self.board.shared.split_seat::<Cut>(&mut place);
-        pass.badge = place.into_badge();
+        let mut seat: BoardSeat<S> = badge.into_seat();
+        let other = self.board.shared.split_seat::<Cut>(&mut seat);
+        pass.badge = seat.into_badge();
         Pass::of(other)
     }
 
@@ -128,23 +128,15 @@ impl<S: HoldsHistory + Drop> Turn<S> {
     pub fn join(&self, pass: &mut Pass, other: Pass)
         requires turn { pass.old.turn ≡ self.now }
         requires other { other.turn ≡ self.now }
-        ensures same { (pass.new.turn ≡ pass.old.turn) × (pass.new.origin ≡ pass.old.origin) }
-        ensures share { pass.new.share ≡ pass.old.share + other.share }
-        ensures own { pass.new.own ≡ pass.old.own ++ other.own }
-        ensures apart { AreApart pass.old.own other.own }
-        ensures places { HasOwnPlaces pass.new }
-        ensures faults { pass.new.faults ≡ pass.old.faults + other.faults }
-        ensures one { (pass.new.seen ≡ pass.old.seen) ⊎ (pass.new.seen ≡ other.seen) }
-        ensures seen { IsPrefix pass.old.seen pass.new.seen }
-        ensures told { IsPrefix other.seen pass.new.seen }
+        ensures { HasJoined pass.old other pass.new }
     {
         let badge = replace(&mut pass.badge, Badge::blank());
-        let mut place: Place<S> = badge.into_seat();
+        let mut seat: BoardSeat<S> = badge.into_seat();
         self.board
             .shared
-            .join_seat::<Glue>(&mut place, other.into_place());
-        self.board.shared.load::<Settle>(&mut place, EPOCH);
-        pass.badge = place.into_badge();
+            .join_seat::<Glue>(&mut seat, other.take_seat());
+        self.board.shared.load::<Settle>(&mut seat, EPOCH);
+        pass.badge = seat.into_badge();
     }
 
     /// Waits until the pass's turn has come, asleep where that takes longer, and takes the value.
@@ -156,13 +148,13 @@ impl<S: HoldsHistory + Drop> Turn<S> {
         ensures floor { floor_of result ≡ S.faults (value_of result) }
         ensures places { HasOwnPlaces (holder result) }
     {
-        let mut place: Place<S> = pass.into_place();
-        let mine = self.board.shared.fetch_add::<Draw>(&mut place, TICKET, 1);
+        let mut seat: BoardSeat<S> = pass.take_seat();
+        let mine = self.board.shared.fetch_add::<Draw>(&mut seat, TICKET, 1);
         let mut looks = 0;
         for _ in rt.forever() {
-            if self.board.shared.load::<Look>(&mut place, SERVING) == mine {
-                let value = self.board.shared.exchange(&mut place, 0, None).unwrap();
-                return Held { place, value };
+            if self.board.shared.load::<Look>(&mut seat, SERVING) == mine {
+                let value = self.board.shared.exchange(&mut seat, 0, None).unwrap();
+                return Held { seat, value };
             }
             looks = self.wait(rt, mine, looks);
         }
@@ -216,17 +208,14 @@ impl<S: HoldsHistory + Drop> Turn<S> {
         requires turn { (holder held.old).turn ≡ self.now }
         requires stands { let known = holder held.old in
             S.stands known.origin (known.seen ++ N.entry ∷ []) (value_of held.old) }
-        ensures counted { holder held.new ≡ with_own_entry (holder held.old) N.entry }
-        ensures places { HasOwnPlaces (holder held.new) }
-        ensures value { value_of held.new ≡ value_of held.old }
-        ensures floor { floor_of held.new ≡ floor_of held.old }
+        ensures { HasCounted held.old held.new N.entry }
     {
         // The entry is for the clauses alone, and the epoch tells that its word does not wrap.
         let _ = entry;
         let _epoch = held.value.epoch();
         self.board
             .shared
-            .fetch_add::<Count<N>>(&mut held.place, EPOCH, 1);
+            .fetch_add::<CountEntry<N>>(&mut held.seat, EPOCH, 1);
     }
 
     /// Says that the history has one entry more, with which the value stands for it already. The
@@ -235,10 +224,7 @@ impl<S: HoldsHistory + Drop> Turn<S> {
         requires turn { (holder held.old).turn ≡ self.now }
         requires stands { let known = holder held.old in
             S.stands known.origin (known.seen ++ entry.value ∷ []) (value_of held.old) }
-        ensures counted { holder held.new ≡ with_own_entry (holder held.old) entry.value }
-        ensures places { HasOwnPlaces (holder held.new) }
-        ensures value { value_of held.new ≡ value_of held.old }
-        ensures floor { floor_of held.new ≡ floor_of held.old }
+        ensures { HasCounted held.old held.new entry.value }
     {
         self.count_named::<Brand>(held, entry);
     }
@@ -254,14 +240,11 @@ impl<S: HoldsHistory + Drop> Turn<S> {
             result ≡ record known { faults = known.faults + more } }
         ensures places { HasOwnPlaces result }
     {
-        let Held { mut place, value } = held;
-        self.board.shared.exchange(&mut place, 0, Some(value));
-        let mine = self
-            .board
-            .shared
-            .fetch_add::<PassOn>(&mut place, SERVING, 1);
+        let Held { mut seat, value } = held;
+        self.board.shared.exchange(&mut seat, 0, Some(value));
+        let mine = self.board.shared.fetch_add::<PassOn>(&mut seat, SERVING, 1);
         self.call(mine.wrapping_add(1));
-        Pass::of(place)
+        Pass::of(seat)
     }
 
     /// The value, where no other pass is left.
@@ -272,16 +255,16 @@ impl<S: HoldsHistory + Drop> Turn<S> {
         ensures faults { (pass.faults ≤ S.faults result) ⊎ (end_of_count ≤ S.faults result) }
     {
         let Turn { board, bells: _ } = self;
-        let place: Place<S> = pass.into_place();
-        let mut closed = board.close_with(place);
+        let seat: BoardSeat<S> = pass.take_seat();
+        let mut closed = board.close_with(seat);
         let value = closed.take(0);
         closed.free();
         value.unwrap()
     }
 }
 
-// This stands here as its clause names the row of `Held`, which the file that declares that cannot
-// import.
+// This stands here as its clause names the row of `Held`, which the file that declares that
+// cannot import.
 impl<S> Held<S> {
     /// The value, to be changed. What it is in the end, the lock gets.
     pub fn value_mut(&mut self) -> &mut S

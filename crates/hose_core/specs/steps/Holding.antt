@@ -12,7 +12,7 @@ use Rattle.hose_graph.specs.Network.{Network}
 use Rattle.hose_graph.specs.Ranges.{AreInRanges}
 use Rattle.hose_law.specs.Book.{Book, load_of, loads_of}
 use Rattle.hose_law.specs.History.{book_of}
-use Rattle.hose_law.specs.Quotes.{Held, HeldQuote, at_number, none_held}
+use Rattle.hose_law.specs.Quotes.{Holding, HeldQuote, at_number, none_held}
 use Rattle.hose_law.specs.Room.{first_links, room_of}
 use Rattle.hose_law.specs.Service.{is_out}
 use Rattle.hose_law.specs.steps.Tracks.{IsNamedSince}
@@ -78,7 +78,7 @@ FitsQuote network epoch history held quote = MatchOption held (IsNone quote)
     (λ one. (other : Quote) × (quote ≡ Some other) × IsQuoteOf network epoch history one other)
 
 -- the quotes are those that a customer holds at a history
-pub record AreHeld (network : Network) (epoch : ℕ) (history : List Entry) (held : Held)
+pub record AreHeld (network : Network) (epoch : ℕ) (history : List Entry) (held : Holding)
     (quotes : List (Option Quote)) : Type 0 where
   pub numbers : length held ≡ length quotes
   pub each : (number : ℕ)

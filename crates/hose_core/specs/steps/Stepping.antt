@@ -14,7 +14,7 @@ use Rattle.hose_law.specs.Cheapest.{IsCheapest}
 use Rattle.hose_law.specs.Decision.{HaveEqualGrounds, IsAllowed}
 use Rattle.hose_law.specs.History.{IsDecidedAt, book_of, next_book}
 use Rattle.hose_law.specs.steps.History.{IsSoundWith}
-use Rattle.hose_law.specs.Quotes.{Held, Holdings, nothing_held, with_held}
+use Rattle.hose_law.specs.Quotes.{Holding, Holdings, nothing_held, with_held}
 use Rattle.hose_law.specs.ReplyKind.{ReplyKind, kind_of}
 use Rattle.hose_law.specs.ReplyKind.ReplyKind.{ByTheBook, ForDisk, ForMemory, ForNoCommand}
 use Rattle.hose_law.specs.Room.{room_of}
@@ -100,11 +100,11 @@ Takes books old new earlier customer quote answer =
 -- A command of a customer who holds this was answered by a step at a history, whose entry is sound
 -- there, and what the step leads to is the book now.
 pub record HasStepped {K R : Type 0} (books : Ghosts K R) (old new : K) (epoch : ℕ)
-    (history : List Entry) (customer : List ℕ) (held : Held) (command : Command)
+    (history : List Entry) (customer : List ℕ) (held : Holding) (command : Command)
     (answer : Reply) : Type 0 where
   pub entry : Option Entry
   pub next : List Entry
-  pub after : Held
+  pub after : Holding
   pub step : IsStepOf (books.ledger old).network epoch history customer held command answer
       entry next after
   pub sound : IsSoundWith (books.ledger old).network (book_of epoch history) entry
@@ -115,7 +115,7 @@ pub record HasStepped {K R : Type 0} (books : Ghosts K R) (old new : K) (epoch :
 -- holds.
 abbrev pub StepsAtEach : {K R : Type 0} → Ghosts K R → K → K → List ℕ → Command → Reply → Type 0
 StepsAtEach books old new customer command answer = (epoch : ℕ) (history : List Entry)
-    (held : Held) → HasBookOf epoch history (books.ledger old)
+    (held : Holding) → HasBookOf epoch history (books.ledger old)
     → HasStepped books old new epoch history customer held command answer
 
 -- Books answered a command, whatever it was: their network stays, and they have one entry more or

@@ -5,7 +5,7 @@ use Rattle.hose_words.specs.declared.lines.Line.{Line}
 use Rattle.hose_graph.specs.Network.{Network}
 use Rattle.hose_graph.specs.declared.command.Reply.{Reply}
 use Rattle.hose_graph.specs.declared.entry.Entry.{Entry}
-use Rattle.hose_law.specs.Quotes.{Held}
+use Rattle.hose_law.specs.Quotes.{Holding}
 use Rattle.hose_law.specs.Script.{disks_in, one_if_disk}
 use Rattle.hose_law.specs.Transcript.{IsPlainReply, IsSessionStep, IsTranscript, SessionLine, Stage, session_state}
 use Rattle.hose_law.specs.Transcript.SessionLine.{Greets}
@@ -35,8 +35,8 @@ pub record IsExchange (network : Network) (old new : Known) (stage : Stage) (sai
 
 -- A line of a client who holds this was answered, and the client is served on, with these quotes.
 pub record ServesClientOn (network : Network) (old new : Known) (client client' : Client)
-    (held : Held) (said : SessionLine) (reply : Reply) : Type 0 where
-  pub left : Held
+    (held : Holding) (said : SessionLine) (reply : Reply) : Type 0 where
+  pub left : Holding
   pub exchange : IsExchange network old new (Serving client.name held) said reply
       (Serving client.name left)
   pub holds : AreHeld network 0 new.seen left client'.quotes
@@ -57,7 +57,7 @@ IsGreetedBy line (Err reply) = (said : SessionLine) × ShownSays SaysFirst line 
 -- a phase is so far at a history: its customer's quotes are those that it holds
 abbrev pub IsPhaseAt : Network → List Entry → Phase → Stage → Type 0
 IsPhaseAt network history phase.Waiting stage = stage ≡ Waiting
-IsPhaseAt network history (phase.Serving client) stage = (held : Held)
+IsPhaseAt network history (phase.Serving client) stage = (held : Holding)
     × (stage ≡ Serving client.name held) × AreHeld network 0 history held client.quotes
 IsPhaseAt network history phase.Refused stage = stage ≡ Refused
 IsPhaseAt network history phase.Left stage = stage ≡ Left

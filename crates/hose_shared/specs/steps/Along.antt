@@ -12,7 +12,7 @@ use Rattle.hose_law.specs.Book.{Book}
 use Rattle.hose_law.specs.Cheapest.{IsCheapest}
 use Rattle.hose_law.specs.Decision.{IsAllowed}
 use Rattle.hose_law.specs.History.{IsDecidedAt, book_of}
-use Rattle.hose_law.specs.Quotes.{Held}
+use Rattle.hose_law.specs.Quotes.{Holding}
 use Rattle.hose_law.specs.Room.{room_of}
 use Rattle.hose_law.specs.Transcript.{IsPlacedStep}
 use Rattle.hose_book.specs.declared.books.Committed.TheVariants.{Disk}
@@ -44,11 +44,11 @@ pub record HasEntryAt (network : Network) (history : List Entry) (place : ℕ) :
 -- A command of a customer who holds this was answered by a step at a place of the history that the
 -- pass has seen then, not before what it had seen. The step's entry, if it added one, is the pass's
 -- own, and no other that it had not before. Where the disk failed, the pass has met more faults.
-pub record StepsAlong (network : Network) (customer : List ℕ) (held : Held) (command : Command)
+pub record StepsAlong (network : Network) (customer : List ℕ) (held : Holding) (command : Command)
     (answer : Reply) (old new : Known) : Type 0 where
   pub place : ℕ
   pub next : ℕ
-  pub left : Held
+  pub left : Holding
   pub added : List ℕ
   pub step : IsPlacedStep network 0 new.seen customer held command answer left place next added
   pub entries : All (HasEntryAt network new.seen) added
@@ -60,11 +60,11 @@ pub record StepsAlong (network : Network) (customer : List ℕ) (held : Held) (c
 -- A command was answered so, whatever the customer held, with a reply that names what is there.
 pub record AnswersAlong (network : Network) (customer : List ℕ) (command : Command)
     (answer : Reply) (old new : Known) : Type 0 where
-  pub steps : (held : Held) → StepsAlong network customer held command answer old new
+  pub steps : (held : Holding) → StepsAlong network customer held command answer old new
   pub names : NamesPlaces network answer
 
 -- A command that changes what the customer holds was answered so, and these quotes fit that then.
-pub record StepsHolding (network : Network) (customer : List ℕ) (held : Held) (command : Command)
+pub record StepsHolding (network : Network) (customer : List ℕ) (held : Holding) (command : Command)
     (answer : Reply) (old new : Known) (quotes : List (Option Quote)) : Type 0 where
   pub along : StepsAlong network customer held command answer old new
   pub holds : AreHeld network 0 new.seen along.left quotes

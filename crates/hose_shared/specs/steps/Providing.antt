@@ -6,7 +6,7 @@ use Rattle.hose_graph.specs.declared.command.Command.{Command}
 use Rattle.hose_graph.specs.declared.command.Command.TheVariants.{Take}
 use Rattle.hose_graph.specs.declared.command.Reply.{Reply}
 use Rattle.hose_graph.specs.declared.command.Reply.TheVariants.{Stale}
-use Rattle.hose_law.specs.Quotes.{Held}
+use Rattle.hose_law.specs.Quotes.{Holding}
 use Rattle.hose_core.specs.steps.Holding.{AreHeld}
 use Rattle.hose_core.specs.declared.quotes.Quote.{Quote}
 use Rattle.hose_turn.specs.Known.{Known}
@@ -22,7 +22,7 @@ pub record Customer : Type 0 where
 -- the pass is one of the shared book, and the quotes were made along it
 abbrev pub CanProvide : SharedBook → List (Option Quote) → Known → Type 0
 CanProvide shared quotes pass =
-    IsPassOf shared pass × (held : Held) × AreHeld shared.network 0 pass.seen held quotes
+    IsPassOf shared pass × (held : Holding) × AreHeld shared.network 0 pass.seen held quotes
 
 -- A command was answered by a step along the history, whatever the customer held whose quotes these
 -- were, with a reply that names what is there; and the pass is at hand before and after it. Of a
@@ -33,7 +33,7 @@ pub record Provides (network : Network) (old new : Customer) (customer : List �
   pub after : Known
   pub was : old.pass ≡ Some before
   pub is : new.pass ≡ Some after
-  pub steps : (held : Held) → AreHeld network 0 before.seen held old.quotes
+  pub steps : (held : Holding) → AreHeld network 0 before.seen held old.quotes
       → StepsHolding network customer held command reply before after new.quotes
   pub names : NamesPlaces network reply
   pub stale : (number seen now : ℕ) → command ≡ Take number → reply ≡ Stale seen now

@@ -7,7 +7,7 @@ use Rattle.hose_graph.specs.declared.entry.Entry.{Entry}
 use Rattle.hose_graph.specs.declared.command.Reply.{Reply}
 use Rattle.hose_law.specs.Answer.{IsStepOf, with_entry}
 use Rattle.hose_law.specs.History.{IsDecidedAt, book_of}
-use Rattle.hose_law.specs.Quotes.{Held}
+use Rattle.hose_law.specs.Quotes.{Holding}
 use Rattle.hose_book.specs.steps.Commit.{IsMet}
 use Rattle.hose_book.specs.declared.books.Committed.{Committed}
 use Rattle.hose_book.specs.declared.books.Committed.TheVariants.{Done, Disk}
@@ -43,11 +43,11 @@ place_of before (Some entry) = length before ∷ []
 
 -- A command was answered by a step after just these entries of the history. The entry that joined
 -- the history there, if one did, is the pass's own.
-pub record StepsAt (network : Network) (customer : List ℕ) (held : Held) (command : Command)
+pub record StepsAt (network : Network) (customer : List ℕ) (held : Holding) (command : Command)
     (answer : Reply) (before : List Entry) (old new : Known) : Type 0 where
   pub entry : Option Entry
   pub joined : Option Entry
-  pub after : Held
+  pub after : Holding
   pub step : IsStepOf network 0 before customer held command answer entry
       (with_entry before joined) after
   pub decided : IfSome joined (IsDecidedAt network (book_of 0 before))
@@ -59,7 +59,7 @@ pub record StepsAt (network : Network) (customer : List ℕ) (held : Held) (comm
 
 -- A command was answered in a turn of a pass, which had seen maybe more by then: by a step after
 -- all of that.
-pub record StepsInTurn (network : Network) (customer : List ℕ) (held : Held) (command : Command)
+pub record StepsInTurn (network : Network) (customer : List ℕ) (held : Holding) (command : Command)
     (answer : Reply) (old new : Known) : Type 0 where
   pub known : Known
   pub more : HasSeenMore old known
@@ -78,7 +78,7 @@ pub record BeginsTurn {D : Type 0} (disk : Ghosts D) (Begins : List Entry → Ke
 -- A command was answered in a turn by a step of the store. The entry that joined the history there,
 -- if one did, is the one that is told; or the store is as it was.
 pub record AnswersTurn {D : Type 0} (disk : Ghosts D) (before : List Entry) (old new : KeptStore D)
-    (told : Option Entry) (customer : List ℕ) (held : Held) (command : Command) (answer : Reply)
+    (told : Option Entry) (customer : List ℕ) (held : Holding) (command : Command) (answer : Reply)
     : Type 0 where
   pub stepped : HasStepped (store_books disk) old new 0 before customer held command answer
   pub network : new.ledger.network ≡ old.ledger.network

@@ -1,13 +1,15 @@
 -- A pass that has the turn, with the value, as callers see it.
-use Rattle.std.specs.Prelude.{ℕ}
+use Rattle.std.specs.Prelude.{◌≡◌, ℕ}
+use Rattle.hose_graph.specs.declared.entry.Entry.{Entry}
 use Rattle.hose_turn.specs.declared.pass.Held.{Held}
 use Rattle.hose_turn.specs.Known.{Known}
+use Rattle.hose_turn.specs.steps.Known.{with_own_entry, HasOwnPlaces}
 use Rattle.hose_turn.specs.steps.Views.{known_of}
 
 module _ {S : Type 0} where
   -- what the pass knows
   abbrev pub holder : Held S → Known
-  holder held = known_of held.place.table_id held.place.me.0
+  holder held = known_of held.seat.table_id held.seat.me.0
 
   -- the value as it is now
   abbrev pub value_of : Held S → S
@@ -15,4 +17,11 @@ module _ {S : Type 0} where
 
   -- the count of faults of the value as the pass took it
   abbrev pub floor_of : Held S → ℕ
-  floor_of held = held.place.me.0.floor
+  floor_of held = held.seat.me.0.floor
+
+  -- the pass counted the entry as its own, and its value stays
+  pub record HasCounted (old new : Held S) (entry : Entry) : Type 0 where
+    pub counted : holder new ≡ with_own_entry (holder old) entry
+    pub places : HasOwnPlaces (holder new)
+    pub value : value_of new ≡ value_of old
+    pub floor : floor_of new ≡ floor_of old

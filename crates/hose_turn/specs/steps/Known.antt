@@ -1,12 +1,12 @@
 -- What a pass knows, as callers see it: steps of proofs.
-use Rattle.std.specs.Prelude.{List, [], ◌∷◌, ◌++◌, length}
+use Rattle.std.specs.Prelude.{◌≡◌, ◌⊎◌, ◌+◌, List, [], ◌∷◌, ◌++◌, length}
 use mathlib.Core.List.{IsPrefix}
 use Rattle.atomic_table.specs.Seated.{TableId}
 use Rattle.hose_graph.specs.declared.entry.Entry.{Entry}
 use Rattle.hose_turn.specs.declared.view.Origin.{Origin}
 use Rattle.hose_turn.specs.steps.Limits.{all_shares}
 use Rattle.hose_turn.specs.Places.{HasPlaces}
-use Rattle.hose_turn.specs.steps.Places.{HasSomePlaces}
+use Rattle.hose_turn.specs.steps.Places.{AreApart, HasSomePlaces}
 use Rattle.hose_turn.specs.Known.{Known}
 
 -- what the first pass knows
@@ -33,6 +33,19 @@ with_own_entry known entry = record known {
 abbrev pub HasOwnPlaces : Known → Type 0
 HasOwnPlaces known =
     HasSomePlaces (length known.origin.since) (length known.seen) known.own
+
+-- A pass took in another one: it has the shares, places and faults of both, and has seen the longer
+-- of the two lists.
+pub record HasJoined (old other new : Known) : Type 0 where
+  pub same : (new.turn ≡ old.turn) × (new.origin ≡ old.origin)
+  pub share : new.share ≡ old.share + other.share
+  pub own : new.own ≡ old.own ++ other.own
+  pub apart : AreApart old.own other.own
+  pub places : HasOwnPlaces new
+  pub faults : new.faults ≡ old.faults + other.faults
+  pub one : (new.seen ≡ old.seen) ⊎ (new.seen ≡ other.seen)
+  pub seen : IsPrefix old.seen new.seen
+  pub told : IsPrefix other.seen new.seen
 
 -- The value stands for the history, which begins with the first list and with what the pass has
 -- seen. Each entry after the first list is the pass's own.

@@ -1,12 +1,15 @@
-use Rattle.std.proofs.Common.{◌≡◌, Some, refl, rules}
+use Rattle.std.proofs.Common.{refl}
 use Rattle.hose_core.specs.steps.Bound.{admission_command}
-use Rattle.hose_shared.proofs.Provided.{admission_keeps, can_again, provides_keeping}
+use Rattle.hose_shared.proofs.Provided.{admission_keeps, at_hand, can_again, in_hand, provides_keeping}
 use Rattle.hose_shared.proofs.providing.SharedProviderProvider.admit.Goals as goal
+
+pub caller_with_pass-pass-requires : goal.caller_with_pass-pass-requires
+caller_with_pass-pass-requires g c = at_hand c.args.self.now.shared.now c.args.self.now.quotes c.args.self.now.pass c.requires.can
+
+pub admit_bound-answered-requires-clause-of : goal.admit_bound-answered-requires-clause-of
+admit_bound-answered-requires-clause-of g c = (in_hand c.args.self.now.shared.now c.args.self.now.quotes c.requires.can c.caller_with_pass-pass.ensures.pass).0
 
 pub returns : goal.returns
 returns g c =
-    let self = c.args.self.now in
-    let command = admission_command c.args.asked.known c.args.asked.hose in
-    let was : self.pass ≡ Some c.in-Some.pass = search rules in
-    let provides = provides_keeping self.shared.now.network c.args.customer.now command c.admit_bound-reply.result.0 self.pass c.in-Some.pass c.admit_bound-reply.result.1 self.quotes was (admission_keeps c.args.asked.known c.args.asked.hose) (λ held. c.admit_bound-reply.ensures.steps held) c.admit_bound-reply.ensures.names in
-    record { answers = (refl, refl, refl, provides); stays = refl; can = can_again self.shared.now _ _ _ _ _ c.requires.can provides }
+    let provides = provides_keeping (admission_command c.args.asked.known c.args.asked.hose) c.args.self.now.quotes (admission_keeps c.args.asked.known c.args.asked.hose) c.caller_with_pass-pass.ensures.customer c.caller_with_pass-pass.ensures.pass c.reply_with_pass_back.ensures.reply c.reply_with_pass_back.ensures.pass c.admit_bound-answered.ensures in
+    record { answers = (refl, refl, refl, provides); stays = refl; can = can_again c.args.self.now.shared.now _ _ _ _ _ c.requires.can provides }

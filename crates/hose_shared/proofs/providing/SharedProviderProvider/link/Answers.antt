@@ -1,12 +1,15 @@
-use Rattle.std.proofs.Common.{◌≡◌, Some, refl, rules}
+use Rattle.std.proofs.Common.{refl}
 use Rattle.hose_graph.specs.declared.command.Command.TheVariants.{Link}
-use Rattle.hose_shared.proofs.Provided.{can_again, provides_keeping}
+use Rattle.hose_shared.proofs.Provided.{at_hand, can_again, in_hand, provides_keeping}
 use Rattle.hose_shared.proofs.providing.SharedProviderProvider.link.Goals as goal
+
+pub caller_with_pass-pass-requires : goal.caller_with_pass-pass-requires
+caller_with_pass-pass-requires g c = at_hand c.args.self.now.shared.now c.args.self.now.quotes c.args.self.now.pass c.requires.can
+
+pub link-answered-requires-clause-of : goal.link-answered-requires-clause-of
+link-answered-requires-clause-of g c = (in_hand c.args.self.now.shared.now c.args.self.now.quotes c.requires.can c.caller_with_pass-pass.ensures.pass).0
 
 pub returns : goal.returns
 returns g c =
-    let self = c.args.self.now in
-    let command = Link c.args.link in
-    let was : self.pass ≡ Some c.in-Some.pass = search rules in
-    let provides = provides_keeping self.shared.now.network c.args.customer.now command c.link-reply.result.0 self.pass c.in-Some.pass c.link-reply.result.1 self.quotes was (λ changes. changes) (λ held. (c.link-reply.ensures c.args.customer.now).steps held) (c.link-reply.ensures c.args.customer.now).names in
-    record { answers = (refl, refl, refl, provides); stays = refl; can = can_again self.shared.now _ _ _ _ _ c.requires.can provides }
+    let provides = provides_keeping (Link c.args.link) c.args.self.now.quotes (λ changes. changes) c.caller_with_pass-pass.ensures.customer c.caller_with_pass-pass.ensures.pass c.reply_with_pass_back.ensures.reply c.reply_with_pass_back.ensures.pass (c.link-answered.ensures c.caller_with_pass-pass.result.0.customer.now) in
+    record { answers = (refl, refl, refl, provides); stays = refl; can = can_again c.args.self.now.shared.now _ _ _ _ _ c.requires.can provides }

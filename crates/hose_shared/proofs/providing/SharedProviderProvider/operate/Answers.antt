@@ -1,12 +1,15 @@
-use Rattle.std.proofs.Common.{◌≡◌, Some, refl, rules}
+use Rattle.std.proofs.Common.{refl}
 use Rattle.hose_core.specs.steps.Serving.{service_command}
-use Rattle.hose_shared.proofs.Provided.{can_again, order_keeps, provides_keeping}
+use Rattle.hose_shared.proofs.Provided.{at_hand, can_again, in_hand, order_keeps, provides_keeping}
 use Rattle.hose_shared.proofs.providing.SharedProviderProvider.operate.Goals as goal
+
+pub caller_with_pass-pass-requires : goal.caller_with_pass-pass-requires
+caller_with_pass-pass-requires g c = at_hand c.args.self.now.shared.now c.args.self.now.quotes c.args.self.now.pass c.requires.can
+
+pub operate-answered-requires-clause-of : goal.operate-answered-requires-clause-of
+operate-answered-requires-clause-of g c = (in_hand c.args.self.now.shared.now c.args.self.now.quotes c.requires.can c.caller_with_pass-pass.ensures.pass).0
 
 pub returns : goal.returns
 returns g c =
-    let self = c.args.self.now in
-    let command = service_command c.args.down c.args.link in
-    let was : self.pass ≡ Some c.in-Some.pass = search rules in
-    let provides = provides_keeping self.shared.now.network c.args.customer.now command c.operate-reply.result.0 self.pass c.in-Some.pass c.operate-reply.result.1 self.quotes was (order_keeps c.args.down c.args.link) (λ held. c.operate-reply.ensures.steps held) c.operate-reply.ensures.names in
-    record { answers = (refl, refl, refl, provides); stays = refl; can = can_again self.shared.now _ _ _ _ _ c.requires.can provides }
+    let provides = provides_keeping (service_command c.args.down c.args.link) c.args.self.now.quotes (order_keeps c.args.down c.args.link) c.caller_with_pass-pass.ensures.customer c.caller_with_pass-pass.ensures.pass c.reply_with_pass_back.ensures.reply c.reply_with_pass_back.ensures.pass c.operate-answered.ensures in
+    record { answers = (refl, refl, refl, provides); stays = refl; can = can_again c.args.self.now.shared.now _ _ _ _ _ c.requires.can provides }

@@ -1,12 +1,15 @@
-use Rattle.std.proofs.Common.{◌≡◌, Some, refl, rules}
+use Rattle.std.proofs.Common.{refl}
 use Rattle.hose_graph.specs.declared.command.Command.TheVariants.{Show}
-use Rattle.hose_shared.proofs.Provided.{can_again, provides_keeping}
+use Rattle.hose_shared.proofs.Provided.{at_hand, can_again, in_hand, provides_keeping}
 use Rattle.hose_shared.proofs.providing.SharedProviderProvider.show.Goals as goal
+
+pub caller_with_pass-pass-requires : goal.caller_with_pass-pass-requires
+caller_with_pass-pass-requires g c = at_hand c.args.self.now.shared.now c.args.self.now.quotes c.args.self.now.pass c.requires
+
+pub show-answered-requires : goal.show-answered-requires
+show-answered-requires g c = (in_hand c.args.self.now.shared.now c.args.self.now.quotes c.requires c.caller_with_pass-pass.ensures.pass).0
 
 pub returns : goal.returns
 returns g c =
-    let self = c.args.self.now in
-    let command = Show c.args.id in
-    let was : self.pass ≡ Some c.in-Some.pass = search rules in
-    let provides = provides_keeping self.shared.now.network c.args.customer.now command c.show-reply.result.0 self.pass c.in-Some.pass c.show-reply.result.1 self.quotes was (λ changes. changes) (λ held. c.show-reply.ensures.steps held) c.show-reply.ensures.names in
-    record { answers = (refl, refl, refl, provides); stays = refl; can = can_again self.shared.now _ _ _ _ _ c.requires provides }
+    let provides = provides_keeping (Show c.args.id) c.args.self.now.quotes (λ changes. changes) c.caller_with_pass-pass.ensures.customer c.caller_with_pass-pass.ensures.pass c.reply_with_pass_back.ensures.reply c.reply_with_pass_back.ensures.pass c.show-answered.ensures in
+    record { answers = (refl, refl, refl, provides); stays = refl; can = can_again c.args.self.now.shared.now _ _ _ _ _ c.requires provides }

@@ -1,21 +1,38 @@
-use Rattle.std.proofs.Common.{◌≡◌, Some, refl, rules}
+use Rattle.std.proofs.Common.{◌∙◌, List, ℕ, refl, subst, sym}
+use Rattle.hose_graph.specs.steps.Naming.{NamesPlaces}
 use Rattle.hose_graph.specs.declared.command.Command.TheVariants.{Take}
+use Rattle.hose_graph.specs.declared.command.Reply.{Reply}
+use Rattle.hose_shared.specs.steps.Along.{StepsHolding}
 use Rattle.hose_shared.specs.steps.Providing.{Provides}
-use Rattle.hose_shared.proofs.Provided.{can_again}
+use Rattle.hose_shared.proofs.Provided.{at_hand, can_again, in_hand}
 use Rattle.hose_shared.proofs.providing.SharedProviderProvider.take.Goals as goal
+
+pub caller_with_pass-pass-requires : goal.caller_with_pass-pass-requires
+caller_with_pass-pass-requires g c = at_hand c.args.self.now.shared.now c.args.self.now.quotes c.args.self.now.pass c.requires
+
+pub take-answered-requires-clause-of : goal.take-answered-requires-clause-of
+take-answered-requires-clause-of g c = (in_hand c.args.self.now.shared.now c.args.self.now.quotes c.requires c.caller_with_pass-pass.ensures.pass).0
+
+pub take-answered-requires-clause-quotes : goal.take-answered-requires-clause-quotes
+take-answered-requires-clause-quotes g c =
+    let can = in_hand c.args.self.now.shared.now c.args.self.now.quotes c.requires c.caller_with_pass-pass.ensures.pass in
+    (can.1, can.2)
 
 pub returns : goal.returns
 returns g c =
     let self = c.args.self.now in
-    let was : self.pass ≡ Some c.in-Some.pass = search rules in
-    let called = c.take-reply in
-    let provides : Provides self.shared.now.network (record { pass = self.pass; quotes = self.quotes }) (record { pass = Some called.result.1; quotes = called.new.quotes }) c.args.customer.now (Take c.args.number) called.result.0 = record {
-      before = c.in-Some.pass;
+    let network = self.shared.now.network in
+    let customer = c.args.customer.now in
+    let called = c.take-answered in
+    let before = c.caller_with_pass-pass.result.1 in
+    let told = sym c.reply_with_pass_back.ensures.reply in
+    let provides : Provides network (record { pass = self.pass; quotes = self.quotes }) (record { pass = c.reply_with_pass_back.new.at_hand; quotes = called.new.quotes }) customer (Take c.args.number) c.reply_with_pass_back.result = record {
+      before = before;
       after = called.result.1;
-      was = was;
-      is = refl;
-      steps = λ held are. called.ensures.steps held are;
-      names = called.ensures.names;
-      stale = λ number seen now is told. called.ensures.stale seen now told;
+      was = c.caller_with_pass-pass.ensures.pass;
+      is = c.reply_with_pass_back.ensures.pass;
+      steps = λ held are. subst (λ (z : List ℕ × Reply). StepsHolding network z.0 held (Take c.args.number) z.1 before called.result.1 called.new.quotes) (λ i. (c.caller_with_pass-pass.ensures.customer i, told i)) (called.ensures.steps held are);
+      names = subst (λ (r : Reply). NamesPlaces network r) told called.ensures.names;
+      stale = λ number seen now is stale. called.ensures.stale seen now (told ∙ stale);
     } in
     record { answers = (refl, refl, refl, provides); stays = refl; can = can_again self.shared.now _ _ _ _ _ c.requires provides }

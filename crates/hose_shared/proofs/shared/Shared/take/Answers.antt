@@ -1,7 +1,7 @@
 use Rattle.std.proofs.Common.{◌≤◌, ◌∙◌, IsSome, None, arith, refl, subst, sym, [], ◌∷◌, Some, length}
 use Rattle.hose_graph.specs.declared.command.Command.TheVariants.{Take}
 use Rattle.hose_graph.specs.declared.limits.TheConstants.{MOST_QUOTES}
-use Rattle.hose_law.specs.Quotes.{Held, at_number, with_number}
+use Rattle.hose_law.specs.Quotes.{Holding, at_number, with_number}
 use Rattle.hose_core.specs.steps.Holding.{AreHeld}
 use Rattle.hose_core.proofs.HeldQuotes.{held_on, held_there, held_with, none_alike}
 use Rattle.hose_shared.proofs.Entries.{no_quote, stale_later, stays_holding, taken_after}
@@ -53,7 +53,7 @@ returns-clause-steps g c = λ held are.
     let cleared = held_with network 0 new.seen held quotes now number None None there.0 there.1 refl in
     record {
       along = along_of network customer held (Take number) answer pass turn.known new turn.more turn.at;
-      holds = subst (λ (h : Held). AreHeld network 0 new.seen h c.clear.new.self) (sym after)
+      holds = subst (λ (h : Holding). AreHeld network 0 new.seen h c.clear.new.self) (sym after)
           (subst (AreHeld network 0 new.seen (with_number held number None)) (sym c.clear.ensures) cleared);
     }
 

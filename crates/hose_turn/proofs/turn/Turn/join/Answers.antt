@@ -10,13 +10,13 @@ use Rattle.hose_turn.proofs.turn.Turn.join.Goals as goal
 
 pub join_seat-requires : goal.join_seat-requires
 join_seat-requires g c =
-    let views : c.pass.inside.badge.views ≡ c.into_seat-place.result.me.0 ∷ [] = search rules in
+    let views : c.pass.inside.badge.views ≡ c.into_seat-seat.result.me.0 ∷ [] = search rules in
     let share = ap (λ views. (view_of views).share) views in let live = c.pass.invariant.rests.live in
-    (search rules, search rules, search rules, search rules, joins g.S.HoldsHistory.stands g.S.HoldsHistory.faults _ _ _ _ (omega arith) c.into_place.ensures.rests.ticket)
+    (search rules, search rules, search rules, search rules, joins g.S.HoldsHistory.stands g.S.HoldsHistory.faults _ _ _ _ (omega arith) c.take_seat.ensures.rests.ticket)
 
 pub load-requires : goal.load-requires
 load-requires g c =
-    let views : c.pass.inside.badge.views ≡ c.into_seat-place.result.me.0 ∷ [] = search rules in
+    let views : c.pass.inside.badge.views ≡ c.into_seat-seat.result.me.0 ∷ [] = search rules in
     let both = c.join_seat.ensures.2 in
     let share = ap (λ views. (view_of views).share) views in let live = c.pass.invariant.rests.live in let shares = ap (λ me. me.0.share) both in
     let off = ap (λ me. me.0.has_turn) both ∙ (sym (ap (λ views. (view_of views).has_turn) views) ∙ c.pass.invariant.rests.turn) in
@@ -24,8 +24,8 @@ load-requires g c =
 
 pub invariant_of-pass : goal.invariant_of-pass
 invariant_of-pass g c =
-    let a : View = c.into_seat-place.result.me.0 in
-    let b : View = c.into_place.result.me.0 in
+    let a : View = c.into_seat-seat.result.me.0 in
+    let b : View = c.take_seat.result.me.0 in
     let before : c.pass.inside.badge.views ≡ a ∷ [] = search rules in
     let mine : IsAtRest a = subst IsAtRest (ap view_of before) c.pass.invariant.rests in
     let both = ap (λ me. me.0) c.join_seat.ensures.2 in
@@ -38,19 +38,26 @@ invariant_of-pass g c =
     let owned = subst (λ (v : View). (last : ℕ) × HasSomePlaces (length v.origin.since) last v.own) both told.5 in
     record {
       one = views ∙ sym (ap (λ vs. view_of vs ∷ []) views);
-      rests = subst IsAtRest (sym (ap view_of views)) (rests_both a b longer owned.0 mine c.into_place.ensures.rests seen heard owned.1);
+      rests = subst IsAtRest (sym (ap view_of views)) (rests_both a b longer owned.0 mine c.take_seat.ensures.rests seen heard owned.1);
     }
 
-pub returns-clause-apart : goal.returns-clause-apart
-returns-clause-apart g c =
-    let a : View = c.into_seat-place.result.me.0 in
-    let b : View = c.into_place.result.me.0 in
+pub returns : goal.returns
+returns g c =
+    let a : View = c.into_seat-seat.result.me.0 in
+    let b : View = c.take_seat.result.me.0 in
     let before : c.pass.inside.badge.views ≡ a ∷ [] = search rules in
     let both = ap (λ me. me.0) c.join_seat.ensures.2 in
     let owned = subst (λ (v : View). (last : ℕ) × HasSomePlaces (length v.origin.since) last v.own) both c.load.ensures.2.5 in
     let mine = sym (ap (λ k. k.own) c.pass.view_is) ∙ ap (λ vs. (view_of vs).own) before in
-    let theirs = ap (λ k. k.own) c.into_place.ensures.known in
-    subst (λ (z : List ℕ × List ℕ). AreApart z.0 z.1) (λ i. (sym mine i, theirs i)) (places_apart _ owned.0 a.own b.own owned.1)
-
-pub returns-clause-places : goal.returns-clause-places
-returns-clause-places g c = (invariant_of-pass g c).rests.own
+    let theirs = ap (λ k. k.own) c.take_seat.ensures.known in
+    record {
+      same = search rules;
+      share = search rules;
+      own = search rules;
+      apart = subst (λ (z : List ℕ × List ℕ). AreApart z.0 z.1) (λ i. (sym mine i, theirs i)) (places_apart _ owned.0 a.own b.own owned.1);
+      places = (invariant_of-pass g c).rests.own;
+      faults = search rules;
+      one = search rules;
+      seen = search rules;
+      told = search rules;
+    }

@@ -4,12 +4,12 @@ use Rattle.hose_turn.proofs.Steps.{draws, looks}
 use Rattle.hose_turn.proofs.turn.Turn.lock.Goals as goal
 
 pub fetch_add-mine-requires : goal.fetch_add-mine-requires
-fetch_add-mine-requires g c = let rests = c.into_place-place.ensures.rests in
+fetch_add-mine-requires g c = let rests = c.take_seat-seat.ensures.rests in
     (search rules, search rules, draws g.S.HoldsHistory.stands g.S.HoldsHistory.faults _ _ _ rests.live rests.ticket)
 
 pub load-requires : goal.load-requires
 load-requires g c =
-    let rests = c.into_place-place.ensures.rests in
+    let rests = c.take_seat-seat.ensures.rests in
     let me = c.loop.invariant.1 ∙ c.fetch_add-mine.ensures.2.2 in
     let share = ap (λ me. me.0.share) me in let live = rests.live in
     (search rules, search rules, looks g.S.HoldsHistory.stands g.S.HoldsHistory.faults _ _ _ (omega arith) (ap (λ me. me.0.has_turn) me ∙ rests.turn))
