@@ -15,7 +15,7 @@ use Rattle.hose_law.specs.Book.{Book}
 use Rattle.hose_law.specs.History.{EntryKind, book_of, IsDecided, IsDecidedAt, IsSound, IsSoundAt}
 use Rattle.hose_law.specs.steps.History.{IsSoundWith}
 use Rattle.hose_law.specs.Answer.{IsStepOf}
-use Rattle.hose_law.specs.Quotes.{Held, nothing_held, with_held}
+use Rattle.hose_law.specs.Quotes.{Holding, nothing_held, with_held}
 use Rattle.hose_law.proofs.Fronts.{prefix_push}
 use Rattle.hose_law.proofs.Lines.{steps_many, steps_push}
 use Rattle.hose_law.proofs.Scripts.{decided_end, decided_push, disks_push}
@@ -135,7 +135,7 @@ asked_more lines replies line reply network book entry is = record {
 }
 
 -- what the last line asks for
-asked_last : (lines : List ReadLine) (replies : List Reply) (customer : List ℕ) (command : Command) (reply : Reply) (network : Network) (history next : List Entry) (held after : Held) (entry : Option Entry) → length lines ≡ length replies
+asked_last : (lines : List ReadLine) (replies : List Reply) (customer : List ℕ) (command : Command) (reply : Reply) (network : Network) (history next : List Entry) (held after : Holding) (entry : Option Entry) → length lines ≡ length replies
     → IfSome entry (IsDecidedAt network (book_of 0 history)) → IsStepOf network 0 history customer held command reply entry next after → IfSome entry (IsAskedBy (lines ++ Asks customer command ∷ []) (replies ++ reply ∷ []) network (book_of 0 history))
 asked_last lines replies customer command reply network history next held after None many decided step = tt
 asked_last lines replies customer command reply network history next held after (Some entry) many decided step = record {

@@ -15,8 +15,8 @@ use Rattle.hose_journal.specs.Image.{Meaning, damaged, listed, other}
 use Rattle.hose_move.specs.Changing.{GoesOnFrom, IsFirstChange}
 use Rattle.hose_move.specs.Moving.{Moves, OnlyMoves, StandsForPart}
 use Rattle.hose_move.specs.Stating.{ReadsJournal, stated_entries}
-use Rattle.hose_move.specs.declared.changing.Change.{Change}
-use Rattle.hose_move.specs.declared.changing.Change.TheVariants as change
+use Rattle.hose_move.specs.declared.changing.NetworkChange.{NetworkChange}
+use Rattle.hose_move.specs.declared.changing.NetworkChange.TheVariants as change
 use Rattle.hose_move.specs.declared.fault.MoveFault.{MoveFault}
 use Rattle.hose_move.specs.declared.fault.MoveFault.TheVariants as moving
 use Rattle.hose_move.specs.declared.stating.Scope.{Scope}
@@ -189,7 +189,7 @@ module _ {C E : Type 0} (cabinet : CabinetGhosts C E) (disk : DiskGhosts E) wher
 -- ---- step by step
 
 -- a network that goes on has no first change
-no_change : (old new : Network) (first : Change) → GoesOnFrom old new → IsFirstChange old new (Some first) → ⊥
+no_change : (old new : Network) (first : NetworkChange) → GoesOnFrom old new → IsFirstChange old new (Some first) → ⊥
 no_change old new (change.Node node) goes_on is = is.changed (goes_on.nodes node is.is_node)
 no_change old new (change.Link link) goes_on is = is.1.changed (goes_on.links link is.1.is_link)
 

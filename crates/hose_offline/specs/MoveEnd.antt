@@ -2,8 +2,8 @@
 use Rattle.std.specs.Prelude.{◌≡◌, ℕ, ◌+◌, List, ◌++◌, codes, decimal, get_or, length, Result, Ok, Err}
 use Rattle.std.specs.List.{flat_map, range_with_len}
 use Rattle.hose_io.specs.declared.sink.Sink.{Ghosts as SinkGhosts}
-use Rattle.hose_move.specs.declared.changing.Change.{Change}
-use Rattle.hose_move.specs.declared.changing.Change.TheVariants as change
+use Rattle.hose_move.specs.declared.changing.NetworkChange.{NetworkChange}
+use Rattle.hose_move.specs.declared.changing.NetworkChange.TheVariants as change
 use Rattle.hose_move.specs.declared.fault.MoveFault.{MoveFault}
 use Rattle.hose_move.specs.declared.fault.MoveFault.TheVariants as moving
 use Rattle.hose_proto.specs.ReplyText.{line_of}
@@ -23,7 +23,7 @@ stop_status (Unsound epoch) = 13
 stop_status (Differs epoch) = 14
 
 -- the line of the first change of a network
-abbrev pub change_line : Change → List ℕ
+abbrev pub change_line : NetworkChange → List ℕ
 change_line (change.Node node) = line_of (codes "network node " ++ decimal node)
 change_line (change.Link link) = line_of (codes "network link " ++ decimal link)
 

@@ -11,7 +11,7 @@ use Rattle.hose_move.specs.Changing.{GoesOnFrom, IsFirstChange}
 use Rattle.hose_law.specs.History.{IsSound}
 use Rattle.hose_move.specs.Moving.{HasEnough, Moves, OnlyMoves, StandsForPart}
 use Rattle.hose_move.specs.Stating.{ReadsJournal}
-use Rattle.hose_move.specs.declared.changing.Change.{Change}
+use Rattle.hose_move.specs.declared.changing.NetworkChange.{NetworkChange}
 use Rattle.hose_move.specs.declared.fault.MoveFault.{MoveFault}
 use Rattle.hose_move.specs.declared.stating.Scope.{Scope}
 use Rattle.hose_move.specs.declared.stating.Scope.TheVariants as scope
@@ -186,7 +186,7 @@ module _ {I O C E : Type 0} (tells : Tellings I O C E) where
   -- change is told, and nothing else was done.
   abbrev pub MovesBetween : MovedJournals → Parts I O C → Parts I O C → Network → Network
       → Result Moved MoveStop → Type 0
-  MovesBetween journals before after old new result = ((change : Change)
+  MovesBetween journals before after old new result = ((change : NetworkChange)
       × (result ≡ Err (Changed change)) × IsFirstChange old new (Some change)
       × (after.output ≡ before.output) × (after.cabinet ≡ before.cabinet))
       ⊎ (GoesOnFrom old new × MovesStated journals before after old new result)

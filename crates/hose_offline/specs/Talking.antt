@@ -10,7 +10,7 @@ use Rattle.hose_graph.specs.Network.{Network}
 use Rattle.hose_law.specs.Answer.{IsStepOf}
 use Rattle.hose_law.specs.Book.{Book}
 use Rattle.hose_law.specs.History.{IsDecidedAt, book_of}
-use Rattle.hose_law.specs.Quotes.{Held}
+use Rattle.hose_law.specs.Quotes.{Holding}
 use Rattle.hose_law.specs.Script.{ReadLine, disks_in}
 use Rattle.hose_law.specs.Script.ReadLine.{Asks, IsBad, IsLong, Unread}
 use Rattle.hose_offline.specs.ScriptLine.{IsAsking, WantsMemory, script_grammar}
@@ -43,7 +43,7 @@ pub record IsAskedBy (lines : List ReadLine) (replies : List Reply) (network : N
   pub answer : slice_get replies place ≡ Some reply
   pub history : List Entry
   pub is_book : book_of 0 history ≡ book
-  pub held : Held
+  pub held : Holding
   pub next : List Entry
-  pub after : Held
+  pub after : Holding
   pub step : IsStepOf network 0 history customer held command reply (Some entry) next after

@@ -1,9 +1,8 @@
 // A run: a topology, and then a reply for each line.
-ghost use Rattle.std.specs.Prelude.{◌≡◌, ◌≢◌, ◌↔◌, ◌+◌, [], ◌<◌, ◌≤◌, ℕ, List, length, IsSome, None, Err, Result, ⊤};
+ghost use Rattle.std.specs.Prelude.{◌≡◌, ◌↔◌, ◌+◌, [], ◌<◌, ◌≤◌, ℕ, List, length, IsSome, None, Err, Result, ⊤};
 ghost use Rattle.std.specs.Prelude.{option_map};
-ghost use Rattle.hose_io.specs.Frame.{Stays};
 ghost use Rattle.hose_io.specs.Stream.{Gives};
-ghost use Rattle.hose_law.specs.History.{IsDecidedAt, IsSound};
+ghost use Rattle.hose_law.specs.History.{IsDecidedAt};
 ghost use Rattle.hose_law.specs.Quotes.{nothing_held};
 ghost use Rattle.hose_law.specs.Script.{ReadLine};
 ghost use Rattle.hose_words.specs.steps.Lines.{Shows};
@@ -22,11 +21,10 @@ ghost use Rattle.hose_core.specs.steps.Stepping.{FitsHistory};
 ghost use Rattle.hose_offline.specs.steps.Journal.{IsJustOpened, OpensJournal};
 ghost use Rattle.hose_offline.specs.OnDisk.{opening_of};
 ghost use Rattle.hose_offline.specs.Parts.{AllStay, parts, tellings};
-ghost use Rattle.hose_offline.specs.steps.Parts.{KeepsAll, held};
+ghost use Rattle.hose_offline.specs.steps.Parts.{ComesTo};
 ghost use Rattle.hose_offline.specs.RunOutcome.{RunLeaves, RunOutcome};
-ghost use Rattle.hose_talk.specs.Talk.{talk};
 ghost use Rattle.hose_offline.specs.Talking.{IsAskedBy};
-ghost use Rattle.hose_offline.specs.steps.Talking.{AnswersLine, SaysOneThing, SaysRead, Talks, TalksInMemory, plain_books, talk_tellings};
+ghost use Rattle.hose_offline.specs.steps.Talking.{AnswersLine, SaysOneThing, SaysRead};
 ghost use Rattle.hose_offline.specs.steps.TalkingOnDisk.{TalksInCabinet};
 
 use crate::fault::{Fault, done_of_talk, end};
@@ -57,13 +55,9 @@ pub fn run<P: Prices, I: Source, O: Sink, C: Cabinet>(
     outside: &mut Outside<'_, I, O, C>,
 ) -> u8
     requires { (C.frame outside.old.cabinet.now).out ≡ None }
-    ensures outcome { RunOutcome (tellings I.Source O.Sink C.Cabinet C.Disk.Disk)
-        (P.prices costs.now) (option_map (λ name. name.now) journal.entry)
-        (held outside.old) (held outside.new) result }
-    ensures not_words { result ≢ 1 }
-    ensures back { (C.frame outside.new.cabinet.now).out ≡ None }
-    ensures keeps { KeepsAll (tellings I.Source O.Sink C.Cabinet C.Disk.Disk)
-        outside.old outside.new }
+    ensures { ComesTo (tellings I.Source O.Sink C.Cabinet C.Disk.Disk) (λ tells. RunOutcome tells
+        (P.prices costs.now) (option_map (λ name. name.now) journal.entry)) outside.old outside.new
+        result }
 {
     let done = run_input(
         alloc,
@@ -105,7 +99,8 @@ fn run_input<P: Prices, I: Source, O: Sink, C: Cabinet>(
     done
 }
 
-// Runs by a reader that has taken nothing.
+// Runs by a reader that has taken nothing. Where the book is in memory, the rows of all nodes are
+// made before the first line is answered.
 fn run_lines<P: Prices, S: Source, O: Sink, C: Cabinet>(
     alloc: Global,
     costs: &P,
@@ -135,38 +130,21 @@ fn run_lines<P: Prices, S: Source, O: Sink, C: Cabinet>(
     let told = read(alloc, lines)?;
     let topology = costs.apply(alloc, told)?;
     match journal {
-        None => answer_in_memory(alloc, topology, lines, output),
+        None => {
+            let book = Book::new(alloc, topology)?;
+            let table = RowTable::of_all(alloc, book.topology())?;
+            let mut clerk = Clerk {
+                alloc,
+                core: Core::with_rows(alloc, Plain { book }, table),
+                rows: RowsInAdvance::new(),
+            };
+            done_of_talk(converse(&mut clerk, lines, output))
+        }
         Some(name) => {
             let store = open_journal::<C, Decided>(alloc, name, topology, cabinet)?;
             answer_by_journal(alloc, store, lines, output, cabinet)
         }
     }
-}
-
-// Answers all lines by a book in memory. The rows of all nodes are made first.
-fn answer_in_memory<S: Source, O: Sink>(
-    alloc: Global,
-    topology: Topology,
-    lines: &mut LineReader<S>,
-    output: &mut O,
-) -> Result<(), Fault>
-    requires limit { lines.old.taken ≤ INPUT_LIMIT }
-    requires no_fault { lines.old.fault ≡ None }
-    ensures talks { TalksInMemory (talk_tellings S.Source O.Sink plain_books) topology
-        (talk lines.old output.old tt) (talk lines.new output.new tt) result }
-    ensures too_long { (result ≡ Err Fault.TooLong) ↔ (INPUT_LIMIT < lines.new.taken) }
-    ensures reads_on { ReadsOn S.Source lines.old lines.new }
-    ensures limit { lines.new.taken ≤ INPUT_LIMIT + 1 }
-    ensures output { Stays (O.frame output.old) (O.frame output.new) }
-{
-    let book = Book::new(alloc, topology)?;
-    let table = RowTable::of_all(alloc, book.topology())?;
-    let mut clerk = Clerk {
-        alloc,
-        core: Core::with_rows(alloc, Plain { book }, table),
-        rows: RowsInAdvance::new(),
-    };
-    done_of_talk(converse(&mut clerk, lines, output))
 }
 
 // Answers all lines by a store that was just opened, whose disk is out of the cabinet. The first

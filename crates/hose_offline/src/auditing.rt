@@ -1,5 +1,5 @@
 // An audit: the book of a journal, as a text.
-ghost use Rattle.std.specs.Prelude.{◌≡◌, ◌≢◌, IsSome, IsTrue, None};
+ghost use Rattle.std.specs.Prelude.{◌≡◌, IsSome, IsTrue, None};
 ghost use Rattle.hose_audit.specs.Audit.{audit_text};
 ghost use Rattle.hose_offline.specs.AuditOutcome.{AuditOutcome};
 ghost use Rattle.hose_offline.specs.Ending.{EndsTold};
@@ -7,7 +7,7 @@ ghost use Rattle.hose_offline.specs.steps.AuditOutcome.{AuditsJournal};
 ghost use Rattle.hose_offline.specs.Auditing.{ReadsText, ReadsTopology, priced_names};
 ghost use Rattle.hose_offline.specs.steps.Ending.{Wrote};
 ghost use Rattle.hose_offline.specs.Parts.{tellings};
-ghost use Rattle.hose_offline.specs.steps.Parts.{KeepsAll, held};
+ghost use Rattle.hose_offline.specs.steps.Parts.{ComesTo, LeavesBeside, held};
 ghost use Rattle.hose_offline.specs.TopologyTold.{own_costs};
 
 use crate::cabinet_text::CabinetText;
@@ -42,13 +42,9 @@ pub fn audit<P: Prices, I: Source, O: Sink, C: Cabinet>(
     outside: &mut Outside<'_, I, O, C>,
 ) -> u8
     requires { (C.frame (held outside.old).cabinet).out ≡ None }
-    ensures outcome { AuditOutcome (tellings I.Source O.Sink C.Cabinet C.Disk.Disk)
-        (priced_names (P.prices costs.now) names.entry.topology.now names.entry.journal.now)
-        (held outside.old) (held outside.new) result }
-    ensures not_words { result ≢ 1 }
-    ensures back { (C.frame (held outside.new).cabinet).out ≡ None }
-    ensures keeps { KeepsAll (tellings I.Source O.Sink C.Cabinet C.Disk.Disk)
-        outside.old outside.new }
+    ensures { ComesTo (tellings I.Source O.Sink C.Cabinet C.Disk.Disk) (λ tells. AuditOutcome tells
+        (priced_names (P.prices costs.now) names.entry.topology.now names.entry.journal.now))
+        outside.old outside.new result }
 {
     match read_topology(alloc, costs, names.topology, outside.cabinet) {
         Ok(topology) => audit_journal(alloc, names.journal, topology, outside),
@@ -68,10 +64,7 @@ fn audit_journal<I: Source, O: Sink, C: Cabinet>(
     ensures audits { AuditsJournal (tellings I.Source O.Sink C.Cabinet C.Disk.Disk) name.now
         (held outside.old) (held outside.new) result topology }
     ensures input { (held outside.new).input ≡ (held outside.old).input }
-    ensures absent { (C.frame (held outside.new).cabinet).absent
-        ≡ (C.frame (held outside.old).cabinet).absent }
-    ensures back { (C.frame (held outside.new).cabinet).out ≡ None }
-    ensures keeps { KeepsAll (tellings I.Source O.Sink C.Cabinet C.Disk.Disk)
+    ensures beside { LeavesBeside (tellings I.Source O.Sink C.Cabinet C.Disk.Disk)
         outside.old outside.new }
 {
     // Nothing is added to the store, so any premises serve.

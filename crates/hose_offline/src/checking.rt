@@ -7,7 +7,7 @@ ghost use Rattle.hose_words.specs.steps.Reading.{ReadsOn};
 ghost use Rattle.hose_offline.specs.CheckOutcome.{CheckOutcome, EndsChecked, JudgesInput, JudgesNamed};
 ghost use Rattle.hose_offline.specs.steps.Ending.{Wrote};
 ghost use Rattle.hose_offline.specs.Parts.{tellings};
-ghost use Rattle.hose_offline.specs.steps.Parts.{KeepsAll, held};
+ghost use Rattle.hose_offline.specs.steps.Parts.{ComesTo, KeepsAll, held};
 
 use crate::auditing::read_topology;
 use crate::fault::{Fault, end, put_numbered};
@@ -31,12 +31,8 @@ pub fn check<P: Prices, I: Source, O: Sink, C: Cabinet>(
     topology: &str,
     outside: &mut Outside<'_, I, O, C>,
 ) -> u8
-    ensures outcome { CheckOutcome (tellings I.Source O.Sink C.Cabinet C.Disk.Disk)
-        (P.prices costs.now) topology.now (held outside.old) (held outside.new) result }
-    ensures not_words { result ≢ 1 }
-    ensures out { (C.frame outside.new.cabinet.now).out ≡ (C.frame outside.old.cabinet.now).out }
-    ensures keeps { KeepsAll (tellings I.Source O.Sink C.Cabinet C.Disk.Disk)
-        outside.old outside.new }
+    ensures { ComesTo (tellings I.Source O.Sink C.Cabinet C.Disk.Disk) (λ tells. CheckOutcome tells
+        (P.prices costs.now) topology.now) outside.old outside.new result }
 {
     match judge_named(alloc, costs, topology, outside) {
         Ok(verdict) => tell_verdict(&verdict, outside.output),

@@ -1,11 +1,11 @@
 // Following: packets of an input, answered by the book of a journal.
-ghost use Rattle.std.specs.Prelude.{◌≡◌, ◌≢◌, None};
+ghost use Rattle.std.specs.Prelude.{◌≡◌, None};
 ghost use Rattle.hose_offline.specs.Auditing.{priced_names};
 ghost use Rattle.hose_offline.specs.FollowOutcome.{FollowOutcome};
 ghost use Rattle.hose_offline.specs.Following.{following_done};
 ghost use Rattle.hose_offline.specs.steps.Following.{FollowsJournal};
 ghost use Rattle.hose_offline.specs.Parts.{tellings};
-ghost use Rattle.hose_offline.specs.steps.Parts.{KeepsAll, held};
+ghost use Rattle.hose_offline.specs.steps.Parts.{ComesTo, LeavesBeside, held};
 
 use crate::auditing::{Names, read_topology};
 use crate::fault::{Fault, end};
@@ -27,13 +27,9 @@ pub fn follow<P: Prices, I: Source, O: Sink, C: Cabinet>(
     outside: &mut Outside<'_, I, O, C>,
 ) -> u8
     requires { (C.frame (held outside.old).cabinet).out ≡ None }
-    ensures outcome { FollowOutcome (tellings I.Source O.Sink C.Cabinet C.Disk.Disk)
-        (priced_names (P.prices costs.now) names.entry.topology.now names.entry.journal.now)
-        (held outside.old) (held outside.new) result }
-    ensures not_words { result ≢ 1 }
-    ensures back { (C.frame (held outside.new).cabinet).out ≡ None }
-    ensures keeps { KeepsAll (tellings I.Source O.Sink C.Cabinet C.Disk.Disk)
-        outside.old outside.new }
+    ensures { ComesTo (tellings I.Source O.Sink C.Cabinet C.Disk.Disk) (λ tells. FollowOutcome tells
+        (priced_names (P.prices costs.now) names.entry.topology.now names.entry.journal.now))
+        outside.old outside.new result }
 {
     match read_topology(alloc, costs, names.topology, outside.cabinet) {
         Ok(top) => {
@@ -55,10 +51,7 @@ fn follow_journal<I: Source, O: Sink, C: Cabinet>(
     requires { (C.frame (held outside.old).cabinet).out ≡ None }
     ensures follows { FollowsJournal (tellings I.Source O.Sink C.Cabinet C.Disk.Disk) name.now
         (held outside.old) (held outside.new) topology result }
-    ensures absent { (C.frame (held outside.new).cabinet).absent
-        ≡ (C.frame (held outside.old).cabinet).absent }
-    ensures back { (C.frame (held outside.new).cabinet).out ≡ None }
-    ensures keeps { KeepsAll (tellings I.Source O.Sink C.Cabinet C.Disk.Disk)
+    ensures beside { LeavesBeside (tellings I.Source O.Sink C.Cabinet C.Disk.Disk)
         outside.old outside.new }
 {
     let mut store = open_journal::<C, Sound>(alloc, name, topology, outside.cabinet)?;

@@ -1,5 +1,5 @@
 // A generated network and its script, answered in memory and summed up.
-ghost use Rattle.std.specs.Prelude.{◌≡◌, ◌≢◌, ◌↔◌, ◌+◌, ◌<◌, ◌^◌, ℕ, [], IfErr, IfOk, IsTrue, OnOk};
+ghost use Rattle.std.specs.Prelude.{◌≡◌, ◌↔◌, ◌+◌, ◌<◌, ◌^◌, ℕ, [], IfErr, IfOk, IsTrue, OnOk};
 ghost use Rattle.std.specs.List.{All};
 ghost use Rattle.hose_graph.specs.steps.Naming.{AsksOf};
 ghost use Rattle.hose_law.specs.Quotes.{nothing_held};
@@ -11,7 +11,7 @@ ghost use Rattle.hose_offline.specs.GenOutcome.{GenOutcome};
 ghost use Rattle.hose_offline.specs.steps.GenOutcome.{GenLeaves};
 ghost use Rattle.hose_offline.specs.steps.Generating.{AreSizes, HaveBeenAnswered, IsTallyOf};
 ghost use Rattle.hose_offline.specs.Parts.{tellings};
-ghost use Rattle.hose_offline.specs.steps.Parts.{KeepsAll, held};
+ghost use Rattle.hose_offline.specs.steps.Parts.{ComesTo};
 ghost use Rattle.hose_offline.specs.steps.Talking.{AnswersLine, plain_books};
 ghost use Rattle.hose_offline.specs.steps.Tally.{IsOfUpTo, with_reply};
 
@@ -44,11 +44,8 @@ pub fn run_generated<I: Source, O: Sink, C: Cabinet>(
     outside: &mut Outside<'_, I, O, C>,
 ) -> u8
     requires { AreSizes sizes.nodes sizes.links sizes.hoses }
-    ensures outcome { GenOutcome (tellings I.Source O.Sink C.Cabinet C.Disk.Disk) sizes
-        (held outside.old) (held outside.new) result }
-    ensures not_words { result ≢ 1 }
-    ensures keeps { KeepsAll (tellings I.Source O.Sink C.Cabinet C.Disk.Disk)
-        outside.old outside.new }
+    ensures { ComesTo (tellings I.Source O.Sink C.Cabinet C.Disk.Disk) (λ tells. GenOutcome tells
+        sizes) outside.old outside.new result }
 {
     let done = sum_up(alloc, sizes, outside.output);
     end(done, outside.output)

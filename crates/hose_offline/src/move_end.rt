@@ -10,7 +10,7 @@ ghost use Rattle.hose_offline.specs.declared.move_end.MoveStop.TheVariants.{Old}
 
 use crate::fault::{Fault, put_numbered};
 use hose_io::{Failed, Gather, Sink, write_all};
-use hose_move::{Change, MoveFault};
+use hose_move::{MoveFault, NetworkChange};
 
 /// What a move brought: how many entries the new journal has, and how many VPNs are live.
 #[derive(Clone, Copy, Debug, PartialEq, Eq)]
@@ -27,7 +27,7 @@ pub enum MoveStop {
     /// A fault of the new topology or of its journal.
     New(Fault),
     /// The new network does not go on from the old one: this is the first change.
-    Network(Change),
+    Network(NetworkChange),
     /// The entry of this epoch is not sound on the new network, and the new journal ends before it.
     Unsound { epoch: u64 },
     /// The new journal has another entry of this epoch than it should have, or one too many.
@@ -79,12 +79,12 @@ fn put_new<O: Sink>(output: &mut O, why: Fault) -> Result<(), Failed>
 }
 
 // Writes the line of the first change of a network.
-fn put_change<O: Sink>(output: &mut O, change: Change) -> Result<(), Failed>
+fn put_change<O: Sink>(output: &mut O, change: NetworkChange) -> Result<(), Failed>
     ensures { IsPut O.Sink output.old output.new (change_line change) result }
 {
     match change {
-        Change::Node(node) => put_numbered(output, b"network node ", u64::from(node)),
-        Change::Link(link) => put_numbered(output, b"network link ", u64::from(link)),
+        NetworkChange::Node(node) => put_numbered(output, b"network node ", u64::from(node)),
+        NetworkChange::Link(link) => put_numbered(output, b"network link ", u64::from(link)),
     }
 }
 

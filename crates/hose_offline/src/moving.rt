@@ -1,12 +1,12 @@
 // Moving: what a journal of one network holds, written into a journal of another one.
-ghost use Rattle.std.specs.Prelude.{◌≡◌, ◌≢◌, All, IfOk, None};
+ghost use Rattle.std.specs.Prelude.{◌≡◌, All, IfOk, None};
 ghost use Rattle.hose_graph.specs.steps.Ranges.{IsInRanges};
 ghost use Rattle.hose_offline.specs.steps.Journal.{IsBack};
 ghost use Rattle.hose_offline.specs.MoveOutcome.{MoveOutcome};
 ghost use Rattle.hose_offline.specs.Moving.{EntersStated, LendsDisk, LendsOld, MovesFrom, MovesBetween, read_done, scope_of, to_move, to_read};
 ghost use Rattle.hose_offline.specs.steps.Moving.{journals_of, names_of};
 ghost use Rattle.hose_offline.specs.Parts.{tellings};
-ghost use Rattle.hose_offline.specs.steps.Parts.{KeepsAll, held};
+ghost use Rattle.hose_offline.specs.steps.Parts.{ComesTo, KeepsAll, held};
 
 use crate::auditing::{Names, read_topology};
 use crate::fault::Fault;
@@ -39,12 +39,8 @@ pub fn move_journal<P: Prices, I: Source, O: Sink, C: Cabinet>(
     outside: &mut Outside<'_, I, O, C>,
 ) -> u8
     requires none_out { (C.frame (held outside.old).cabinet).out ≡ None }
-    ensures outcome { MoveOutcome (tellings I.Source O.Sink C.Cabinet C.Disk.Disk)
-        (names_of (P.prices costs.now) of.entry) (held outside.old) (held outside.new) result }
-    ensures not_words { result ≢ 1 }
-    ensures back { (C.frame (held outside.new).cabinet).out ≡ None }
-    ensures keeps { KeepsAll (tellings I.Source O.Sink C.Cabinet C.Disk.Disk)
-        outside.old outside.new }
+    ensures { ComesTo (tellings I.Source O.Sink C.Cabinet C.Disk.Disk) (λ tells. MoveOutcome tells
+        (names_of (P.prices costs.now) of.entry)) outside.old outside.new result }
 {
     match read_topology(alloc, costs, of.from.topology, outside.cabinet) {
         Ok(old) => {
@@ -147,23 +143,6 @@ fn read_old<C: Cabinet>(
     let Ok(_) = cabinet.text(name, 0, &mut [0]) else {
         return Err(Fault::Cabinet);
     };
-    read_there(alloc, name, old, live, cabinet)
-}
-
-// What the journal of a name states. Its disk is only read, and back in the cabinet then.
-fn read_there<C: Cabinet>(
-    alloc: Global,
-    name: &str,
-    old: &Topology,
-    live: bool,
-    cabinet: &mut C,
-) -> Result<Stated, Fault>
-    requires { (C.frame cabinet.old).out ≡ None }
-    ensures reads { LendsDisk C.Cabinet C.Disk.Disk name.now cabinet.old cabinet.new
-        (to_read C.Disk.Disk old.now (scope_of live)) result }
-    ensures ranges { IfOk result (λ stated. All IsInRanges stated.entries.items) }
-    ensures back { IsBack (C.frame cabinet.old) (C.frame cabinet.new) }
-{
     let Ok(disk) = cabinet.disk(name) else {
         return Err(Fault::Cabinet);
     };

@@ -1,9 +1,9 @@
 // Prices: the lines of a sheet of hoses, each priced under every tariff.
-ghost use Rattle.std.specs.Prelude.{◌≡◌, ◌≢◌, ◌≤◌, ℕ, List, length};
+ghost use Rattle.std.specs.Prelude.{◌≡◌, ◌≤◌, ℕ, List, length};
 ghost use Rattle.hose_words.specs.steps.Lines.{Shows};
 ghost use Rattle.hose_law.specs.steps.Plan.{AreNodes};
 ghost use Rattle.hose_offline.specs.Parts.{tellings};
-ghost use Rattle.hose_offline.specs.steps.Parts.{KeepsAll, held};
+ghost use Rattle.hose_offline.specs.steps.Parts.{ComesTo, KeepsAll, held};
 ghost use Rattle.hose_offline.specs.PriceOutcome.{PriceOutcome, PricesInput, pricing_of};
 ghost use Rattle.hose_offline.specs.SheetLine.{AnswersSheet};
 ghost use Rattle.hose_offline.specs.steps.SheetLine.{PricesHose};
@@ -34,14 +34,9 @@ pub fn price<I: Source, O: Sink, C: Cabinet>(
 ) -> u8
     requires some { 1 ≤ length tariffs.now }
     requires few { length tariffs.now ≤ MOST_TARIFFS }
-    ensures outcome { PriceOutcome (tellings I.Source O.Sink C.Cabinet C.Disk.Disk)
+    ensures { ComesTo (tellings I.Source O.Sink C.Cabinet C.Disk.Disk) (λ tells. PriceOutcome tells
         (pricing_of ⟦<Tariff as Prices>⟧.prices (λ tariff. tariff.name) (λ tariff. tariff.base)
-        (λ tariff. tariff.per) tariffs.now) topology.now
-        (held outside.old) (held outside.new) result }
-    ensures not_words { result ≢ 1 }
-    ensures out { (C.frame outside.new.cabinet.now).out ≡ (C.frame outside.old.cabinet.now).out }
-    ensures keeps { KeepsAll (tellings I.Source O.Sink C.Cabinet C.Disk.Disk)
-        outside.old outside.new }
+        (λ tariff. tariff.per) tariffs.now) topology.now) outside.old outside.new result }
 {
     match read_topology(alloc, &OwnCosts, topology, outside.cabinet) {
         Ok(top) => {

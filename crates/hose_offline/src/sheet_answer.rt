@@ -1,5 +1,5 @@
 // The answers to the lines of a sheet of hoses, and how they are written.
-ghost use Rattle.std.specs.Prelude.{◌≡◌, ◌++◌, [], decimal, get_or, map};
+ghost use Rattle.std.specs.Prelude.{[], decimal, get_or, map};
 ghost use Rattle.hose_io.specs.steps.Gather.{IsAdded};
 ghost use Rattle.hose_io.specs.steps.Writing.{IsPut};
 ghost use Rattle.hose_proto.specs.ReplyText.{line_of};

@@ -1,9 +1,9 @@
 // Shipping: the entries of a journal, written as packets for one that follows it.
-ghost use Rattle.std.specs.Prelude.{◌≡◌, ◌≢◌, None};
+ghost use Rattle.std.specs.Prelude.{◌≡◌, None};
 ghost use Rattle.hose_offline.specs.Auditing.{priced_names};
 ghost use Rattle.hose_offline.specs.OnDisk.{IsUnopened};
 ghost use Rattle.hose_offline.specs.Parts.{tellings};
-ghost use Rattle.hose_offline.specs.steps.Parts.{KeepsAll, held};
+ghost use Rattle.hose_offline.specs.steps.Parts.{ComesTo, LeavesBeside, held};
 ghost use Rattle.hose_offline.specs.ShipOutcome.{ShipOutcome, ShipsJournal};
 ghost use Rattle.hose_offline.specs.steps.ShipOutcome.{shipping_done};
 
@@ -28,13 +28,9 @@ pub fn ship<P: Prices, I: Source, O: Sink, C: Cabinet>(
     outside: &mut Outside<'_, I, O, C>,
 ) -> u8
     requires { (C.frame (held outside.old).cabinet).out ≡ None }
-    ensures outcome { ShipOutcome (tellings I.Source O.Sink C.Cabinet C.Disk.Disk)
-        (priced_names (P.prices costs.now) names.entry.topology.now names.entry.journal.now) from
-        (held outside.old) (held outside.new) result }
-    ensures not_words { result ≢ 1 }
-    ensures back { (C.frame (held outside.new).cabinet).out ≡ None }
-    ensures keeps { KeepsAll (tellings I.Source O.Sink C.Cabinet C.Disk.Disk)
-        outside.old outside.new }
+    ensures { ComesTo (tellings I.Source O.Sink C.Cabinet C.Disk.Disk) (λ tells. ShipOutcome tells
+        (priced_names (P.prices costs.now) names.entry.topology.now names.entry.journal.now) from)
+        outside.old outside.new result }
 {
     match read_topology(alloc, costs, names.topology, outside.cabinet) {
         Ok(top) => {
@@ -59,10 +55,7 @@ fn ship_journal<I: Source, O: Sink, C: Cabinet>(
     ensures unopened { IsUnopened C.Cabinet C.Disk.Disk (held outside.old).cabinet
         (held outside.new).cabinet top.now name.now }
     ensures input { (held outside.new).input ≡ (held outside.old).input }
-    ensures absent { (C.frame (held outside.new).cabinet).absent
-        ≡ (C.frame (held outside.old).cabinet).absent }
-    ensures back { (C.frame (held outside.new).cabinet).out ≡ None }
-    ensures keeps { KeepsAll (tellings I.Source O.Sink C.Cabinet C.Disk.Disk)
+    ensures beside { LeavesBeside (tellings I.Source O.Sink C.Cabinet C.Disk.Disk)
         outside.old outside.new }
 {
     let Ok(disk) = outside.cabinet.disk(name) else {

@@ -1,23 +1,21 @@
 -- The program's words, one after the other.
 use Rattle.std.specs.Prelude.{MatchOption, ⊤}
 use Rattle.std.specs.Str.{bytes_eq}
-use Rattle.std.specs.List.{All}
-use Rattle.std.proofs.Common.{◌≡◌, ◌≢◌, ◌∙◌, ◌⊎◌, ℕ, ◌+◌, ◌<◌, ◌≤◌, ◌-◌, ◌^◌, List, [], ◌∷◌, ◌++◌, Bool, IsTrue, true, false, Option, None, Some, IfNone, IfSome, decimal, inl, inr, suc, zero, append_assoc, length, take, drop, get_or, map, refl, sym, ap, subst, arith}
+use Rattle.std.proofs.Common.{◌≡◌, ◌≢◌, ◌∙◌, ◌⊎◌, ℕ, ◌+◌, ◌<◌, ◌≤◌, ◌-◌, ◌^◌, List, [], ◌∷◌, ◌++◌, Bool, IsTrue, true, false, Option, None, Some, IfNone, IfSome, inl, inr, suc, zero, append_assoc, length, take, drop, get_or, map, refl, sym, ap, subst, arith}
 use Rattle.std.proofs.lemmas.Bool.{cases_lt}
 use Rattle.std.proofs.lemmas.Fmt.{decimal_injective}
 use Rattle.std.proofs.lemmas.List.{drop-map, drop_more, get_or-map, length-drop, length-map, take_rest}
 use Rattle.std.proofs.lemmas.Slice.Eq.{bytes_eq-Decides}
 use mathlib.Core.List.{map-id}
 use Rattle.hose_words.specs.steps.Cursor.{IsWrong, Misses, Position, Took}
-use Rattle.hose_words.specs.Form.{Fits64, Form, IsChoice, IsWithin, TellsNumber, finish, grammar_of, maybe, place}
+use Rattle.hose_words.specs.Form.{Form, IsChoice, IsWithin, TellsNumber, finish, grammar_of, maybe, place}
 use Rattle.hose_words.specs.Grammar.{IsFirst, IsFirstNotAllowed}
-use Rattle.hose_words.proofs.DecimalLemmas.{decimal_told, told_decimal}
-use Rattle.hose_words.specs.steps.Number.{IsNumber}
 use Rattle.hose_words.proofs.Keywords.{choice_of}
 use Rattle.hose_words.proofs.Forms.{AreApart, Misses-stronger, after_branch, front_wrong, wrong_at_start, wrong_choice, wrong_chosen, wrong_later, wrong_maybe, wrong_place}
 use Rattle.hose_words.proofs.Passing.{Passes, pass_branch, pass_finish, pass_list, pass_maybe, pass_nothing, pass_place}
 use Rattle.hose_proto.proofs.EndWords.{end_words_closed}
-use Rattle.hose_proto.proofs.Words.{every_choice}
+use Rattle.hose_proto.specs.steps.Choices.{IsWordTable}
+use Rattle.hose_proto.proofs.Words.{is_table}
 use Rattle.hosed.specs.ProgramWords.{ArePriceable, AreWords, ArgumentValues, Arguments, AsksFor, FirstWord, IsAvailable, IsChosen, IsFileName, IsFirstNamed, IsFirstWrong, IsOtherFile, IsTariffName, MayBeTold, MayChoose, MayTell, MayTellAll, Operand, OperandValue, OperandValues, Operands, OptionValues, Options, Task, argument_words, arguments_form, chosen_of, file_first, first_end, first_form, form_if, journal_and, last_file, live_option, live_words, moved_names, name_and, name_words, operand_word, operand_words, operands_form, option_words, program_form, program_word, tariff_option, tariff_words, verb_arguments, with_live, with_option, with_options, with_tariff, words_form}
 use Rattle.hosed.specs.ProgramWords.Arguments.{only_operands, options_and_file, tariff_and_any_file}
 use Rattle.hosed.specs.ProgramWords.Operand.{file_name, number_within, other_name}
@@ -69,23 +67,11 @@ took_left took none = absurd (cc (sym none ∙ took.cut))
 pub some_left : (words : List (List ℕ)) (at : ℕ) → 1 ≤ at → at ≤ length words → (at_word at words).left ≡ [] → ⊥
 some_left words at some enough none = omega (arith, length-drop (at - 1) words, ap length none, some, enough)
 
--- ---- seeds
-
--- a seed that was read is the one that the word tells
-pub seed_some : (most : ℕ) (bytes word : List ℕ) (found : Option ℕ) → most < 2 ^ 64 → bytes ≡ word → IfSome found (λ n. IsNumber bytes n × (n ≤ most)) → IfSome found (λ n. (word ≡ decimal n) × Fits64 n)
-seed_some most bytes word None small same told = tt
-seed_some most bytes word (Some n) small same told = (sym same ∙ told_decimal bytes n told.0 (omega (arith, told.1, small)), omega (arith, told.1, small))
-
--- and where none was read it tells none
-pub seed_none : (most : ℕ) (bytes word : List ℕ) (found : Option ℕ) → ((n : ℕ) → n < 2 ^ 64 → n ≤ most) → bytes ≡ word → IfNone found ((n : ℕ) → n ≤ most → IsNumber bytes n → ⊥) → IfNone found (TellsNumber Fits64 word → ⊥)
-seed_none most bytes word (Some n) all same none = tt
-seed_none most bytes word None all same none = λ tells. none tells.0 (all tells.0 tells.2) (decimal_told bytes tells.0 (same ∙ tells.1) tells.2)
-
 -- ---- commands
 
 -- each command has a word of its own, by which it is found again
 abbrev verb_at : List ℕ → ProgramVerb
-verb_at word = choice_of program_word PROGRAM_VERBS command.Run word
+verb_at word = choice_of program_word (map (λ row. row.0) PROGRAM_VERBS) command.Run word
 
 verb_back : (verb : ProgramVerb) → verb_at (program_word verb) ≡ verb
 verb_back command.Run = refl
@@ -97,14 +83,19 @@ verb_apart one other same = sym (verb_back one) ∙ (ap verb_at same ∙ verb_ba
 verbs_apart : (names : List (List ℕ)) → AreApart (IsAvailable names) program_word
 verbs_apart names = record { apart = λ one other here there same. verb_apart one other same }
 
--- what holds of all that are looked through holds of each
-pub every_program_verb : (P : ProgramVerb → Type 0) → All P PROGRAM_VERBS → (one : ProgramVerb) → P one
-every_program_verb P all = every_choice program_word PROGRAM_VERBS command.Run verb_back P all (all 0 command.Run (omega arith))
+-- the table has each command with its word
+pub verbs_told : IsWordTable program_word (map (λ row. (row.0, row.1.now)) PROGRAM_VERBS)
+verbs_told = is_table program_word (map (λ row. (row.0, row.1.now)) PROGRAM_VERBS) command.Run refl verb_back (λ P all. all 0 command.Run (omega arith))
 
 -- where the first word, as its bytes, is that of no command, no command is asked for
 pub asks_first : (first : List ℕ) (more : List (List ℕ)) (word : List ℕ) (words : List (List ℕ)) (found : Option ProgramVerb) → words ≡ first ∷ more → word ≡ first → IfNone found ((verb : ProgramVerb) → word ≡ program_word verb → ⊥) → IfNone found ((verb : ProgramVerb) → AsksFor verb words → ⊥)
 asks_first first more word words (Some one) is same none = tt
 asks_first first more word words None is same none = λ verb asks. none verb (same ∙ subst (AsksFor verb) is asks)
+
+-- where it is that of a command, this command is asked for
+pub asks_one : (first : List ℕ) (more : List (List ℕ)) (word : List ℕ) (words : List (List ℕ)) (found : Option ProgramVerb) → words ≡ first ∷ more → word ≡ first → IfSome found (λ verb. word ≡ program_word verb) → IfSome found (λ verb. AsksFor verb words)
+asks_one first more word words (Some one) is same told = subst (AsksFor one) (sym is) (sym same ∙ told)
+asks_one first more word words None is same told = tt
 
 -- the word of a command is the first
 pub verb_there : (verb : ProgramVerb) (words : List (List ℕ)) → AsksFor verb words → Took (at_word 1 words) (at_word 2 words) (program_word verb)
@@ -168,10 +159,6 @@ no_other_name name more misses = wrong_choice (Misses-stronger (λ word choice. 
 -- the next word tells no number within the bounds
 pub no_number : (least most : ℕ) (more : ℕ → Operands) {old : Position} {number : ℕ} → Misses (TellsNumber (IsWithin least most)) old number → IsWrong (operands_form (next_word (number_within least most) more)) old number
 no_number least most more misses = wrong_choice (Misses-stronger (λ word choice. (choice.0, choice.2, choice.1.0)) misses)
-
--- and none that 64 bits hold
-pub no_seed : (least most : ℕ) (more : ℕ → Operands) {old : Position} {number : ℕ} → Misses (TellsNumber Fits64) old number → IsWrong (operands_form (next_word (number_within least most) more)) old number
-no_seed least most more misses = wrong_choice (Misses-stronger (λ word choice. (choice.0, choice.2, choice.1.1)) misses)
 
 -- ---- options
 
@@ -644,11 +631,6 @@ chosen_nowhere (first ∷ tariffs) (suc which) past = chosen_nowhere tariffs whi
 pub first_small : (tariff : Option ℕ) (first : ℕ) → first ≡ first_end tariff → first ≤ 2 ^ 63
 first_small None first is = omega (arith, is)
 first_small (Some which) first is = omega (arith, is)
-
--- it is that of the word after the name of a topology
-pub first_chosen : (names words : List (List ℕ)) (tariff : Option ℕ) (at : ℕ) → Chooses names words tariff at → at + 1 ≡ first_end tariff
-first_chosen names words None at chosen = omega (arith, chosen.at_once)
-first_chosen names words (Some which) at chosen = omega (arith, chosen.later)
 
 -- ---- names
 

@@ -3,17 +3,17 @@ use Rattle.std.proofs.Common.{◌≡◌, ◌∙◌, ℕ, ◌+◌, ◌-◌, ◌<�
 use mathlib.Core.List.{map-id}
 use Rattle.std.specs.Prelude.{◌↔◌}
 use Rattle.std.specs.List.{Any}
-use Rattle.std.proofs.lemmas.List.{drop_more, get_or-map, get_or_default, length-drop, length-map, length-take, take_all, take_more}
+use Rattle.std.proofs.lemmas.List.{drop_more, get_or-map, get_or_default, length-drop, length-map, length-take, take_more}
 use Rattle.hose_words.specs.steps.Cursor.{IsWrong, MissesItem, Took}
 use Rattle.hose_words.specs.Form.{Follows, grammar_of}
 use Rattle.hose_words.specs.Grammar.{IsFirst, IsFirstNotAllowed}
-use Rattle.hose_words.proofs.Listing.{Listing, listing_more, listing_none, wrong_item}
+use Rattle.hose_words.proofs.Listing.{Listing, listing_more, wrong_item}
 use Rattle.hose_graph.specs.Limit.{IsUpTo}
 use Rattle.hose_graph.specs.Name.{IsName}
 use Rattle.hose_graph.specs.declared.limits.TheConstants.{LEAST_ENDS, MOST_ENDS, MOST_RATE}
-use Rattle.hose_proto.specs.EndWords.{AreEndWords, AreNewEndWords, end_words_form, name_in, named_rate}
+use Rattle.hose_proto.specs.EndWords.{AreNewEndWords, end_words_form, name_in, named_rate}
 use Rattle.hose_proto.specs.steps.EndWords.{IsNewEndWord}
-use Rattle.hose_proto.proofs.EndWords.{end_words_more, makes_end_words, name_of_end, no_end_words}
+use Rattle.hose_proto.proofs.EndWords.{end_words_more, makes_end_words, name_of_end}
 use Rattle.hosed.specs.steps.ProgramWords.{at_word}
 
 -- ---- one word after others
@@ -36,10 +36,6 @@ not_true false fails holds = cc holds
 is_not : (found : Bool) → (IsTrue found → ⊥) → IsTrue (not found)
 is_not true never = absurd (never refl)
 is_not false never = refl
-
--- an item that is seen so is one of all
-pub any_at : {A : Type 0} (P : A → Type 0) (xs : List A) (place : ℕ) (x : A) → place < length xs → x ≡ get_or xs place x → P x → Any P xs
-any_at P xs place x below is holds = (place, x, below, sym is, holds)
 
 -- none of all is seen so
 pub none_seen : {A : Type 0} (P : A → Type 0) (xs : List A) → ((k : ℕ) (d : A) → k < length xs → P (get_or xs k d) → ⊥) → Any P xs → ⊥
@@ -71,9 +67,6 @@ pub record Seen (words : List (List ℕ)) (place : ℕ) : Type 0 where
   pub within : place ≤ length words
   pub are : AreNewEndWords (take place words)
   pub listing : Listing same_word end_words_form (take place words) (at_word 1 words) (at_word (place + 1) words)
-
-pub seen_none : (words : List (List ℕ)) → Seen words 0
-seen_none words = record { within = omega arith; are = no_end_words; listing = listing_none same_word end_words_form (at_word 1 words) }
 
 module _ (words : List (List ℕ)) (place : ℕ) (seen : Seen words place) where
   -- the next word came
@@ -122,13 +115,6 @@ module _ (words : List (List ℕ)) (place : ℕ) (seen : Seen words place) where
       none_left : (left : List (List ℕ)) → length left ≡ 0 → IsFirst (λ (w : List ℕ). (one : List ℕ) × (w ≡ one) × IsNewEndWord (take place words) one) left → ⊥
       none_left [] none first = first
       none_left (word ∷ left) none first = omega (arith, none)
-
-  -- all words were seen
-  pub all_seen : length words ≤ place → LEAST_ENDS ≤ place → AreEndWords words
-  all_seen ended enough = record {
-    enough = omega (arith, enough, seen.within, ended);
-    are = subst AreNewEndWords (take_all place words (omega (arith, ended))) seen.are;
-  }
 
 -- what is wrong of the words from one on is so of them at its place
 pub wrong_from : (words ends : List (List ℕ)) (at place : ℕ) → 1 ≤ at → ends ≡ drop (at - 1) words → IsWrong end_words_form (at_word 1 ends) (place + 1) → IsWrong end_words_form (at_word at words) (at + place)

@@ -21,7 +21,6 @@ use Rattle.hose_offline.proofs.Audited.{named_not_1, named_not_read, named_read,
 use Rattle.hose_offline.proofs.Outcomes.{clash}
 use Rattle.hosed.specs.ServeOutcome.{EndsServed, IsServed, ServeOutcome, first_failed}
 use Rattle.hosed.specs.ServerDoor.{DoorTask, AreServedAlongPass, OutputDoor, OutsideDoor, ServesByJournal, Speaks, spoken}
-use Rattle.hosed.specs.steps.ServerDoor.{ServesConnections}
 use Rattle.hosed.specs.declared.server.ServerEnd.{ServerEnd}
 use Rattle.hosed.proofs.Connections.{served_before}
 
@@ -63,34 +62,28 @@ module _ {I O C E : Type 0} (tells : Tellings I O C E) (names : PricedNames) (ta
       → ServeOutcome tells names task before after status
   no_topology_read why status reads is out same_door same_input = named_not_read tells names before.others after.others purpose why status (no_topology tells names before.others after.others why reads) is out same_door same_input
 
-  module _ (read : C) (mid : O) (network : Network) (status : ℕ) (reads : ReadsTopology tells.cabinet before.others.cabinet read names.prices names.topology (Ok network)) (same_absent : (tells.cabinet.frame after.others.cabinet).absent ≡ (tells.cabinet.frame read).absent)
+  module _ (read : C) (network : Network) (status : ℕ) (reads : ReadsTopology tells.cabinet before.others.cabinet read names.prices names.topology (Ok network)) (same_absent : (tells.cabinet.frame after.others.cabinet).absent ≡ (tells.cabinet.frame read).absent)
       (same_input : after.others.input ≡ before.others.input) where
+    -- no store was opened
+    pub not_opened : (why : Fault) → IsNotServed tells.cabinet tells.disk names.journal read after.others.cabinet network (Err why) → status ≡ status_of why → IsOut tells.sink before.others.output after.others.output (last_line why) → after.door ≡ before.door → ServeOutcome tells names task before after status
+    not_opened why not is out same_door = named_not_read tells names before.others after.others purpose why status (no_store tells names before.others after.others read network why reads same_absent not) is out same_door same_input
+
     abbrev Failing : Type 0
     Failing = NoneFailed tells before.others after.others (¬ Rose before.door.frame after.door.frame)
 
-    abbrev middle : OutputDoor O
-    middle = record (spoken after) { output = mid }
+    -- what was said, where the output was this before the last line
+    abbrev middle : O → OutputDoor O
+    middle mid = record (spoken after) { output = mid }
 
     abbrev Serves : Result ServerEnd Fault → Type 0
     Serves one = ServesByJournal tells names.journal before.others.cabinet after.others.cabinet network (AreServedAlongPass task.connections before.door after.door) one
 
-    -- no store was opened
-    not_opened : (why : Fault) → IsNotServed tells.cabinet tells.disk names.journal read after.others.cabinet network (Err why) → middle ≡ spoken before → EndsServed tells.sink mid after.others.output status (Err why) → ServeOutcome tells names task before after status
-    not_opened why not same ends =
-        let told = at why not ends in
-        named_not_read tells names before.others after.others purpose why status (no_store tells names before.others after.others read network why reads same_absent not) told.0
-        (subst (λ (o : O). IsOut tells.sink o after.others.output (last_line why)) (ap (λ (s : OutputDoor O). s.output) same) told.1) (ap (λ (s : OutputDoor O). s.door) same) same_input
-      where
-        at : (one : Fault) → IsNotServed tells.cabinet tells.disk names.journal read after.others.cabinet network (Err one) → EndsServed tells.sink mid after.others.output status (Err one) → (status ≡ status_of one) × IsOut tells.sink mid after.others.output (last_line one)
-        at Write is out = absurd is
-        at another is out = out
-
     -- one was
-    opened : (came : Result ServerEnd Fault) → ServesByJournal tells names.journal read after.others.cabinet network (AreServedAlongPass task.connections before.door after.door) came → Speaks tells.sink task.port (spoken before) middle came → EndsServed tells.sink mid after.others.output status came
+    pub is_served : (mid : O) (came : Result ServerEnd Fault) → ServesByJournal tells names.journal read after.others.cabinet network (AreServedAlongPass task.connections before.door after.door) came → Speaks tells.sink task.port (spoken before) (middle mid) came → EndsServed tells.sink mid after.others.output status came
         → ServeOutcome tells names task before after status
-    opened came after_read speaks ends =
+    is_served mid came after_read speaks ends =
         named_read tells names before.others after.others purpose read network status reads same_absent same_input (record { mid = mid; came = came; serves = serves; speaks = speaks; ends = ends })
-        (served_status tells.sink task.port (spoken before) middle after.others.output status came speaks ends 8 (λ e. absurd (cc e)) (λ e. absurd (cc e)) (λ e. absurd (cc e)) (λ e. absurd (cc e)) (λ e. absurd (cc e)))
+        (served_status tells.sink task.port (spoken before) (middle mid) after.others.output status came speaks ends 8 (λ e. absurd (cc e)) (λ e. absurd (cc e)) (λ e. absurd (cc e)) (λ e. absurd (cc e)) (λ e. absurd (cc e)))
         (λ told held. completes came held serves speaks ends) (λ told held. refuses came held told serves speaks ends)
       where
         serves : Serves came
@@ -103,7 +96,7 @@ module _ {I O C E : Type 0} (tells : Tellings I O C E) (names : PricedNames) (ta
         ended (Ok done) (Ok closed) text held met closes same (inl whole) = inl whole.0
         ended (Ok done) (Ok closed) text held met closes same (inr part) = absurd (held.writing (subst (λ (f : Frame). Rose f (tells.sink.frame after.others.output)) same part.1))
 
-        completes : (one : Result ServerEnd Fault) → Failing → Serves one → Speaks tells.sink task.port (spoken before) middle one → EndsServed tells.sink mid after.others.output status one → (status ≡ 0) ⊎ (status ≡ 7)
+        completes : (one : Result ServerEnd Fault) → Failing → Serves one → Speaks tells.sink task.port (spoken before) (middle mid) one → EndsServed tells.sink mid after.others.output status one → (status ≡ 0) ⊎ (status ≡ 7)
         completes (Ok end) held kept says out = ended end.accepting end.closing (audit_text end.book.network end.book.book) held says.0 kept.kept.met.failed says.3 out
         completes (Err Memory) held is says out = inr out.0
         completes (Err Door) held is says out = absurd (held.others says.3)
@@ -111,14 +104,9 @@ module _ {I O C E : Type 0} (tells : Tellings I O C E) (names : PricedNames) (ta
         completes (Err another) held is says out = absurd says
 
         refuses : (one : Result ServerEnd Fault) → Failing → JournalIsTold tells.cabinet tells.disk before.others.cabinet (Some names.journal) (λ bytes. (history : List Entry) → ¬ IsHistoryOf network history bytes)
-            → Serves one → Speaks tells.sink task.port (spoken before) middle one → EndsServed tells.sink mid after.others.output status one → (status ≡ 5) ⊎ (status ≡ 7)
+            → Serves one → Speaks tells.sink task.port (spoken before) (middle mid) one → EndsServed tells.sink mid after.others.output status one → (status ≡ 5) ⊎ (status ≡ 7)
         refuses (Ok end) held told kept says out = absurd (clash tells.cabinet tells.disk before.others.cabinet after.others.cabinet names.journal _ _ (λ image is none. none kept.since is) kept.kept.begun told)
         refuses (Err Memory) held told is says out = inr out.0
         refuses (Err Door) held told is says out = absurd (held.others says.3)
         refuses (Err Write) held told is says out = absurd (held.writing (subst (λ (o : O). Rose (tells.sink.frame before.others.output) (tells.sink.frame o)) (sym out.1) says.2))
         refuses (Err another) held told is says out = absurd says
-
-    pub is_served : (came : Result ServerEnd Fault) → ServesConnections tells names.journal task (record before { others = record before.others { cabinet = read } }) (record after { others = record after.others { output = mid } }) network came
-        → EndsServed tells.sink mid after.others.output status came → ServeOutcome tells names task before after status
-    is_served came (inl (why, is, not, same)) ends = not_opened why not same (subst (EndsServed tells.sink mid after.others.output status) is ends)
-    is_served came (inr (serves, speaks)) ends = opened came serves speaks ends

@@ -52,7 +52,7 @@ use hose_offline::{
 };
 use hose_pool::Gate;
 use hose_tariff::{Prices, Tariff};
-pub use naming::{Named, named_by};
+pub use naming::{NamedByWords, named_by};
 use server::serve;
 use std::alloc::Global;
 use std::sync::Wait;

@@ -12,7 +12,7 @@ use hose_tariff::Tariff;
 
 /// The files and the port that words name, where they name one.
 #[derive(Clone, Copy)]
-pub struct Named<'w> {
+pub struct NamedByWords<'w> {
     pub topology: Option<&'w str>,
     pub journal: Option<&'w str>,
     pub new_topology: Option<&'w str>,
@@ -21,7 +21,7 @@ pub struct Named<'w> {
 }
 
 /// What the words name; or the first of them that is not allowed, counted from 1.
-pub fn named_by<'w>(words: &'w [String], tariffs: &[Tariff]) -> Result<Named<'w>, u64>
+pub fn named_by<'w>(words: &'w [String], tariffs: &[Tariff]) -> Result<NamedByWords<'w>, u64>
     ensures { MatchResult result
         (AreNamed (map (λ tariff. tariff.name) tariffs.now) (map string_bytes words.now))
         (IsFirstWrong (map (λ tariff. tariff.name) tariffs.now) (map string_bytes words.now)) }
@@ -33,7 +33,7 @@ pub fn named_by<'w>(words: &'w [String], tariffs: &[Tariff]) -> Result<Named<'w>
         };
     }
     match serve_of(words, tariffs) {
-        Ok(request) => Ok(Named {
+        Ok(request) => Ok(NamedByWords {
             topology: Some(request.topology),
             journal: Some(request.journal),
             new_topology: None,
@@ -45,7 +45,7 @@ pub fn named_by<'w>(words: &'w [String], tariffs: &[Tariff]) -> Result<Named<'w>
 }
 
 // What a request names.
-fn named_of(request: Request<'_>) -> Named<'_>
+fn named_of(request: Request<'_>) -> NamedByWords<'_>
     ensures { (names words : List (List ℕ)) → AreWordsOf names words request.entry →
         AreNamed names words result }
 {
@@ -62,7 +62,7 @@ fn named_of(request: Request<'_>) -> Named<'_>
     }
 }
 
-fn files<'w>(topology: Option<&'w str>, journal: Option<&'w str>) -> Named<'w>
+fn files<'w>(topology: Option<&'w str>, journal: Option<&'w str>) -> NamedByWords<'w>
     ensures { result ≡ record {
       topology = topology.entry;
       journal = journal.entry;
@@ -71,7 +71,7 @@ fn files<'w>(topology: Option<&'w str>, journal: Option<&'w str>) -> Named<'w>
       port = None;
     } }
 {
-    Named {
+    NamedByWords {
         topology,
         journal,
         new_topology: None,
@@ -80,7 +80,7 @@ fn files<'w>(topology: Option<&'w str>, journal: Option<&'w str>) -> Named<'w>
     }
 }
 
-fn moved_files(of: Move<'_>) -> Named<'_>
+fn moved_files(of: Move<'_>) -> NamedByWords<'_>
     ensures { result ≡ record {
       topology = Some of.entry.from.topology;
       journal = Some of.entry.from.journal;
@@ -89,7 +89,7 @@ fn moved_files(of: Move<'_>) -> Named<'_>
       port = None;
     } }
 {
-    Named {
+    NamedByWords {
         topology: Some(of.from.topology),
         journal: Some(of.from.journal),
         new_topology: Some(of.to.topology),

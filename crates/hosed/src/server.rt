@@ -12,7 +12,7 @@ ghost use Rattle.hose_offline.specs.Parts.{tellings};
 ghost use Rattle.hose_offline.specs.steps.Parts.{KeepsAll};
 ghost use Rattle.hosed.specs.ServeOutcome.{EndsServed, ServeOutcome, first_failed};
 ghost use Rattle.hosed.specs.ServerDoor.{IsAnnounced, AreServedAlongPass, Speaks, output_door, seen_of};
-ghost use Rattle.hosed.specs.steps.ServerDoor.{BothStay, IsClosedOn, ServesByStore, ServesConnections, door_beside, door_task};
+ghost use Rattle.hosed.specs.steps.ServerDoor.{BothStay, IsClosedOn, ServesByStore, door_beside, door_task};
 
 use crate::words::ServeRequest;
 use hose_book::{Book, Books};
@@ -249,67 +249,6 @@ fn begin<R: Threads + Sync, L: Door + Send, N: DoorStart + Send + Sync>(
     Ok(Staff { crew, table })
 }
 
-// Serves the connections of a door by the journal that is named. Its disk is back in the cabinet
-// then.
-fn serve_in_cabinet<
-    R: Threads + Wait + Sync,
-    I: Source,
-    O: Sink,
-    C: Cabinet,
-    L: Door + Send,
-    G: Gate + Sync,
->(
-    context: Context<'_, R, G>,
-    topology: Topology,
-    request: ServeRequest<'_>,
-    outside: &mut Outside<'_, I, O, C>,
-    door: &mut L,
-) -> Result<ServerEnd, Fault>
-    requires none_out { (C.frame outside.old.cabinet.now).out ≡ None }
-    requires workers { (1 ≤ request.workers) × (request.workers ≤ MOST_WORKERS) }
-    ensures serves { ServesConnections (tellings I.Source O.Sink C.Cabinet C.Disk.Disk)
-        request.entry.journal.now (door_task request.entry)
-        (door_beside outside.old
-        (seen_of (L.frame door.old) (L.told door.old) (L.opened_at door.old)))
-        (door_beside outside.new
-        (seen_of (L.frame door.new) (L.told door.new) (L.opened_at door.new)))
-        topology result }
-    ensures input { outside.new.input.now ≡ outside.old.input.now }
-    ensures absent { (C.frame outside.new.cabinet.now).absent
-        ≡ (C.frame outside.old.cabinet.now).absent }
-    ensures back { (C.frame outside.new.cabinet.now).out ≡ None }
-    ensures keeps { KeepsAll (tellings I.Source O.Sink C.Cabinet C.Disk.Disk)
-        outside.old outside.new }
-    ensures door { Stays (L.frame door.old) (L.frame door.new) }
-{
-    let Ok(disk) = outside.cabinet.disk(request.journal) else {
-        return Err(Fault::Cabinet);
-    };
-    let was = Snapshot::of(&disk);
-    let store = match open_store::<C::Disk, Decided>(context.alloc, topology, disk) {
-        Ok(store) => store,
-        Err(refused) => {
-            outside.cabinet.back(refused.1);
-            return Err(refused.0);
-        }
-    };
-    let blank = Blank::new(u64::from(request.workers));
-    let opening = OpenedStore { store, was, blank };
-    let ServedDoor {
-        came,
-        disk,
-        door: _door,
-    } = serve_store::<R, O, C::Disk, &mut L, Brand, G>(
-        context,
-        opening,
-        request,
-        outside.output,
-        door,
-    );
-    outside.cabinet.back(disk);
-    came
-}
-
 /// Reads the topology that is named, serves the connections of a door by the journal, writes what
 /// its book holds, and gives the exit status. The book is told where accepting or closing
 /// failed too.
@@ -347,7 +286,31 @@ pub fn serve<
         Ok(topology) => topology,
         Err(why) => return end(Err(why), outside.output),
     };
-    let came = serve_in_cabinet(context, topology, request, outside, door);
+    let Ok(disk) = outside.cabinet.disk(request.journal) else {
+        return end(Err(Fault::Cabinet), outside.output);
+    };
+    let was = Snapshot::of(&disk);
+    let store = match open_store::<C::Disk, Decided>(context.alloc, topology, disk) {
+        Ok(store) => store,
+        Err(refused) => {
+            outside.cabinet.back(refused.1);
+            return end(Err(refused.0), outside.output);
+        }
+    };
+    let blank = Blank::new(u64::from(request.workers));
+    let opening = OpenedStore { store, was, blank };
+    let ServedDoor {
+        came,
+        disk,
+        door: _door,
+    } = serve_store::<R, O, C::Disk, &mut L, Brand, G>(
+        context,
+        opening,
+        request,
+        outside.output,
+        door,
+    );
+    outside.cabinet.back(disk);
     tell_served(came, outside.output)
 }
 

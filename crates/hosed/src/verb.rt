@@ -4,11 +4,11 @@ ghost use Rattle.std.specs.String.{string_bytes};
 ghost use Rattle.hosed.specs.ProgramWords.{AsksFor, AsksToServe};
 ghost use Rattle.hosed.specs.declared.verb.ProgramVerb.TheVariants as command;
 
-use hose_proto::{HasWord, with_word};
+use hose_proto::with_word;
 
-/// What the first word of the program says is to be done, with the words that follow: each command's
-/// line of the usage text, in its order. A test of `tools/` compares both with `program_line` of the
-/// definitions.
+/// What the first word of the program says is to be done, with the words that follow: each
+/// command's line of the usage text, in its order. A test of `tools/` compares both with
+/// `program_line` of the definitions.
 #[derive(Clone, Copy)]
 pub enum ProgramVerb {
     /// `run [--tariff NAME] [JOURNAL] < FILE`
@@ -33,39 +33,18 @@ pub enum ProgramVerb {
     Generate,
 }
 
-const PROGRAM_VERBS: [ProgramVerb; 10] = [
-    ProgramVerb::Run,
-    ProgramVerb::Audit,
-    ProgramVerb::Serve,
-    ProgramVerb::Prove,
-    ProgramVerb::Check,
-    ProgramVerb::Price,
-    ProgramVerb::Ship,
-    ProgramVerb::Follow,
-    ProgramVerb::Move,
-    ProgramVerb::Generate,
+const PROGRAM_VERBS: [(ProgramVerb, &[u8]); 10] = [
+    (ProgramVerb::Run, b"run"),
+    (ProgramVerb::Audit, b"audit"),
+    (ProgramVerb::Serve, b"serve"),
+    (ProgramVerb::Prove, b"prove"),
+    (ProgramVerb::Check, b"check"),
+    (ProgramVerb::Price, b"price"),
+    (ProgramVerb::Ship, b"ship"),
+    (ProgramVerb::Follow, b"follow"),
+    (ProgramVerb::Move, b"move"),
+    (ProgramVerb::Generate, b"gen"),
 ];
-
-impl HasWord for ProgramVerb {
-    ghost use Rattle.hosed.specs.ProgramWords.{program_word};
-
-    ghost word_of = { program_word };
-
-    fn word(self) -> &'static [u8] {
-        match self {
-            ProgramVerb::Run => b"run",
-            ProgramVerb::Audit => b"audit",
-            ProgramVerb::Serve => b"serve",
-            ProgramVerb::Prove => b"prove",
-            ProgramVerb::Check => b"check",
-            ProgramVerb::Price => b"price",
-            ProgramVerb::Ship => b"ship",
-            ProgramVerb::Follow => b"follow",
-            ProgramVerb::Move => b"move",
-            ProgramVerb::Generate => b"gen",
-        }
-    }
-}
 
 /// The command whose word is the first one, if there is one.
 pub fn verb_of(words: &[String]) -> Option<ProgramVerb>

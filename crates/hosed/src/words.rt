@@ -2,7 +2,7 @@
 ghost use Rattle.std.specs.Prelude.{◌≡◌, ◌↔◌, ℕ, ◌+◌, ◌<◌, ◌≤◌, List, [], IfErr, IfNone, IfOk, IfSome, IsTrue, OnOk, decimal, get_or, map};
 ghost use Rattle.std.specs.String.{string_bytes};
 ghost use Rattle.hose_words.specs.steps.Cursor.{IsWrong, Misses, Took};
-ghost use Rattle.hose_words.specs.Form.{Fits64, IsWithin, TellsNumber, finish};
+ghost use Rattle.hose_words.specs.Form.{IsWithin, TellsNumber, finish};
 ghost use Rattle.hose_words.specs.Grammar.{IsFirst};
 ghost use Rattle.hosed.specs.ProgramWords.{ArePriceable, AsksFor, AsksToServe, IsFileName, IsFirstNamed, IsFirstWrong, IsOtherFile, IsTariffName, file_first, first_form, moved_names, program_form};
 ghost use Rattle.hosed.specs.steps.ProgramWords.{AreServeWords, at_word};
@@ -153,16 +153,16 @@ fn generate_of(words: &[String]) -> Result<Request<'_>, u64>
     requires { AsksFor command.Generate (map string_bytes words.now) }
     ensures { (names : List (List ℕ)) → ReadsRequest names (map string_bytes words.now) result }
 {
-    let seed = seed_at(words, 2)?;
-    let nodes = number_at(words, 3, LEAST_NODES, MOST_NODES)?;
-    let links = number_at(words, 4, nodes - 1, MOST_LINKS)?;
-    let hoses = number_at(words, 5, 0, MOST_HOSES)?;
+    let seed = number_at(words, 2, 0, u64::MAX)?;
+    let nodes = number_at(words, 3, LEAST_NODES as u64, MOST_NODES as u64)?;
+    let links = number_at(words, 4, nodes - 1, MOST_LINKS as u64)?;
+    let hoses = number_at(words, 5, 0, MOST_HOSES as u64)?;
     none_at(words, 6)?;
     Ok(Request::Generate(Sizes {
         seed,
-        nodes,
-        links,
-        hoses,
+        nodes: nodes as u32,
+        links: links as u32,
+        hoses: hoses as u32,
     }))
 }
 
@@ -222,12 +222,9 @@ fn ship_of<'w>(words: &'w [String], tariffs: &[Tariff]) -> Result<Request<'w>, u
         (map string_bytes words.now) result }
 {
     let (of, at) = journal_at(words, tariffs)?;
-    let from = number_at(words, at, 1, MOST_EPOCH as u32)?;
+    let from = number_at(words, at, 1, MOST_EPOCH)?;
     none_at(words, at + 1)?;
-    Ok(Request::Ship {
-        of,
-        from: u64::from(from),
-    })
+    Ok(Request::Ship { of, from })
 }
 
 // The move that the words ask for: after a tariff, if one is chosen, the choice of live VPNs alone
@@ -315,17 +312,17 @@ pub fn serve_of<'w>(words: &'w [String], tariffs: &[Tariff]) -> Result<ServeRequ
         (map string_bytes words.now)) }
 {
     let (of, at) = journal_at(words, tariffs)?;
-    let port = number_at(words, at, 1, u32::from(u16::MAX))?;
-    let connections = number_at(words, at + 1, 1, MOST_CONNECTIONS)?;
-    let workers = number_at(words, at + 2, 1, MOST_WORKERS)?;
+    let port = number_at(words, at, 1, u16::MAX as u64)?;
+    let connections = number_at(words, at + 1, 1, MOST_CONNECTIONS as u64)?;
+    let workers = number_at(words, at + 2, 1, MOST_WORKERS as u64)?;
     none_at(words, at + 3)?;
     Ok(ServeRequest {
         tariff: of.tariff,
         topology: of.names.topology,
         journal: of.names.journal,
         port: port as u16,
-        connections,
-        workers,
+        connections: connections as u32,
+        workers: workers as u32,
     })
 }
 
@@ -408,7 +405,7 @@ fn name_at(words: &[String], at: u64) -> Result<&str, u64>
 }
 
 // The number that this word tells, counted from 1, which has to be from the least to the most.
-fn number_at(words: &[String], at: u64, least: u32, most: u32) -> Result<u32, u64>
+fn number_at(words: &[String], at: u64, least: u64, most: u64) -> Result<u64, u64>
     requires { 1 ≤ at }
     ensures ok { IfOk result (λ value. Took (at_word at (map string_bytes words.now))
         (at_word (at + 1) (map string_bytes words.now)) (decimal value)) }
@@ -423,42 +420,15 @@ fn number_at(words: &[String], at: u64, least: u32, most: u32) -> Result<u32, u6
 }
 
 // The number from the least to the most that a word tells, if it tells one.
-fn number_of(word: &str, least: u32, most: u32) -> Option<u32>
+fn number_of(word: &str, least: u64, most: u64) -> Option<u64>
     ensures some { IfSome result
         (λ value. (word.now ≡ decimal value) × IsWithin least most value) }
     ensures none { IfNone result (¬ TellsNumber (IsWithin least most) word.now) }
 {
-    let Some(value) = number(word.as_bytes(), u64::from(most)) else {
+    let Some(value) = number(word.as_bytes(), most) else {
         return None;
     };
-    if value < u64::from(least) {
-        None
-    } else {
-        Some(value as u32)
-    }
-}
-
-// The seed that this word tells, counted from 1.
-fn seed_at(words: &[String], at: u64) -> Result<u64, u64>
-    requires { 1 ≤ at }
-    ensures ok { IfOk result (λ value. Took (at_word at (map string_bytes words.now))
-        (at_word (at + 1) (map string_bytes words.now)) (decimal value)) }
-    ensures small { IfOk result Fits64 }
-    ensures wrong { IfErr result
-        (Misses (TellsNumber Fits64) (at_word at (map string_bytes words.now))) }
-{
-    match word_at(words, at) {
-        Some(word) => seed_of(word).ok_or(at),
-        None => Err(at),
-    }
-}
-
-// The seed that a word tells, if it tells one.
-fn seed_of(word: &str) -> Option<u64>
-    ensures some { IfSome result (λ value. (word.now ≡ decimal value) × Fits64 value) }
-    ensures none { IfNone result (¬ TellsNumber Fits64 word.now) }
-{
-    number(word.as_bytes(), u64::MAX)
+    if value < least { None } else { Some(value) }
 }
 
 // Makes sure that there is no such word, counted from 1; else its number is told.

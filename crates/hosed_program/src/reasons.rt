@@ -2,7 +2,7 @@
 // known then, so a sentence tells what they can mean.
 use crate::returns::Returning;
 use hose_tariff::Tariff;
-use hosed::{Named, named_by};
+use hosed::{NamedByWords, named_by};
 use std::io;
 use std::io::Eprint;
 
@@ -22,7 +22,7 @@ pub fn tell_reason<R: Eprint>(
     tariffs: &[Tariff],
     returning: Returning,
 ) {
-    let none = Named {
+    let none = NamedByWords {
         topology: None,
         journal: None,
         new_topology: None,
@@ -66,25 +66,18 @@ fn word_at(words: &[String], number: u64) -> Option<&str> {
 }
 
 // Words that are allowed, or ask for a text of the program, came to this status.
-fn tell_of_named<R: Eprint>(rt: &R, status: u8, named: Named<'_>) -> io::Result<()> {
-    match (named.new_topology, named.new_journal) {
-        (Some(topology), Some(journal)) => tell_of_move(rt, status, named, topology, journal),
-        _ => tell_of_one(rt, status, named),
+fn tell_of_named<R: Eprint>(rt: &R, status: u8, named: NamedByWords<'_>) -> io::Result<()> {
+    match named.new_topology {
+        Some(_) => tell_of_move(rt, status, named),
+        None => tell_of_one(rt, status, named),
     }
 }
 
 // The move of a journal to another network came to this status.
-fn tell_of_move<R: Eprint>(
-    rt: &R,
-    status: u8,
-    named: Named<'_>,
-    new_topology: &str,
-    new_journal: &str,
-) -> io::Result<()> {
-    let topology = named.topology.unwrap_or("");
-    let journal = named.journal.unwrap_or("");
+fn tell_of_move<R: Eprint>(rt: &R, status: u8, named: NamedByWords<'_>) -> io::Result<()> {
+    let (topology, journal, new_topology, new_journal) = names_of_move(named);
     match status {
-        2 | 5 | 6 | 8 => tell_moved_files(rt, status, named, new_topology, new_journal),
+        2 | 5 | 6 | 8 => tell_moved_files(rt, status, named),
         12 => eprintln!(rt;
             "hosed: the topology {new_topology:?} does not go on from {topology:?}: the last line \
             of the output tells the first node or link that is not where it was"
@@ -103,15 +96,8 @@ fn tell_of_move<R: Eprint>(
 }
 
 // One of the files of a move is wrong: the last line tells by `new` which of two it is.
-fn tell_moved_files<R: Eprint>(
-    rt: &R,
-    status: u8,
-    named: Named<'_>,
-    new_topology: &str,
-    new_journal: &str,
-) -> io::Result<()> {
-    let topology = named.topology.unwrap_or("");
-    let journal = named.journal.unwrap_or("");
+fn tell_moved_files<R: Eprint>(rt: &R, status: u8, named: NamedByWords<'_>) -> io::Result<()> {
+    let (topology, journal, new_topology, new_journal) = names_of_move(named);
     match status {
         2 => eprintln!(rt;
             "hosed: the topology {topology:?}, or {new_topology:?}, is not allowed at the place \
@@ -133,8 +119,18 @@ fn tell_moved_files<R: Eprint>(
     }
 }
 
+// The names of the old topology and journal and of the new ones.
+fn names_of_move(named: NamedByWords<'_>) -> (&str, &str, &str, &str) {
+    (
+        named.topology.unwrap_or(""),
+        named.journal.unwrap_or(""),
+        named.new_topology.unwrap_or(""),
+        named.new_journal.unwrap_or(""),
+    )
+}
+
 // Words that name one network at most came to this status.
-fn tell_of_one<R: Eprint>(rt: &R, status: u8, named: Named<'_>) -> io::Result<()> {
+fn tell_of_one<R: Eprint>(rt: &R, status: u8, named: NamedByWords<'_>) -> io::Result<()> {
     match status {
         0 => Ok(()),
         1 => tell_no_node(rt, named),
@@ -158,7 +154,7 @@ fn tell_of_one<R: Eprint>(rt: &R, status: u8, named: Named<'_>) -> io::Result<()
 }
 
 // `prove` alone looks at words once they are allowed.
-fn tell_no_node<R: Eprint>(rt: &R, named: Named<'_>) -> io::Result<()> {
+fn tell_no_node<R: Eprint>(rt: &R, named: NamedByWords<'_>) -> io::Result<()> {
     let topology = named.topology.unwrap_or("");
     eprintln!(rt;
         "hosed: the word that the last line of the output tells is not allowed: it is the \
@@ -168,7 +164,7 @@ fn tell_no_node<R: Eprint>(rt: &R, named: Named<'_>) -> io::Result<()> {
 
 fn tell_refused_topology<R: Eprint>(
     rt: &R,
-    named: Named<'_>,
+    named: NamedByWords<'_>,
     returning: Returning,
 ) -> io::Result<()> {
     let line = match named.topology {
@@ -197,7 +193,7 @@ fn tell_refused_topology<R: Eprint>(
     }
 }
 
-fn tell_refused_journal<R: Eprint>(rt: &R, named: Named<'_>) -> io::Result<()> {
+fn tell_refused_journal<R: Eprint>(rt: &R, named: NamedByWords<'_>) -> io::Result<()> {
     let journal = named.journal.unwrap_or("");
     match named.topology {
         Some(topology) => eprintln!(rt;
@@ -211,7 +207,7 @@ fn tell_refused_journal<R: Eprint>(rt: &R, named: Named<'_>) -> io::Result<()> {
     }
 }
 
-fn tell_files<R: Eprint>(rt: &R, named: Named<'_>) -> io::Result<()> {
+fn tell_files<R: Eprint>(rt: &R, named: NamedByWords<'_>) -> io::Result<()> {
     match (named.topology, named.journal) {
         (Some(topology), Some(journal)) => {
             eprintln!(rt;
@@ -232,7 +228,7 @@ fn tell_files<R: Eprint>(rt: &R, named: Named<'_>) -> io::Result<()> {
     }
 }
 
-fn tell_too_long<R: Eprint>(rt: &R, named: Named<'_>) -> io::Result<()> {
+fn tell_too_long<R: Eprint>(rt: &R, named: NamedByWords<'_>) -> io::Result<()> {
     match named.topology {
         Some(topology) => eprintln!(rt;
             "hosed: the topology {topology:?}, or the input, is longer \
@@ -242,7 +238,7 @@ fn tell_too_long<R: Eprint>(rt: &R, named: Named<'_>) -> io::Result<()> {
     }
 }
 
-fn tell_port<R: Eprint>(rt: &R, named: Named<'_>) -> io::Result<()> {
+fn tell_port<R: Eprint>(rt: &R, named: NamedByWords<'_>) -> io::Result<()> {
     let port = named.port.unwrap_or(0);
     eprintln!(rt;
         "hosed: the port {port} could not be opened: another program listens there, or \
@@ -250,7 +246,7 @@ fn tell_port<R: Eprint>(rt: &R, named: Named<'_>) -> io::Result<()> {
     )
 }
 
-fn tell_refused_certificate<R: Eprint>(rt: &R, named: Named<'_>) -> io::Result<()> {
+fn tell_refused_certificate<R: Eprint>(rt: &R, named: NamedByWords<'_>) -> io::Result<()> {
     let topology = named.topology.unwrap_or("");
     eprintln!(rt;
         "hosed: the certificate in the input is not valid for the topology {topology:?}: \

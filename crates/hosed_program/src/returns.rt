@@ -6,7 +6,7 @@ ghost use Rattle.hose_offline.specs.CabinetText.{OnlyTextsRead};
 use hose_disk::Cabinet;
 use hose_offline::{Fault, Refusal, read_topology};
 use hose_tariff::{OwnCosts, Tariff};
-use hosed::{Named, named_by};
+use hosed::{NamedByWords, named_by};
 use std::alloc::Global;
 
 // How many bytes are read at once, and how often at most: up to the limit of a text.
@@ -56,7 +56,7 @@ pub fn returning_line<C: Cabinet>(
         return None;
     }
     let Ok(
-        Named {
+        NamedByWords {
             topology: Some(name),
             ..
         },

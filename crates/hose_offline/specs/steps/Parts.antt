@@ -1,6 +1,6 @@
 -- What is beside a command: what there is to read, what was written, and the files: steps of
 -- proofs.
-use Rattle.std.specs.Prelude.{◌≡◌}
+use Rattle.std.specs.Prelude.{◌≡◌, ◌≢◌, ℕ, None}
 use Rattle.hose_offline.specs.declared.outside.Outside.{Outside}
 use Rattle.hose_offline.specs.Parts.{AllStay, Parts, parts, Tellings}
 
@@ -15,3 +15,24 @@ pub record KeepsAll {I O C E : Type 0} (tells : Tellings I O C E) (before after 
   pub input : after.input.ghost_name ≡ before.input.ghost_name
   pub output : after.output.ghost_name ≡ before.output.ghost_name
   pub cabinet : after.cabinet.ghost_name ≡ before.cabinet.ghost_name
+
+-- What the use of a journal leaves of what is beside it: no text was asked for, no disk is out of
+-- the cabinet, and each part is the object that it was.
+pub record LeavesBeside {I O C E : Type 0} (tells : Tellings I O C E)
+    (before after : Outside I O C E) : Type 0 where
+  pub absent : (tells.cabinet.frame after.cabinet.now).absent
+      ≡ (tells.cabinet.frame before.cabinet.now).absent
+  pub back : (tells.cabinet.frame after.cabinet.now).out ≡ None
+  pub keeps : KeepsAll tells before after
+
+-- What a command comes to: its outcome, by what is beside it before and after and by its status,
+-- which is not that of wrong words. The disk that is out of the cabinet is the one that was, and
+-- each part is the object that it was.
+pub record ComesTo {I O C E : Type 0} (tells : Tellings I O C E)
+    (Outcome : Tellings I O C E → Parts I O C → Parts I O C → ℕ → Type 0)
+    (before after : Outside I O C E) (status : ℕ) : Type 0 where
+  pub outcome : Outcome tells (held before) (held after) status
+  pub not_words : status ≢ 1
+  pub out : (tells.cabinet.frame after.cabinet.now).out
+      ≡ (tells.cabinet.frame before.cabinet.now).out
+  pub keeps : KeepsAll tells before after

@@ -3,7 +3,7 @@ use Rattle.std.specs.Prelude.{◌≡◌, ℕ, List, Option, None, Some, option_m
 use Rattle.hosed.specs.ProgramWords.{AreWords, Task}
 use Rattle.hosed.specs.declared.verb.ProgramVerb.{ProgramVerb}
 use Rattle.hosed.specs.declared.verb.ProgramVerb.TheVariants as command
-use Rattle.hosed.specs.declared.naming.Named.{Named}
+use Rattle.hosed.specs.declared.naming.NamedByWords.{NamedByWords}
 
 -- the files and the port that a task names, each where it names one
 pub record TaskNames : Type 0 where
@@ -45,7 +45,7 @@ task_names command.Serve (tariff, topology, (journal, (port, (connections, (work
     record (files_named (Some topology) (Some journal)) { port = Some port }
 
 -- what is named, by the bytes of each name
-abbrev pub named_bytes : Named → TaskNames
+abbrev pub named_bytes : NamedByWords → TaskNames
 named_bytes named = record {
   topology = option_map (λ name. name.now) named.topology;
   journal = option_map (λ name. name.now) named.journal;
@@ -55,7 +55,7 @@ named_bytes named = record {
 }
 
 -- The words are those of a command and a task, which names these files and this port.
-pub record AreNamed (names words : List (List ℕ)) (named : Named) : Type 0 where
+pub record AreNamed (names words : List (List ℕ)) (named : NamedByWords) : Type 0 where
   pub verb : ProgramVerb
   pub task : Task verb
   pub are : AreWords names words verb task

@@ -1,6 +1,6 @@
 -- What serving the connections of a door comes to, and what it does to the journal: steps of
 -- proofs.
-use Rattle.std.specs.Prelude.{◌≡◌, ◌⊎◌, ℕ, List, length, Option, IfSome, Result, Err, is_err, is_some, ⊤}
+use Rattle.std.specs.Prelude.{◌≡◌, ℕ, List, length, Option, IfSome, Result, is_err, is_some, ⊤}
 use mathlib.Core.List.{IsPrefix}
 use Rattle.hose_io.specs.Frame.{Frame, Stays}
 use Rattle.hose_io.specs.declared.Failed.{Failed}
@@ -15,14 +15,12 @@ use Rattle.hose_store.specs.Recovery.{IsHistoryOf}
 use Rattle.hose_store.specs.steps.Store.{KeptStore}
 use Rattle.hose_turn.specs.Known.{Known}
 use Rattle.hose_offline.specs.OnDisk.{opening_of}
-use Rattle.hose_offline.specs.Parts.{Tellings}
 use Rattle.hose_offline.specs.steps.Parts.{held}
-use Rattle.hose_offline.specs.ServingOnDisk.{IsNotServed}
 use Rattle.hose_offline.specs.declared.fault.Fault.{Fault}
 use Rattle.hose_offline.specs.declared.outside.Outside.{Outside}
 use Rattle.hosed.specs.declared.server.ServerEnd.{ServerEnd}
 use Rattle.hosed.specs.declared.words.ServeRequest.{ServeRequest}
-use Rattle.hosed.specs.ServerDoor.{DoorSeen, DoorTask, AreServedAlongPass, OutsideDoor, ServerProgress, ServesBook, ServesByJournal, Speaks, spoken}
+use Rattle.hosed.specs.ServerDoor.{DoorSeen, DoorTask, OutsideDoor, ServerProgress, ServesBook}
 
 -- ---- what a server says
 
@@ -82,16 +80,3 @@ abbrev pub ServesByStore : {E : Type 0} → DiskGhosts E → E → E → Network
     → (Known → Result ⊤ Failed → Type 0) → Result ServerEnd Fault → Type 0
 ServesByStore disk was left network Along came =
     ServesBook network (IsKeptOn disk was left) (disk.frame left).faults Along came
-
--- ---- in a cabinet
-
-module _ {I O C E : Type 0} (tells : Tellings I O C E) (name : List ℕ) (task : DoorTask)
-    (before after : OutsideDoor I O C) (network : Network) where
-  -- No store was opened on the journal, which is told why, and nothing was said; or one was.
-  abbrev pub ServesConnections : Result ServerEnd Fault → Type 0
-  ServesConnections came = ((why : Fault) × (came ≡ Err why)
-      × IsNotServed tells.cabinet tells.disk name before.others.cabinet after.others.cabinet network
-      (Err why) × (spoken after ≡ spoken before))
-      ⊎ (ServesByJournal tells name before.others.cabinet after.others.cabinet network
-      (AreServedAlongPass task.connections before.door after.door) came
-      × Speaks tells.sink task.port (spoken before) (spoken after) came)

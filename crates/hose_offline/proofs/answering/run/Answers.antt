@@ -1,14 +1,15 @@
 use Rattle.std.specs.Prelude.{option_map}
-use Rattle.std.proofs.Common.{◌∙◌, ap, sym}
+use Rattle.std.proofs.Common.{◌∙◌, ap, rules, sym}
 use Rattle.hose_offline.specs.Ending.{TakesWithinLimit, status_of_done}
 use Rattle.hose_offline.specs.Parts.{parts, tellings}
+use Rattle.hose_offline.specs.RunOutcome.{RunOutcome}
 use Rattle.hose_offline.specs.steps.Parts.{held}
 use Rattle.hose_offline.specs.declared.notation.Notation.TheVariants.{Lines}
 use Rattle.hose_offline.proofs.Outcomes.{completes, none_named, refuses, refused_ends, run_not_1, too_long_at_8}
 use Rattle.hose_offline.proofs.answering.run.Goals as goal
 
-pub returns-clause-outcome : goal.returns-clause-outcome
-returns-clause-outcome g c =
+pub returns : goal.returns
+returns g c =
     let tells = tellings g.I.Source g.O.Sink g.C.Cabinet g.C.Disk.Disk in
     let prices = g.P.Prices.prices c.args.costs.now in
     let done = c.run_input-done.result in
@@ -24,7 +25,7 @@ returns-clause-outcome g c =
       run.takes.2,
       ((λ is. run.takes.3.0 (too_long_at_8 done is)), λ long. ap status_of_done (run.takes.3.1 long)),
     ) in
-    record {
+    let outcome : RunOutcome tells prices journal before (parts left.input output left.cabinet) c.end.result = record {
       ends = record { left = left.output; done = done; leaves = run.leaves; last_line = c.end.ensures.last_line; is_status = status };
       takes = rw status takes;
       absent = run.absent;
@@ -32,8 +33,5 @@ returns-clause-outcome g c =
       refused = λ refused. rw status (refused_ends tells prices journal before left output done run.leaves refused);
       complete = λ servable told held. rw status (completes tells prices journal before left output c.end.ensures.output run.takes.0 run.takes.1 servable held done run.leaves run.takes.3.0 told);
       refused_journal = λ servable some told held. rw status (refuses tells prices journal before left output c.end.ensures.output run.takes.0 run.takes.1 servable held done run.leaves run.takes.3.0 some told);
-    }
-
-pub returns-clause-not_words : goal.returns-clause-not_words
-returns-clause-not_words g c = λ one.
-    run_not_1 (tellings g.I.Source g.O.Sink g.C.Cabinet g.C.Disk.Disk) (g.P.Prices.prices c.args.costs.now) (option_map (λ name. name.now) c.args.journal) _ _ c.run_input-done.result c.run_input-done.ensures.leaves (sym c.end.ensures.status ∙ one)
+    } in
+    record { outcome = outcome; not_words = λ one. run_not_1 tells prices journal before left done run.leaves (sym status ∙ one); out = run.back ∙ sym c.requires; keeps = search rules }

@@ -1,9 +1,9 @@
 use Rattle.std.specs.Prelude.{⊤}
-use Rattle.std.proofs.Common.{◌≡◌, ◌∙◌, ℕ, List, Option, Err, inl, refl, sym, ap, subst}
+use Rattle.std.proofs.Common.{◌≡◌, ◌∙◌, ◌<◌, ℕ, List, [], Option, Err, inl, inr, refl, sym, ap, subst}
 use Rattle.std.proofs.lemmas.Result.{err_from_is_err_and}
 use Rattle.hose_words.proofs.OnReading.{ReadsOn-start, ReadsOn-then}
 use Rattle.hose_offline.specs.steps.Fault.{of_topology}
-use Rattle.hose_offline.specs.declared.fault.Fault.TheVariants.{Read}
+use Rattle.hose_offline.specs.declared.fault.Fault.TheVariants.{Memory, Read}
 use Rattle.std.specs.Prelude.{option_map}
 use Rattle.hose_offline.specs.Parts.{parts, tellings}
 use Rattle.hose_offline.specs.RunOutcome.{RunLeaves}
@@ -11,6 +11,15 @@ use Rattle.hose_topo.specs.steps.Reading.{KeepsLineFault}
 use Rattle.hose_offline.proofs.Leaving.{leaves_in_cabinet, leaves_in_memory}
 use Rattle.hose_offline.proofs.Running.{leaves_topology, not_read, stopped_told, wrong_told}
 use Rattle.hose_words.proofs.Saying.{rose_now}
+use Rattle.hose_words.specs.declared.lines.TheConstants.{INPUT_LIMIT}
+use Rattle.hose_book.specs.Ledger.{Ledger}
+use Rattle.hose_book.specs.declared.books.Plain.{Plain}
+use Rattle.hose_graph.specs.Network.{Network}
+use Rattle.hose_talk.specs.Talk.{talk}
+use Rattle.hose_offline.specs.steps.Talking.{Talks, plain_books, talk_tellings}
+use Rattle.hose_offline.proofs.BookTalks.{talks_told}
+use Rattle.hose_offline.proofs.Exchanges.{answered_none}
+use Rattle.hose_offline.proofs.TalksTold.{too_long_told}
 use Rattle.hose_offline.proofs.answering.run_lines.Goals as goal
 
 pub returns-in_err-told-clause-leaves : goal.returns-in_err-told-clause-leaves
@@ -29,18 +38,47 @@ returns-in_err-told-clause-leaves g c =
     (λ other. read.reads_on.unfailed (not_read topology start.fault last.fault c.requires.fault (subst (KeepsLineFault start.fault last.fault) at read.fault) other))
     (λ none. read.memory (at ∙ ap Err none)))
 
-pub returns-in-None-clause-leaves : goal.returns-in-None-clause-leaves
-returns-in-None-clause-leaves g c =
+-- there was no memory for the rows of a book in memory
+pub returns-in_err-table-in-None-clause-leaves : goal.returns-in_err-table-in-None-clause-leaves
+returns-in_err-table-in-None-clause-leaves g c =
     let read = c.in_ok-told.ensures in
-    let served = c.answer_in_memory in
     let place = c.args.cabinet.now in
-    subst (λ (journal : Option (List ℕ)). RunLeaves (tellings g.S.Source g.O.Sink g.C.Cabinet g.C.Disk.Disk) (g.P.Prices.prices c.args.costs.now) journal (parts c.args.lines.now.source c.args.output.now place) (parts served.new.lines.source served.new.output place) served.result)
+    let gives = c.from_residual-in_err-table-in-None in
+    let told = err_from_is_err_and gives.result gives.ensures.1 in
+    let is : gives.result ≡ Err Memory = told.1 ∙ ap Err told.2 in
+    subst (λ (journal : Option (List ℕ)). RunLeaves (tellings g.S.Source g.O.Sink g.C.Cabinet g.C.Disk.Disk) (g.P.Prices.prices c.args.costs.now) journal (parts c.args.lines.now.source c.args.output.now place) (parts c.read.new.lines.source c.args.output.now place) gives.result)
     (sym (ap (option_map (λ name. name.now)) c.in-None.is))
-    (leaves_in_memory (g.P.Prices.prices c.args.costs.now) g.S.Source g.O.Sink g.C.Cabinet g.C.Disk.Disk c.args.lines.now c.read.new.lines served.new.lines c.in_ok-told.told c.in_ok-topology.topology c.in_ok-topology.ensures.priced c.args.output.now served.new.output place place
-    c.in_ok-topology.ensures.network c.requires.pending read.topology read.alone c.read.ensures.reads_on read.fault.1 served.result served.ensures.reads_on served.ensures.talks)
+    (leaves_in_memory (g.P.Prices.prices c.args.costs.now) g.S.Source g.O.Sink g.C.Cabinet g.C.Disk.Disk c.args.lines.now c.read.new.lines c.read.new.lines c.in_ok-told.told c.in_ok-topology.topology c.in_ok-topology.ensures.priced c.args.output.now c.args.output.now place place
+    c.in_ok-topology.ensures.network c.requires.pending read.topology read.alone c.read.ensures.reads_on read.fault.1 gives.result (ReadsOn-start g.S.Source c.read.new.lines) (inl (is, refl, refl)))
 
-pub returns-in-None-clause-reads_on : goal.returns-in-None-clause-reads_on
-returns-in-None-clause-reads_on g c = ReadsOn-then g.S.Source c.args.lines.now c.read.new.lines c.answer_in_memory.new.lines c.read.ensures.reads_on c.answer_in_memory.ensures.reads_on
+-- the book is in memory
+pub returns-in_ok-table-in-None-clause-leaves : goal.returns-in_ok-table-in-None-clause-leaves
+returns-in_ok-table-in-None-clause-leaves g c =
+    let read = c.in_ok-told.ensures in
+    let place = c.args.cabinet.now in
+    let book = c.in_ok-book-in-None.ensures.value in
+    let first = c.with_rows.result in
+    let network = ap (λ (p : Plain). p.book.network) c.with_rows.ensures.books ∙ ap (λ (l : Ledger). l.network) book in
+    let held = c.converse in
+    let done = c.done_of_talk in
+    let fits = c.with_rows.ensures.fits 0 [] (ap (λ (l : Ledger). l.book) book) in
+    let begun = record held.new.answers { core = first } in
+    let talks = talks_told g.S.Source g.O.Sink plain_books [] first (λ clerk. clerk.core) c.read.new.lines held.new.lines c.args.output.now held.new.output held.new.answers held.new.answers done.result held.result done.ensures held.ensures.fault
+    (held.ensures.talks ([], begun) (answered_none plain_books [] first tt fits)) in
+    subst (λ (journal : Option (List ℕ)). RunLeaves (tellings g.S.Source g.O.Sink g.C.Cabinet g.C.Disk.Disk) (g.P.Prices.prices c.args.costs.now) journal (parts c.args.lines.now.source c.args.output.now place) (parts held.new.lines.source held.new.output place) done.result)
+    (sym (ap (option_map (λ name. name.now)) c.in-None.is))
+    (leaves_in_memory (g.P.Prices.prices c.args.costs.now) g.S.Source g.O.Sink g.C.Cabinet g.C.Disk.Disk c.args.lines.now c.read.new.lines held.new.lines c.in_ok-told.told c.in_ok-topology.topology c.in_ok-topology.ensures.priced c.args.output.now held.new.output place place
+    c.in_ok-topology.ensures.network c.requires.pending read.topology read.alone c.read.ensures.reads_on read.fault.1 done.result held.ensures.reads_on (inr (
+      first.books,
+      held.new.answers.core.books,
+      subst (λ (n : Network). Talks (talk_tellings g.S.Source g.O.Sink plain_books) n [] (talk c.read.new.lines c.args.output.now first.books) (talk held.new.lines held.new.output held.new.answers.core.books) done.result) network talks,
+    )))
+
+pub returns-in_ok-table-in-None-clause-too_long : goal.returns-in_ok-table-in-None-clause-too_long
+returns-in_ok-table-in-None-clause-too_long g c = rw c.done_of_talk.ensures (too_long_told c.converse.result (INPUT_LIMIT < c.converse.new.lines.taken) c.converse.ensures.too_long)
+
+pub returns-in_ok-table-in-None-clause-reads_on : goal.returns-in_ok-table-in-None-clause-reads_on
+returns-in_ok-table-in-None-clause-reads_on g c = ReadsOn-then g.S.Source c.args.lines.now c.read.new.lines c.converse.new.lines c.read.ensures.reads_on c.converse.ensures.reads_on
 
 pub returns-in_err-store-in-Some-clause-leaves : goal.returns-in_err-store-in-Some-clause-leaves
 returns-in_err-store-in-Some-clause-leaves g c =

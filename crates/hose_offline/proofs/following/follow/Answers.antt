@@ -1,4 +1,4 @@
-use Rattle.std.proofs.Common.{refl, subst}
+use Rattle.std.proofs.Common.{refl, subst, ◌∙◌, rules, sym}
 use Rattle.hose_offline.specs.Auditing.{ReadsTopology, priced_names}
 use Rattle.hose_offline.specs.Parts.{parts, tellings}
 use Rattle.hose_offline.specs.steps.Parts.{held}
@@ -6,8 +6,8 @@ use Rattle.hose_offline.proofs.Audited.{no_topology}
 use Rattle.hose_offline.proofs.FollowEnds.{follow_not_1, is_followed, not_followed}
 use Rattle.hose_offline.proofs.following.follow.Goals as goal
 
-pub returns-in-Ok-clause-outcome : goal.returns-in-Ok-clause-outcome
-returns-in-Ok-clause-outcome g c =
+pub returns-in-Ok : goal.returns-in-Ok
+returns-in-Ok g c =
     let tells = tellings g.I.Source g.O.Sink g.C.Cabinet g.C.Disk.Disk in
     let names = priced_names (g.P.Prices.prices c.args.costs.now) c.args.names.topology.now c.args.names.journal.now in
     let before = held c.args.outside.now in
@@ -15,20 +15,16 @@ returns-in-Ok-clause-outcome g c =
     let followed = held done.new.outside in
     let after = parts followed.input c.end.new.output followed.cabinet in
     let reads = subst (ReadsTopology g.C.Cabinet before.cabinet c.read_topology.new.cabinet names.prices names.topology) c.in-Ok.is c.read_topology.ensures.reads in
-    is_followed tells names before after followed.output c.end.result c.in-Ok.top c.end.ensures.output c.read_topology.new.cabinet reads done.ensures.absent done.result done.ensures.follows c.end.ensures.status c.end.ensures.last_line
+    let outcome = is_followed tells names before after followed.output c.end.result c.in-Ok.top c.end.ensures.output c.read_topology.new.cabinet reads done.ensures.beside.absent done.result done.ensures.follows c.end.ensures.status c.end.ensures.last_line in
+    record { outcome = outcome; not_words = follow_not_1 _ _ _ _ _ outcome; out = done.ensures.beside.back ∙ sym c.requires; keeps = search rules }
 
-pub returns-in-Err-clause-outcome : goal.returns-in-Err-clause-outcome
-returns-in-Err-clause-outcome g c =
+pub returns-in-Err : goal.returns-in-Err
+returns-in-Err g c =
     let tells = tellings g.I.Source g.O.Sink g.C.Cabinet g.C.Disk.Disk in
     let names = priced_names (g.P.Prices.prices c.args.costs.now) c.args.names.topology.now c.args.names.journal.now in
     let before = held c.args.outside.now in
     let ended = c.end-in-Err in
     let after = parts before.input ended.new.output c.read_topology.new.cabinet in
     let reads = subst (ReadsTopology g.C.Cabinet before.cabinet after.cabinet names.prices names.topology) c.in-Err.is c.read_topology.ensures.reads in
-    not_followed tells names before after c.in-Err.why ended.result (no_topology tells names before after c.in-Err.why reads) ended.ensures.status ended.ensures.last_line refl
-
-pub returns-in-Ok-clause-not_words : goal.returns-in-Ok-clause-not_words
-returns-in-Ok-clause-not_words g c = follow_not_1 _ _ _ _ _ (returns-in-Ok-clause-outcome g c)
-
-pub returns-in-Err-clause-not_words : goal.returns-in-Err-clause-not_words
-returns-in-Err-clause-not_words g c = follow_not_1 _ _ _ _ _ (returns-in-Err-clause-outcome g c)
+    let outcome = not_followed tells names before after c.in-Err.why ended.result (no_topology tells names before after c.in-Err.why reads) ended.ensures.status ended.ensures.last_line refl in
+    record { outcome = outcome; not_words = follow_not_1 _ _ _ _ _ outcome; out = search rules; keeps = search rules }

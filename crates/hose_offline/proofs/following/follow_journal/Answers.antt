@@ -27,8 +27,8 @@ returns-clause-follows g c =
     (record { was = opens.was; taken = opens.taken; opens = opened_for g.C.Disk.Disk IsSoundAt (IsBrought followed.ensures.packets) c.args.topology opens.was c.in_ok-store.store opens.opens }) closed.ensures.closes in
     inr (followed.result, closed.result.0, has, rw c.done_of_end.ensures at c.first_fault.ensures)
 
-pub returns-clause-keeps : goal.returns-clause-keeps
-returns-clause-keeps g c =
+pub returns-clause-beside : goal.returns-clause-beside
+returns-clause-beside g c =
     let followed = c.follow-ended in
     let input = input_stays g.I.Source _ _ _ _ followed.result followed.ensures.input in
     let output = output_stays g.O.Sink _ _ _ followed.result followed.ensures.output in

@@ -1,13 +1,9 @@
-use Rattle.std.proofs.Common.{refl}
+use Rattle.std.proofs.Common.{refl, rules}
+use Rattle.hose_offline.specs.GenOutcome.{EndsSummary}
 use Rattle.hose_offline.proofs.GenOutcomes.{ends_summary, gen_not_1}
 use Rattle.hose_offline.proofs.generating.run_generated.Goals as goal
 
-pub returns-clause-outcome : goal.returns-clause-outcome
-returns-clause-outcome g c = record {
-  ends = rw c.end.ensures.status (ends_summary c.args.sizes g.O.Sink _ _ _ c.sum_up-done.result c.sum_up-done.ensures.came c.end.ensures.last_line);
-  input = refl;
-  cabinet = refl;
-}
-
-pub returns-clause-not_words : goal.returns-clause-not_words
-returns-clause-not_words g c = gen_not_1 c.args.sizes g.O.Sink _ _ c.end.result (returns-clause-outcome g c).ends
+pub returns : goal.returns
+returns g c =
+    let ends : EndsSummary c.args.sizes g.O.Sink c.args.outside.now.output.now c.end.new.output c.end.result = rw c.end.ensures.status (ends_summary c.args.sizes g.O.Sink _ _ _ c.sum_up-done.result c.sum_up-done.ensures.came c.end.ensures.last_line) in
+    record { outcome = record { ends = ends; input = refl; cabinet = refl }; not_words = gen_not_1 c.args.sizes g.O.Sink _ _ c.end.result ends; out = refl; keeps = search rules }

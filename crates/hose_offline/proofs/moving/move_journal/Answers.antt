@@ -1,6 +1,8 @@
-use Rattle.std.proofs.Common.{◌∙◌, inl, inr, refl, subst}
+use Rattle.std.proofs.Common.{◌∙◌, inl, inr, refl, rules, subst, sym}
 use Rattle.hose_store.proofs.OneMeaning.{recovered_once}
 use Rattle.hose_offline.specs.Auditing.{ReadsTopology}
+use Rattle.hose_offline.specs.MoveOutcome.{MoveOutcome}
+use Rattle.hose_offline.specs.Moving.{MovesNamed}
 use Rattle.hose_offline.specs.steps.Moving.{names_of}
 use Rattle.hose_offline.specs.Parts.{parts, tellings}
 use Rattle.hose_offline.specs.steps.Parts.{held}
@@ -11,42 +13,46 @@ use Rattle.hose_offline.proofs.MoveEnds.{move_not_1}
 use Rattle.hose_offline.proofs.MoveWhole.{kept_named, whole_of}
 use Rattle.hose_offline.proofs.moving.move_journal.Goals as goal
 
-pub returns-in-Ok-clause-outcome : goal.returns-in-Ok-clause-outcome
-returns-in-Ok-clause-outcome g c =
+pub returns-in-Ok : goal.returns-in-Ok
+returns-in-Ok g c =
     let tells = tellings g.I.Source g.O.Sink g.C.Cabinet g.C.Disk.Disk in
     let names = names_of (g.P.Prices.prices c.args.costs.now) c.args.of in
     let before = held c.args.outside.now in
+    let moved = c.move_from-moved in
+    let left = held moved.new.outside in
+    let ended = c.end_move.ensures.came in
     let reads = subst (ReadsTopology g.C.Cabinet before.cabinet c.read_topology.new.cabinet names.prices names.topology) c.in-Ok.is c.read_topology.ensures.reads in
-    record {
-      left = c.move_from-moved.new.outside.output.now;
-      done = c.move_from-moved.result;
-      moves = inr (c.in-Ok.old, c.read_topology.new.cabinet, reads, c.move_from-moved.ensures.moves);
-      ends = c.end_move.ensures.came;
-      whole = whole_of tells names before (held c.move_from-moved.new.outside) _ _ _ _ (inr (c.in-Ok.old, c.read_topology.new.cabinet, reads, c.move_from-moved.ensures.moves)) c.end_move.ensures.came;
-      old_kept = λ apart. kept_named tells names before (held c.move_from-moved.new.outside) apart _ (inr (c.in-Ok.old, c.read_topology.new.cabinet, reads, c.move_from-moved.ensures.moves));
-      complete = λ movable none. completes tells names before (held c.move_from-moved.new.outside) _ c.in-Ok.old c.read_topology.new.cabinet _ _ (recovered_once c.in-Ok.old) reads c.move_from-moved.ensures.moves c.end_move.ensures.came movable none.writing none.keeping_it;
-      input = c.move_from-moved.ensures.input;
-    }
+    let moves : MovesNamed tells names before left moved.result = inr (c.in-Ok.old, c.read_topology.new.cabinet, reads, moved.ensures.moves) in
+    let outcome : MoveOutcome tells names before (parts left.input c.end_move.new.output left.cabinet) c.end_move.result = record {
+      left = left.output;
+      done = moved.result;
+      moves = moves;
+      ends = ended;
+      whole = whole_of tells names before left _ _ _ _ moves ended;
+      old_kept = λ apart. kept_named tells names before left apart _ moves;
+      complete = λ movable none. completes tells names before left _ c.in-Ok.old c.read_topology.new.cabinet _ _ (recovered_once c.in-Ok.old) reads moved.ensures.moves ended movable none.writing none.keeping_it;
+      input = moved.ensures.input;
+    } in
+    record { outcome = outcome; not_words = move_not_1 _ _ _ _ _ outcome; out = moved.ensures.back ∙ sym c.requires.none_out; keeps = search rules }
 
-pub returns-in-Err-clause-outcome : goal.returns-in-Err-clause-outcome
-returns-in-Err-clause-outcome g c =
+pub returns-in-Err : goal.returns-in-Err
+returns-in-Err g c =
     let tells = tellings g.I.Source g.O.Sink g.C.Cabinet g.C.Disk.Disk in
     let names = names_of (g.P.Prices.prices c.args.costs.now) c.args.of in
     let before = held c.args.outside.now in
+    let left = parts before.input before.output c.read_topology.new.cabinet in
+    let done = Err (Old c.in-Err.why) in
+    let ended = c.end_move-in-Err.ensures.came in
     let reads = subst (ReadsTopology g.C.Cabinet before.cabinet c.read_topology.new.cabinet names.prices names.topology) c.in-Err.is c.read_topology.ensures.reads in
-    record {
+    let moves : MovesNamed tells names before left done = inl (c.in-Err.why, refl, reads, refl) in
+    let outcome : MoveOutcome tells names before (parts before.input c.end_move-in-Err.new.output left.cabinet) c.end_move-in-Err.result = record {
       left = before.output;
-      done = Err (Old c.in-Err.why);
-      moves = inl (c.in-Err.why, refl, reads, refl);
-      ends = c.end_move-in-Err.ensures.came;
-      whole = whole_of tells names before (parts before.input before.output c.read_topology.new.cabinet) (Err (Old c.in-Err.why)) _ _ _ (inl (c.in-Err.why, refl, reads, refl)) c.end_move-in-Err.ensures.came;
-      old_kept = λ apart. kept_named tells names before (parts before.input before.output c.read_topology.new.cabinet) apart (Err (Old c.in-Err.why)) (inl (c.in-Err.why, refl, reads, refl));
-      complete = λ movable none. inr (c.end_move-in-Err.ensures.came.0 ∙ old_refused tells.cabinet before.cabinet c.read_topology.new.cabinet names.prices names.topology c.in-Err.why reads movable.servable none.keeping_it);
+      done = done;
+      moves = moves;
+      ends = ended;
+      whole = whole_of tells names before left done _ _ _ moves ended;
+      old_kept = λ apart. kept_named tells names before left apart done moves;
+      complete = λ movable none. inr (ended.0 ∙ old_refused tells.cabinet before.cabinet c.read_topology.new.cabinet names.prices names.topology c.in-Err.why reads movable.servable none.keeping_it);
       input = refl;
-    }
-
-pub returns-in-Ok-clause-not_words : goal.returns-in-Ok-clause-not_words
-returns-in-Ok-clause-not_words g c = move_not_1 _ _ _ _ _ (returns-in-Ok-clause-outcome g c)
-
-pub returns-in-Err-clause-not_words : goal.returns-in-Err-clause-not_words
-returns-in-Err-clause-not_words g c = move_not_1 _ _ _ _ _ (returns-in-Err-clause-outcome g c)
+    } in
+    record { outcome = outcome; not_words = move_not_1 _ _ _ _ _ outcome; out = search rules; keeps = search rules }

@@ -1,4 +1,4 @@
-use Rattle.std.proofs.Common.{ap, subst}
+use Rattle.std.proofs.Common.{ap, subst, rules}
 use Rattle.hose_offline.specs.Auditing.{ReadsTopology}
 use Rattle.hose_offline.specs.Parts.{tellings}
 use Rattle.hose_offline.specs.steps.Parts.{held}
@@ -6,20 +6,16 @@ use Rattle.hose_offline.specs.TopologyTold.{own_costs}
 use Rattle.hose_offline.proofs.Priced.{price_not_1, priced_none, priced_then}
 use Rattle.hose_offline.proofs.pricing.price.Goals as goal
 
-pub returns-in-Ok-clause-outcome : goal.returns-in-Ok-clause-outcome
-returns-in-Ok-clause-outcome g c =
+pub returns-in-Ok : goal.returns-in-Ok
+returns-in-Ok g c =
     let done = c.price_input-done in
     let reads = subst (ReadsTopology g.C.Cabinet c.args.outside.now.cabinet.now c.read_topology.new.cabinet own_costs c.args.topology.now) c.in-Ok.is c.read_topology.ensures.reads in
-    priced_then (tellings g.I.Source g.O.Sink g.C.Cabinet g.C.Disk.Disk) _ c.args.topology.now (held c.args.outside.now) c.read_topology.new.cabinet (held done.new.outside) c.end.new.output c.in-Ok.top done.result c.end.result
-    (ap (λ b. b.now) done.ensures.cabinet) reads done.ensures.prices c.end.ensures.last_line c.end.ensures.status
+    let outcome = priced_then (tellings g.I.Source g.O.Sink g.C.Cabinet g.C.Disk.Disk) _ c.args.topology.now (held c.args.outside.now) c.read_topology.new.cabinet (held done.new.outside) c.end.new.output c.in-Ok.top done.result c.end.result
+    (ap (λ b. b.now) done.ensures.cabinet) reads done.ensures.prices c.end.ensures.last_line c.end.ensures.status in
+    record { outcome = outcome; not_words = price_not_1 _ _ _ _ _ _ outcome; out = search rules; keeps = search rules }
 
-pub returns-in-Err-clause-outcome : goal.returns-in-Err-clause-outcome
-returns-in-Err-clause-outcome g c =
+pub returns-in-Err : goal.returns-in-Err
+returns-in-Err g c =
     let reads = subst (ReadsTopology g.C.Cabinet c.args.outside.now.cabinet.now c.read_topology.new.cabinet own_costs c.args.topology.now) c.in-Err.is c.read_topology.ensures.reads in
-    priced_none (tellings g.I.Source g.O.Sink g.C.Cabinet g.C.Disk.Disk) _ c.args.topology.now (held c.args.outside.now) c.read_topology.new.cabinet c.end-in-Err.new.output c.in-Err.why c.end-in-Err.result reads c.end-in-Err.ensures.last_line c.end-in-Err.ensures.status
-
-pub returns-in-Ok-clause-not_words : goal.returns-in-Ok-clause-not_words
-returns-in-Ok-clause-not_words g c = price_not_1 _ _ _ _ _ c.end.result (returns-in-Ok-clause-outcome g c)
-
-pub returns-in-Err-clause-not_words : goal.returns-in-Err-clause-not_words
-returns-in-Err-clause-not_words g c = price_not_1 _ _ _ _ _ c.end-in-Err.result (returns-in-Err-clause-outcome g c)
+    let outcome = priced_none (tellings g.I.Source g.O.Sink g.C.Cabinet g.C.Disk.Disk) _ c.args.topology.now (held c.args.outside.now) c.read_topology.new.cabinet c.end-in-Err.new.output c.in-Err.why c.end-in-Err.result reads c.end-in-Err.ensures.last_line c.end-in-Err.ensures.status in
+    record { outcome = outcome; not_words = price_not_1 _ _ _ _ _ _ outcome; out = search rules; keeps = search rules }

@@ -29,8 +29,8 @@ returns-clause-unopened g c =
     unopened g.C.Cabinet g.C.Disk.Disk c.args.name.now (held c.args.outside.now).cabinet c.disk.new.self c.back.new.self c.args.top.now c.in-Ok.disk c.ship-shipped.result.1
     (record { out = record { content = taken.content; images = taken.images; moment = taken.moment; fresh = taken.opened; call = taken.call }; in_place = record { held = back.held; never_falls = back.never_falls; call = back.call } }) c.ship-shipped.ensures.any_moment
 
-pub returns-clause-keeps : goal.returns-clause-keeps
-returns-clause-keeps g c =
+pub returns-clause-beside : goal.returns-clause-beside
+returns-clause-beside g c =
     let shipped = c.ship-shipped in
     let output = shipped_stays g.O.Sink _ _ g.C.Disk.Disk _ _ shipped.result.0 shipped.ensures.ships in
     search rules

@@ -1,8 +1,13 @@
-use Rattle.std.proofs.Common.{refl, subst}
+use Rattle.std.proofs.Common.{◌≡◌, Err, refl, rules, subst}
 use Rattle.hose_offline.specs.Auditing.{ReadsTopology}
-use Rattle.hosed.proofs.Served.{is_served, no_topology_read, serve_not_1}
+use Rattle.hose_offline.specs.Parts.{tellings}
+use Rattle.hose_offline.specs.declared.fault.Fault.TheVariants.{Cabinet}
+use Rattle.hose_offline.proofs.PutBack.{not_served}
+use Rattle.hosed.proofs.Connections.{same_first, served_in}
+use Rattle.hosed.proofs.Served.{is_served, no_topology_read, not_opened, serve_not_1}
 use Rattle.hosed.proofs.server.serve.Goals as goal
 
+-- the topology was not read
 pub returns-in-Err-clause-outcome : goal.returns-in-Err-clause-outcome
 returns-in-Err-clause-outcome g c =
     let reads = subst (ReadsTopology g.C.Cabinet c.args.outside.now.cabinet.now c.read_topology.new.cabinet (g.P.Prices.prices c.args.costs.now) c.args.request.topology.now) c.in-Err.is c.read_topology.ensures.reads in
@@ -11,11 +16,44 @@ returns-in-Err-clause-outcome g c =
 pub returns-in-Err-clause-not_words : goal.returns-in-Err-clause-not_words
 returns-in-Err-clause-not_words g c = serve_not_1 _ _ _ _ _ c.end.result (returns-in-Err-clause-outcome g c)
 
+-- the disk was not taken out
+pub returns-in_default-clause-outcome : goal.returns-in_default-clause-outcome
+returns-in_default-clause-outcome g c =
+    let reads = subst (ReadsTopology g.C.Cabinet c.args.outside.now.cabinet.now c.read_topology.new.cabinet (g.P.Prices.prices c.args.costs.now) c.args.request.topology.now) c.in-Ok.is c.read_topology.ensures.reads in
+    let ended = c.end-in_default in
+    not_opened _ _ _ _ _ c.read_topology.new.cabinet c.in-Ok.topology ended.result reads (search rules) refl Cabinet (search rules) ended.ensures.status ended.ensures.last_line refl
+
+pub returns-in_default-clause-not_words : goal.returns-in_default-clause-not_words
+returns-in_default-clause-not_words g c = serve_not_1 _ _ _ _ _ c.end-in_default.result (returns-in_default-clause-outcome g c)
+
+-- no store was opened
+pub returns-in-Err-open_store-clause-outcome : goal.returns-in-Err-open_store-clause-outcome
+returns-in-Err-open_store-clause-outcome g c =
+    let reads = subst (ReadsTopology g.C.Cabinet c.args.outside.now.cabinet.now c.read_topology.new.cabinet (g.P.Prices.prices c.args.costs.now) c.args.request.topology.now) c.in-Ok.is c.read_topology.ensures.reads in
+    let taken = c.in-Ok-disk.ensures in
+    let back = c.back.ensures in
+    let refused = c.in-Err-open_store in
+    let ended = c.end-in-Err-open_store in
+    let not = not_served g.C.Cabinet g.C.Disk.Disk c.args.request.journal.now c.read_topology.new.cabinet c.disk.new.self c.back.new.self c.in-Ok.topology c.in-Ok-disk.disk refused.refused.1
+    (record { out = record { content = taken.content; images = taken.images; moment = taken.moment; fresh = taken.opened; call = taken.call }; in_place = record { held = back.held; never_falls = back.never_falls; call = back.call } }) (Err refused.refused.0) refused.ensures.refused in
+    not_opened _ _ _ _ _ c.read_topology.new.cabinet c.in-Ok.topology ended.result reads (search rules) refl refused.refused.0 not ended.ensures.status ended.ensures.last_line refl
+
+pub returns-in-Err-open_store-clause-not_words : goal.returns-in-Err-open_store-clause-not_words
+returns-in-Err-open_store-clause-not_words g c = serve_not_1 _ _ _ _ _ c.end-in-Err-open_store.result (returns-in-Err-open_store-clause-outcome g c)
+
+-- connections were served
 pub returns-clause-outcome : goal.returns-clause-outcome
 returns-clause-outcome g c =
     let reads = subst (ReadsTopology g.C.Cabinet c.args.outside.now.cabinet.now c.read_topology.new.cabinet (g.P.Prices.prices c.args.costs.now) c.args.request.topology.now) c.in-Ok.is c.read_topology.ensures.reads in
-    let served = c.serve_in_cabinet-came in
-    is_served _ _ _ _ _ c.read_topology.new.cabinet served.new.outside.output.now c.in-Ok.topology c.tell_served.result reads served.ensures.absent served.ensures.input served.result served.ensures.serves c.tell_served.ensures.came
+    let taken = c.in-Ok-disk.ensures in
+    let back = c.back-2.ensures in
+    let served = c.serve_store-came in
+    let borrow = same_first _ _ _ _ served.ensures.stay.door.loan in
+    let given : served.result.door.now ≡ c.door-1.given.0 = search rules in
+    let kept = served_in (tellings g.I.Source g.O.Sink g.C.Cabinet g.C.Disk.Disk) c.args.request.journal.now c.read_topology.new.cabinet c.disk.new.self c.back-2.new.self c.in-Ok.topology c.in-Ok-disk.disk served.result.disk
+    (record { out = record { content = taken.content; images = taken.images; moment = taken.moment; fresh = taken.opened; call = taken.call }; in_place = record { held = back.held; never_falls = back.never_falls; call = back.call } })
+    _ served.result.came (search rules) (rw (c.of-was.ensures, c.in-Ok-open_store.ensures.network) at served.ensures.serves) in
+    is_served _ _ _ _ _ c.read_topology.new.cabinet c.in-Ok.topology c.tell_served.result reads (search rules) refl served.new.output served.result.came (rw given at kept) (rw given at served.ensures.speaks) c.tell_served.ensures.came
 
 pub returns-clause-not_words : goal.returns-clause-not_words
 returns-clause-not_words g c = serve_not_1 _ _ _ _ _ c.tell_served.result (returns-clause-outcome g c)

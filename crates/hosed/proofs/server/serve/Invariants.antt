@@ -1,5 +1,5 @@
 use Rattle.std.proofs.Common.{◌∷◌, Some}
-use Rattle.hosed.proofs.server.serve_in_cabinet.Given as goal
+use Rattle.hosed.proofs.server.serve.Given as goal
 
 abbrev pub ghosts-serve_store-N-DoorStart : goal.ghosts-serve_store-N-DoorStart
 ghosts-serve_store-N-DoorStart g a = record {
