@@ -3,14 +3,14 @@
 //! stops. It promises nothing.
 #![tactic(auto)]
 
+mod case_text;
 mod networks;
 mod running;
-mod told;
 mod trouble;
 mod words;
 
+pub use case_text::{CaseText, debugged};
 pub use networks::{hose, named, network, shown};
-pub use running::{Calls, run_calls};
-pub use told::{Told, debugged};
+pub use running::{Calls, CaseCall, ended, run_calls};
 pub use trouble::Trouble;
-pub use words::{cases_of, disk_call, first, from_hex, name, number, numbers};
+pub use words::{STOP_PICKS, cases_of, disk_call, first, from_hex, name, number, numbers};

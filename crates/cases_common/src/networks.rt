@@ -2,7 +2,7 @@
 ghost use Rattle.std.specs.Prelude.{IfOk};
 ghost use Rattle.hose_law.specs.steps.Plan.{AreNodes};
 
-use crate::told::Told;
+use crate::case_text::CaseText;
 use crate::trouble::Trouble;
 use hose_graph::{Amounts, Command, Hose, Reply, Topology};
 use hose_io::MemSource;
@@ -57,7 +57,7 @@ fn text_of(name: &str) -> Result<&'static str, Trouble> {
 
 // The text of 63 nodes around another one, from which a line of 447 links goes to a last node.
 fn broom(alloc: Global) -> Result<String, AllocError> {
-    let mut text = Told::new(alloc);
+    let mut text = CaseText::new(alloc);
     for node in 0..512 {
         text.add(format!(in alloc; "node n{node}\n"));
     }

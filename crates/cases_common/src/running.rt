@@ -1,22 +1,62 @@
-// A file of calls, each of which is printed with what comes of it.
-use crate::told::Told;
+// A file of calls, each of which is printed with what comes of it; and how a program of cases ends.
+use crate::case_text::CaseText;
 use crate::trouble::Trouble;
-use crate::words::cases_of;
+use crate::words::{cases_of, first};
 use std::alloc::Global;
+use std::fmt::Display;
 use std::fs;
+use std::process::ExitCode;
 use std::rt::Files;
+
+/// A call that a line writes down.
+#[derive(Clone, Copy)]
+pub struct CaseCall<'a> {
+    /// The name of a network.
+    pub network: &'a str,
+    pub name: &'a str,
+    /// What stands after the name.
+    pub words: &'a str,
+}
+
+impl<'a> CaseCall<'a> {
+    fn read(line: &'a str) -> CaseCall<'a> {
+        let (network, call) = first(line);
+        let (name, words) = first(call);
+        CaseCall {
+            network,
+            name,
+            words,
+        }
+    }
+}
 
 /// Calls that are written down in lines.
 pub trait Calls {
-    /// Tells what comes of the call of a line.
-    fn tell(alloc: Global, line: &str, told: &mut Told) -> Result<(), Trouble>;
+    /// Tells what comes of a call.
+    fn tell(call: CaseCall<'_>, told: &mut CaseText) -> Result<(), Trouble>;
 }
 
 /// Makes the calls of a file, and prints each, what comes of it, and how many there were.
-pub fn run_calls<C: Calls, R: Files + Print + AllocGlobal>(
+pub fn run_calls<C: Calls, R: Files + Print + Eprint + AllocGlobal>(
     rt: &R,
+    program: &str,
     file: &str,
-) -> Result<(), Trouble> {
+) -> ExitCode {
+    ended(rt, program, &run_file::<C, R>(rt, file))
+}
+
+/// How a program of cases ends, which prints why it stops before all of them are done.
+pub fn ended<T: Display, R: Eprint>(rt: &R, program: &str, done: &Result<(), T>) -> ExitCode {
+    match done {
+        Ok(()) => ExitCode::SUCCESS,
+        Err(trouble) => {
+            let _ = eprintln!(rt; "{program}: {trouble}");
+            ExitCode::FAILURE
+        }
+    }
+}
+
+fn run_file<C: Calls, R: Files + Print + AllocGlobal>(rt: &R, file: &str) -> Result<(), Trouble> {
     let text = fs::read_to_string(rt, file)?;
     let calls = run_lines::<C, R>(rt, text.as_str())?;
     println!(rt; "{file}: {calls} calls")?;
@@ -42,7 +82,7 @@ fn run_line<C: Calls, R: Print + AllocGlobal>(rt: &R, line: &str) -> Result<(), 
 }
 
 fn told_of<C: Calls>(alloc: Global, line: &str) -> Result<String, Trouble> {
-    let mut told = Told::new(alloc);
-    C::tell(alloc, line, &mut told)?;
+    let mut told = CaseText::new(alloc);
+    C::tell(CaseCall::read(line), &mut told)?;
     Ok(told.finish()?)
 }

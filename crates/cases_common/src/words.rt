@@ -1,8 +1,17 @@
-// Lines of a file, and their words: parts, numbers, names, bytes and calls of a disk.
+// Lines of a file, and their words: parts, numbers, names, bytes, and calls and stops of a disk.
 use crate::trouble::Trouble;
-use hose_disk::DiskCall;
+use hose_disk::{DiskCall, Pick};
 use hose_graph::Name;
 use std::alloc::{AllocError, Global};
+
+/// What a stop may leave of bytes that no sync made durable.
+pub const STOP_PICKS: [Pick; 5] = [
+    Pick::Kept,
+    Pick::Lost,
+    Pick::Fill(0),
+    Pick::Fill(1),
+    Pick::Fill(255),
+];
 
 /// The lines of a file that are neither empty nor begin with `#`.
 pub fn cases_of(alloc: Global, text: &str) -> Result<Vec<&str>, AllocError> {

@@ -5,15 +5,14 @@
 ghost use Rattle.std.specs.Prelude.{◌≡◌, None, IfOk};
 ghost use Rattle.hose_disk.specs.steps.CabinetState.{cabinet_frame};
 
-use cases_common::{Told, Trouble, from_hex, number};
+use cases_common::{CaseText, Trouble, from_hex, number};
 use hose_disk::{Cabinet, Disk, DiskCall, Failed, MemCabinet, MemDisk};
 use std::alloc::Global;
 
 /// What comes of the calls of these words on a cabinet with the text `t` of 5, 6 and 7 and the disk
 /// `j`, whose second write fails.
-pub fn tell_outcome(alloc: Global, words: &str, told: &mut Told) -> Result<(), Trouble> {
-    let mut cabinet = filled(alloc)?;
-    tell_words(alloc, &mut cabinet, words, told)
+pub fn tell_outcome(words: &str, told: &mut CaseText) -> Result<(), Trouble> {
+    tell_words(&mut filled(told.alloc())?, words, told)
 }
 
 fn filled(alloc: Global) -> Result<MemCabinet, Trouble>
@@ -26,26 +25,16 @@ fn filled(alloc: Global) -> Result<MemCabinet, Trouble>
     Ok(cabinet)
 }
 
-fn tell_words(
-    alloc: Global,
-    cabinet: &mut MemCabinet,
-    words: &str,
-    told: &mut Told,
-) -> Result<(), Trouble>
+fn tell_words(cabinet: &mut MemCabinet, words: &str, told: &mut CaseText) -> Result<(), Trouble>
     requires { (cabinet_frame cabinet.old).out ≡ None }
 {
     for word in words.split_whitespace() {
-        tell_word(alloc, cabinet, word, told)?;
+        tell_word(cabinet, word, told)?;
     }
     Ok(())
 }
 
-fn tell_word(
-    alloc: Global,
-    cabinet: &mut MemCabinet,
-    word: &str,
-    told: &mut Told,
-) -> Result<(), Trouble>
+fn tell_word(cabinet: &mut MemCabinet, word: &str, told: &mut CaseText) -> Result<(), Trouble>
     requires { (cabinet_frame cabinet.old).out ≡ None }
     ensures { (cabinet_frame cabinet.new).out ≡ None }
 {
@@ -53,8 +42,8 @@ fn tell_word(
     if call == "fail" {
         return Ok(cabinet.fail(number(rest)?)?);
     }
-    let got = made(alloc, cabinet, call, rest)?;
-    tell(alloc, got, cabinet.faults().count, cabinet.absent(), told);
+    let got = made(told.alloc(), cabinet, call, rest)?;
+    tell(got, cabinet.faults().count, cabinet.absent(), told);
     Ok(())
 }
 
@@ -77,10 +66,11 @@ fn made(
 }
 
 // What a call gave, and how many calls have failed by then and how many texts were not there.
-fn tell(alloc: Global, got: Result<u64, Failed>, faults: u64, absent: u64, told: &mut Told) {
+fn tell(got: Result<u64, Failed>, faults: u64, absent: u64, told: &mut CaseText) {
     if !told.is_empty() {
         told.put(" ");
     }
+    let alloc = told.alloc();
     match got {
         Ok(digits) => told.add(format!(in alloc; "{digits}")),
         Err(Failed) => told.add(format!(in alloc; "failed {faults} absent {absent}")),

@@ -22,22 +22,19 @@ impl Range {
 
 /// What a number of a case does to its bytes.
 #[derive(Clone, Copy)]
-pub enum Change {
-    /// They stay as they are.
-    Nothing,
+pub enum BytesChange {
     /// Only so many are left.
     Cut,
     /// The bit of this number is turned, counted from the lowest of the first byte.
     Turn,
 }
 
-impl Change {
+impl BytesChange {
     pub fn made(self, alloc: Global, bytes: &[u8], number: u64) -> Result<Vec<u8>, AllocError> {
         let mut changed = Vec::from_slice(alloc, bytes)?;
         match self {
-            Change::Nothing => {}
-            Change::Cut => changed.truncate(number as usize),
-            Change::Turn => turn(&mut changed, number),
+            BytesChange::Cut => changed.truncate(number as usize),
+            BytesChange::Turn => turn(&mut changed, number),
         }
         Ok(changed)
     }

@@ -1,6 +1,6 @@
 // Disks in memory: calls, some of which fail, and what a stop then leaves.
 use crate::change::Range;
-use cases_common::{Told, Trouble, disk_call, from_hex, number};
+use cases_common::{CaseText, Trouble, disk_call, from_hex, number};
 use hose_disk::{Disk, Failed, MemDisk, Pick};
 use std::alloc::Global;
 
@@ -11,40 +11,29 @@ const PICKS: [Pick; 4] = [Pick::Kept, Pick::Lost, Pick::Fill(0), Pick::Fill(9)];
 
 /// What comes of the calls of these words on an empty disk: a point for each call that is done and
 /// an `x` for each that fails, and what the disk holds or what the words ask for.
-pub fn tell_outcome(alloc: Global, words: &str, told: &mut Told) -> Result<(), Trouble> {
-    let mut disk = MemDisk::new(alloc)?;
-    tell_words(alloc, &mut disk, words, told)
+pub fn tell_outcome(words: &str, told: &mut CaseText) -> Result<(), Trouble> {
+    tell_words(&mut MemDisk::new(told.alloc())?, words, told)
 }
 
-fn tell_words(
-    alloc: Global,
-    disk: &mut MemDisk,
-    words: &str,
-    told: &mut Told,
-) -> Result<(), Trouble> {
+fn tell_words(disk: &mut MemDisk, words: &str, told: &mut CaseText) -> Result<(), Trouble> {
     for word in words.split_whitespace() {
-        tell_word(alloc, disk, word, told)?;
+        tell_word(disk, word, told)?;
     }
     Ok(())
 }
 
-fn tell_word(
-    alloc: Global,
-    disk: &mut MemDisk,
-    word: &str,
-    told: &mut Told,
-) -> Result<(), Trouble> {
+fn tell_word(disk: &mut MemDisk, word: &str, told: &mut CaseText) -> Result<(), Trouble> {
     let (call, rest) = word.split_once(':').unwrap_or((word, ""));
     match call {
         "fail" => fail(disk, rest),
-        "held" => tell_held(alloc, disk, told),
+        "held" => tell_held(disk, told),
         "count" => {
-            tell_counts(alloc, disk, told);
+            tell_counts(disk, told);
             Ok(())
         }
-        "stops" => tell_stops(alloc, disk, Range::read(rest)?, told),
+        "stops" => tell_stops(disk, Range::read(rest)?, told),
         _ => {
-            told.put(made(alloc, disk, call, rest)?);
+            told.put(made(told.alloc(), disk, call, rest)?);
             Ok(())
         }
     }
@@ -110,44 +99,38 @@ fn cut(disk: &mut MemDisk, to: u64) -> Result<Result<(), Failed>, Failed> {
 }
 
 // What the disk holds, in digits.
-fn tell_held(alloc: Global, disk: &mut MemDisk, told: &mut Told) -> Result<(), Trouble> {
+fn tell_held(disk: &mut MemDisk, told: &mut CaseText) -> Result<(), Trouble> {
     let mut bytes = [0; HELD];
     let len = disk.read_at(0, &mut bytes)?;
     told.put(" ");
     if len == 0 {
         told.put("empty");
     } else {
-        told.add(hex::encode(alloc, &bytes[..len]));
+        told.add(hex::encode(told.alloc(), &bytes[..len]));
     }
     Ok(())
 }
 
-fn tell_counts(alloc: Global, disk: &MemDisk, told: &mut Told) {
+fn tell_counts(disk: &MemDisk, told: &mut CaseText) {
     let (calls, faults) = (disk.calls(), disk.faults());
     let (failed, starved) = (faults.count, faults.starved);
+    let alloc = told.alloc();
     told.add(format!(in alloc; " {calls} calls {failed} faults {starved} starved"));
 }
 
 // What a stop after each of these numbers of calls leaves by each pick.
-fn tell_stops(alloc: Global, disk: &MemDisk, range: Range, told: &mut Told) -> Result<(), Trouble> {
+fn tell_stops(disk: &MemDisk, range: Range, told: &mut CaseText) -> Result<(), Trouble> {
     for calls in range.from..range.to {
         told.put(" /");
         for pick in PICKS {
-            tell_stop(alloc, disk, calls, pick, told)?;
+            tell_stop(disk, calls, pick, told)?;
         }
     }
     Ok(())
 }
 
-fn tell_stop(
-    alloc: Global,
-    disk: &MemDisk,
-    calls: u64,
-    pick: Pick,
-    told: &mut Told,
-) -> Result<(), Trouble> {
-    let mut stopped = stopped(alloc, disk, calls, pick)?;
-    tell_held(alloc, &mut stopped, told)
+fn tell_stop(disk: &MemDisk, calls: u64, pick: Pick, told: &mut CaseText) -> Result<(), Trouble> {
+    tell_held(&mut stopped(told.alloc(), disk, calls, pick)?, told)
 }
 
 /// The disk that a stop leaves after so many calls.

@@ -14,11 +14,12 @@ mod names;
 mod stores;
 mod subject;
 
-use cases_common::{Trouble, cases_of};
-use names::Names;
+use cases_common::{CaseText, Trouble, cases_of, ended};
+use names::BytesByName;
 use std::fs;
 use std::process::ExitCode;
 use std::rt::Files;
+use subject::{AskedCase, tell_other};
 
 // The files, in the order in which they are read: names that one gives, those after it may use.
 const FILES: [&str; 6] = [
@@ -31,39 +32,45 @@ const FILES: [&str; 6] = [
 ];
 
 // How many cases there were, and of how many something else came.
-#[derive(Clone, Copy, Default)]
+#[derive(Clone, Copy)]
 struct Count {
     cases: u64,
     differ: u64,
 }
 
 fn main(rt: HostRuntime) -> ExitCode {
-    match run_files(&rt) {
-        Ok(()) => ExitCode::SUCCESS,
-        Err(trouble) => {
-            let _ = eprintln!(rt; "cases_disks: {trouble}");
-            ExitCode::FAILURE
-        }
-    }
+    ended(&rt, "cases_disks", &run_files(&rt))
 }
 
-// Runs the cases of all files, and prints how many there were.
 fn run_files<R: Files + Print + AllocGlobal>(rt: &R) -> Result<(), Trouble> {
-    let mut names = Names::new(rt.alloc());
+    let mut names = BytesByName::new(rt.alloc());
     for file in FILES {
-        let text = fs::read_to_string(rt, file)?;
-        let Count { cases, differ } = run_lines(rt, text.as_str(), &mut names)?;
-        println!(rt; "{file}: {cases} cases, {differ} differ")?;
+        run_file(rt, file, &mut names)?;
     }
+    Ok(())
+}
+
+// Runs the cases of a file, and prints how many there were.
+fn run_file<R: Files + Print + AllocGlobal>(
+    rt: &R,
+    file: &str,
+    names: &mut BytesByName,
+) -> Result<(), Trouble> {
+    let text = fs::read_to_string(rt, file)?;
+    let Count { cases, differ } = run_lines(rt, text.as_str(), names)?;
+    println!(rt; "{file}: {cases} cases, {differ} differ")?;
     Ok(())
 }
 
 fn run_lines<R: Print + AllocGlobal>(
     rt: &R,
     text: &str,
-    names: &mut Names,
+    names: &mut BytesByName,
 ) -> Result<Count, Trouble> {
-    let mut count = Count::default();
+    let mut count = Count {
+        cases: 0,
+        differ: 0,
+    };
     for line in &cases_of(rt.alloc(), text)? {
         run_line(rt, line, names, &mut count)?;
     }
@@ -74,17 +81,34 @@ fn run_lines<R: Print + AllocGlobal>(
 fn run_line<R: Print + AllocGlobal>(
     rt: &R,
     line: &str,
-    names: &mut Names,
+    names: &mut BytesByName,
     count: &mut Count,
 ) -> Result<(), Trouble> {
     if let Some(named) = line.strip_prefix("let ") {
         return names.define(rt.alloc(), named);
     }
-    let (asked, wanted) = line.split_once(" = ").ok_or(Trouble::Word)?;
+    let (case, wanted) = line.split_once(" = ").ok_or(Trouble::Word)?;
     count.cases = count.cases.saturating_add(1);
-    if let Some(other) = subject::first_other(rt.alloc(), names, asked, wanted)? {
+    if differs(rt, names, case, wanted, &mut CaseText::new(rt.alloc()))? {
         count.differ = count.differ.saturating_add(1);
-        println!(rt; "differs: {asked} = {other}, and {wanted} is wanted")?;
     }
     Ok(())
+}
+
+// Whether something else comes of a case than is wanted, which is printed.
+fn differs<R: Print>(
+    rt: &R,
+    names: &BytesByName,
+    case: &str,
+    wanted: &str,
+    told: &mut CaseText,
+) -> Result<bool, Trouble> {
+    if !tell_other(AskedCase::read(names, case), wanted, told)? {
+        return Ok(false);
+    }
+    println!(rt;
+        "differs: {case} = {}, and {wanted} is wanted",
+        told.told()?
+    )?;
+    Ok(true)
 }

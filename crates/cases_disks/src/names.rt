@@ -4,20 +4,20 @@ use cases_common::{Trouble, first, from_hex, number};
 use std::alloc::Global;
 
 #[derive(Drop)]
-struct Named {
+struct NamedBytes {
     name: String,
     bytes: Vec<u8>,
 }
 
 /// The bytes that the lines so far have named.
 #[derive(Drop)]
-pub struct Names {
-    all: Vec<Named>,
+pub struct BytesByName {
+    all: Vec<NamedBytes>,
 }
 
-impl Names {
-    pub fn new(alloc: Global) -> Names {
-        Names {
+impl BytesByName {
+    pub fn new(alloc: Global) -> BytesByName {
+        BytesByName {
             all: Vec::new(alloc),
         }
     }
@@ -27,7 +27,7 @@ impl Names {
         let (name, words) = first(line);
         let bytes = self.bytes(alloc, words)?;
         let name = String::from_str(alloc, name)?;
-        self.all.push(Named { name, bytes })?;
+        self.all.push(NamedBytes { name, bytes })?;
         Ok(())
     }
 

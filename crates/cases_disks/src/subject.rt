@@ -1,100 +1,92 @@
 // What a case is on, and what comes of it.
-use crate::change::{Change, Range};
-use crate::names::Names;
-use crate::stores::Asked;
+use crate::change::{BytesChange, Range};
+use crate::names::BytesByName;
+use crate::stores::{StoreCase, StoreFact};
 use crate::{cabinets, disks, entries, stores};
-use cases_common::{Told, Trouble, first};
-use std::alloc::{AllocError, Global};
+use cases_common::{CaseText, Trouble, first};
+use std::alloc::Global;
 
-/// What comes of a case where that is none of the outcomes that are wanted, which `|` parts.
-pub fn first_other(
-    alloc: Global,
-    names: &Names,
-    asked: &str,
+/// What is asked of a case: its first word, and the rest, whose words may name bytes.
+#[derive(Clone, Copy)]
+pub struct AskedCase<'a> {
+    names: &'a BytesByName,
+    word: &'a str,
+    rest: &'a str,
+}
+
+impl<'a> AskedCase<'a> {
+    pub fn read(names: &'a BytesByName, line: &'a str) -> AskedCase<'a> {
+        let (word, rest) = first(line);
+        AskedCase { names, word, rest }
+    }
+}
+
+/// Tells what comes of a case. Answers whether that is none of the outcomes that are wanted, which
+/// `|` parts.
+pub fn tell_other(
+    asked: AskedCase<'_>,
     wanted: &str,
-) -> Result<Option<String>, Trouble> {
-    let (word, rest) = first(asked);
-    match word {
-        "cut" => first_other_of(alloc, names, Change::Cut, rest, wanted),
-        "turn" => first_other_of(alloc, names, Change::Turn, rest, wanted),
-        "every" => {
-            let (network, words) = first(rest);
-            stores::first_left(alloc, names, network, words, wanted)
+    told: &mut CaseText,
+) -> Result<bool, Trouble> {
+    match asked.word {
+        "cut" => tell_other_of(asked, BytesChange::Cut, wanted, told),
+        "turn" => tell_other_of(asked, BytesChange::Turn, wanted, told),
+        "every" => stores::tell_other_left(store_case(asked), wanted, told),
+        _ => {
+            tell_outcome(asked, told)?;
+            is_other(told, wanted)
         }
-        _ => Ok(other(outcome(alloc, names, word, rest)?, wanted)),
     }
 }
 
-/// The outcome, where it is none of those wanted.
-pub fn other(got: String, wanted: &str) -> Option<String> {
+/// Whether what is told is none of the outcomes that are wanted.
+pub fn is_other(told: &CaseText, wanted: &str) -> Result<bool, Trouble> {
+    let got = told.told()?;
     for one in wanted.split(" | ") {
-        if got.as_str() == one {
-            return None;
+        if got == one {
+            return Ok(false);
         }
     }
-    Some(got)
+    Ok(true)
 }
 
-// What comes of a case.
-fn outcome(alloc: Global, names: &Names, word: &str, rest: &str) -> Result<String, Trouble> {
-    let mut told = Told::new(alloc);
-    tell_outcome(alloc, names, word, rest, &mut told)?;
-    Ok(told.finish()?)
-}
-
-fn tell_outcome(
-    alloc: Global,
-    names: &Names,
-    word: &str,
-    rest: &str,
-    told: &mut Told,
-) -> Result<(), Trouble> {
-    match word {
-        "disk" => disks::tell_outcome(alloc, rest, told),
-        "cabinet" => cabinets::tell_outcome(alloc, rest, told),
-        "entry" | "text" | "store" | "chain" => tell_given(alloc, names, word, rest, told),
-        _ => tell_store(alloc, names, word, rest, told),
+fn tell_outcome(asked: AskedCase<'_>, told: &mut CaseText) -> Result<(), Trouble> {
+    match asked.word {
+        "disk" => disks::tell_outcome(asked.rest, told),
+        "cabinet" => cabinets::tell_outcome(asked.rest, told),
+        "entry" | "text" | "store" | "chain" => tell_given(asked, told),
+        word => tell_store(word, store_case(asked), told),
     }
 }
 
-fn tell_given(
-    alloc: Global,
-    names: &Names,
-    word: &str,
-    rest: &str,
-    told: &mut Told,
-) -> Result<(), Trouble> {
-    let given = Given::read(alloc, names, word, rest)?;
-    tell_outcome_of(alloc, &given, &given.bytes, told)
+fn tell_given(asked: AskedCase<'_>, told: &mut CaseText) -> Result<(), Trouble> {
+    let given = Given::read(told.alloc(), asked)?;
+    tell_outcome_of(&given, &given.bytes, told)
+}
+
+fn store_case(asked: AskedCase<'_>) -> StoreCase<'_> {
+    let (network, words) = first(asked.rest);
+    StoreCase {
+        names: asked.names,
+        network,
+        words,
+    }
 }
 
 // What comes of a store on which entries are committed, or of one that was refused.
-fn tell_store(
-    alloc: Global,
-    names: &Names,
-    word: &str,
-    rest: &str,
-    told: &mut Told,
-) -> Result<(), Trouble> {
-    let (network, words) = first(rest);
+fn tell_store(word: &str, case: StoreCase<'_>, told: &mut CaseText) -> Result<(), Trouble> {
     match word {
-        "commits" => stores::tell_commits(alloc, names, network, words, told),
-        "left" => stores::tell_left(alloc, names, network, words, told),
-        "again" => tell_again(alloc, names, network, words, told),
+        "commits" => stores::tell_commits(case, told),
+        "left" => stores::tell_left(case, told),
+        "again" => tell_again(case, told),
         _ => Err(Trouble::Word),
     }
 }
 
-fn tell_again(
-    alloc: Global,
-    names: &Names,
-    network: &str,
-    words: &str,
-    told: &mut Told,
-) -> Result<(), Trouble> {
-    let (second, words) = first(words);
-    let bytes = names.bytes(alloc, words)?;
-    stores::tell_again(alloc, network, second, &bytes, told)
+fn tell_again(case: StoreCase<'_>, told: &mut CaseText) -> Result<(), Trouble> {
+    let (second, words) = first(case.words);
+    let bytes = case.names.bytes(told.alloc(), words)?;
+    stores::tell_again(case.network, second, &bytes, told)
 }
 
 // Bytes, of which it is asked what comes of them.
@@ -107,88 +99,72 @@ struct Given<'a> {
 }
 
 impl<'a> Given<'a> {
-    // The bytes of a case with this word, whose rest is the words that stand for them.
-    fn read(
-        alloc: Global,
-        names: &Names,
-        word: &'a str,
-        rest: &'a str,
-    ) -> Result<Given<'a>, Trouble> {
-        let is_journal = word == "store" || word == "chain";
-        let (network, words) = if is_journal { first(rest) } else { ("", rest) };
+    // The bytes for which the words of a case stand.
+    fn read(alloc: Global, asked: AskedCase<'a>) -> Result<Given<'a>, Trouble> {
+        let is_journal = asked.word == "store" || asked.word == "chain";
+        let (network, words) = if is_journal {
+            first(asked.rest)
+        } else {
+            ("", asked.rest)
+        };
         Ok(Given {
-            word,
+            word: asked.word,
             network,
-            bytes: names.bytes(alloc, words)?,
+            bytes: asked.names.bytes(alloc, words)?,
         })
     }
 }
 
-// The first outcome that is none of those wanted, where the bytes are changed by each number of a
-// range.
-fn first_other_of(
-    alloc: Global,
-    names: &Names,
-    change: Change,
-    rest: &str,
+// Tells the first outcome that is none of those wanted, where the bytes are changed by each number
+// of a range. Answers whether there is one.
+fn tell_other_of(
+    asked: AskedCase<'_>,
+    change: BytesChange,
     wanted: &str,
-) -> Result<Option<String>, Trouble> {
-    let (range, asked) = first(rest);
-    let (word, rest) = first(asked);
-    let given = Given::read(alloc, names, word, rest)?;
-    first_changed(alloc, &given, change, Range::read(range)?, wanted)
+    told: &mut CaseText,
+) -> Result<bool, Trouble> {
+    let (range, line) = first(asked.rest);
+    let range = Range::read(range)?;
+    let given = Given::read(told.alloc(), AskedCase::read(asked.names, line))?;
+    tell_other_in(&given, change, range, wanted, told)
 }
 
-fn first_changed(
-    alloc: Global,
+fn tell_other_in(
     given: &Given<'_>,
-    change: Change,
+    change: BytesChange,
     range: Range,
     wanted: &str,
-) -> Result<Option<String>, Trouble> {
+    told: &mut CaseText,
+) -> Result<bool, Trouble> {
     for number in range.from..range.to {
-        if let Some(got) = other(changed(alloc, given, change, number)?, wanted) {
-            return Ok(Some(by(alloc, &got, number)?));
+        tell_changed(given, change, number, told)?;
+        if is_other(told, wanted)? {
+            let alloc = told.alloc();
+            told.add(format!(in alloc; " by {number}"));
+            return Ok(true);
         }
     }
-    Ok(None)
+    Ok(false)
 }
 
-fn by(alloc: Global, got: &String, number: u64) -> Result<String, AllocError> {
-    format!(in alloc; "{got} by {number}")
-}
-
-fn changed(
-    alloc: Global,
+fn tell_changed(
     given: &Given<'_>,
-    change: Change,
+    change: BytesChange,
     number: u64,
-) -> Result<String, Trouble> {
-    let bytes = change.made(alloc, &given.bytes, number)?;
-    outcome_of(alloc, given, &bytes)
+    told: &mut CaseText,
+) -> Result<(), Trouble> {
+    told.clear();
+    let bytes = change.made(told.alloc(), &given.bytes, number)?;
+    tell_outcome_of(given, &bytes, told)
 }
 
 // What comes of these bytes in place of those that are given.
-fn outcome_of(alloc: Global, given: &Given<'_>, bytes: &[u8]) -> Result<String, Trouble> {
-    let mut told = Told::new(alloc);
-    tell_outcome_of(alloc, given, bytes, &mut told)?;
-    Ok(told.finish()?)
-}
-
-fn tell_outcome_of(
-    alloc: Global,
-    given: &Given<'_>,
-    bytes: &[u8],
-    told: &mut Told,
-) -> Result<(), Trouble> {
+fn tell_outcome_of(given: &Given<'_>, bytes: &[u8], told: &mut CaseText) -> Result<(), Trouble> {
     match given.word {
-        "entry" => {
-            told.put(entries::verdict(alloc, bytes)?);
-            Ok(())
-        }
-        "text" => entries::tell_text(alloc, bytes, told),
-        "store" => stores::tell_found(alloc, given.network, bytes, Asked::Book, told),
-        "chain" => stores::tell_found(alloc, given.network, bytes, Asked::Chain, told),
+        "entry" => entries::tell_verdict(bytes, told),
+        "text" => entries::tell_text(bytes, told),
+        "store" => stores::tell_found(given.network, bytes, StoreFact::Book, told),
+        "chain" => stores::tell_found(given.network, bytes, StoreFact::Chain, told),
         _ => Err(Trouble::Word),
     }
 }

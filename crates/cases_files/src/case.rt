@@ -1,9 +1,9 @@
 // A case: one call of the server, and what must come of it.
 ghost use Rattle.std.specs.Prelude.{◌≡◌, ◌≤◌, ◌↔◌, IfOk, IsErr};
 
-use crate::line::{Line, Place};
+use crate::line::{CaseLine, CasePlace};
 use crate::pattern::{Pattern, number};
-use crate::trouble::Trouble;
+use crate::trouble::CaseTrouble;
 use cases_common::{disk_call, first};
 use hose_disk::DiskCall;
 use std::alloc::{AllocError, Global};
@@ -13,29 +13,29 @@ const PIECE: u64 = 4_096;
 
 /// How many bytes a stream moves in a call at most, one at least.
 #[derive(Clone, Copy)]
-pub struct Piece {
+pub struct CasePiece {
     pub bytes: u64,
     ghost some: { 1 ≤ bytes },
 }
 
-impl Piece {
+impl CasePiece {
     /// A piece of so many bytes.
-    pub fn new(bytes: u64) -> Result<Piece, Trouble>
+    pub fn new(bytes: u64) -> Result<CasePiece, CaseTrouble>
         ensures ok { IfOk result (λ piece. piece.bytes ≡ bytes) }
         ensures zero { IsErr result ↔ (bytes ≡ 0) }
     {
         if bytes == 0 {
-            return Err(Trouble::Zero);
+            return Err(CaseTrouble::Zero);
         }
-        Ok(Piece { bytes })
+        Ok(CasePiece { bytes })
     }
 }
 
 /// The input of a case.
 #[derive(Drop)]
-pub struct Input {
+pub struct CaseInput {
     pub bytes: Vec<u8>,
-    pub piece: Piece,
+    pub piece: CasePiece,
     /// The numbers of its calls that fail, counted from 1.
     pub failing: Vec<u64>,
     /// How many more bytes it has, and whether they are its lines again and again.
@@ -45,10 +45,10 @@ pub struct Input {
 
 /// The output of a case.
 #[derive(Drop)]
-pub struct Output {
+pub struct CaseOutput {
     /// What must come out.
     pub bytes: Vec<u8>,
-    pub piece: Piece,
+    pub piece: CasePiece,
     /// The numbers of its calls that fail, counted from 1.
     pub failing: Vec<u64>,
     /// Whether each call of it fails in turn.
@@ -57,7 +57,7 @@ pub struct Output {
 
 /// A connection of the door, which is accepted after those before it.
 #[derive(Drop)]
-pub struct Connection {
+pub struct CaseConnection {
     /// What it gives.
     pub bytes: Vec<u8>,
     /// What it must be given.
@@ -68,15 +68,15 @@ pub struct Connection {
 
 /// The door of a case.
 #[derive(Drop)]
-pub struct Door {
-    pub connections: Vec<Connection>,
+pub struct CaseDoor {
+    pub connections: Vec<CaseConnection>,
     /// The numbers of its calls that fail, counted from 1.
     pub failing: Vec<u64>,
 }
 
 /// The disk of the journal `j`, in the cabinet of a case.
 #[derive(Drop)]
-pub struct Journal {
+pub struct CaseJournal {
     pub bytes: Vec<u8>,
     /// The calls of it that fail, by their kinds and their numbers, counted from 1.
     pub failing: Vec<(DiskCall, u64)>,
@@ -84,7 +84,7 @@ pub struct Journal {
 
 /// Another network, which the journal is moved to.
 #[derive(Drop)]
-pub struct Moved {
+pub struct CaseMove {
     /// The text `u` of the cabinet. Where it has no byte, it is not there.
     pub text: Vec<u8>,
     /// What the disk `k` of the cabinet holds at first.
@@ -95,7 +95,7 @@ pub struct Moved {
 
 /// Stops of the program after so many calls of its disk.
 #[derive(Drop)]
-pub struct Stop {
+pub struct CaseStop {
     pub from: u64,
     /// The last number of calls, which is one of them.
     pub to: u64,
@@ -127,7 +127,7 @@ pub struct Wanted {
     /// What the disk of the journal holds afterwards.
     pub left: Option<Vec<u8>>,
     /// What is found after stops of the program.
-    pub stops: Vec<Stop>,
+    pub stops: Vec<CaseStop>,
     /// The audits of the books that stops name.
     pub books: Vec<Vec<u8>>,
 }
@@ -139,15 +139,15 @@ pub struct Case {
     pub call: Call,
     /// The words after the program's name.
     pub words: Vec<String>,
-    pub input: Input,
-    pub output: Output,
+    pub input: CaseInput,
+    pub output: CaseOutput,
     /// The text `t` of the cabinet. Where it has no byte, it is not there.
     pub text: Vec<u8>,
     /// The number of the cabinet's call for a text or a disk that fails, counted from 1.
     pub failing: Option<u64>,
-    pub journal: Journal,
-    pub moved: Moved,
-    pub door: Door,
+    pub journal: CaseJournal,
+    pub moved: CaseMove,
+    pub door: CaseDoor,
     pub wanted: Wanted,
     /// Whether the gate holds sessions up.
     pub holds: bool,
@@ -158,20 +158,20 @@ pub struct Case {
 // Each part has a call for the lines that begin with a word, which answers whether the word is one
 // of the part's.
 
-impl Input {
-    fn new(alloc: Global) -> Input {
-        Input {
+impl CaseInput {
+    fn new(alloc: Global) -> CaseInput {
+        CaseInput {
             bytes: Vec::new(alloc),
-            piece: Piece { bytes: PIECE },
+            piece: CasePiece { bytes: PIECE },
             failing: Vec::new(alloc),
             more: 0,
             repeats: false,
         }
     }
 
-    fn set(&mut self, alloc: Global, word: &str, rest: &str) -> Result<bool, Trouble> {
+    fn set(&mut self, alloc: Global, word: &str, rest: &str) -> Result<bool, CaseTrouble> {
         match word {
-            "read" => self.piece = Piece::new(number(rest)?)?,
+            "read" => self.piece = CasePiece::new(number(rest)?)?,
             "read-fails" => self.failing = calls_of(alloc, rest)?,
             "more" => self.more = number(rest)?,
             "again" => {
@@ -184,19 +184,19 @@ impl Input {
     }
 }
 
-impl Output {
-    fn new(alloc: Global) -> Output {
-        Output {
+impl CaseOutput {
+    fn new(alloc: Global) -> CaseOutput {
+        CaseOutput {
             bytes: Vec::new(alloc),
-            piece: Piece { bytes: PIECE },
+            piece: CasePiece { bytes: PIECE },
             failing: Vec::new(alloc),
             cuts: false,
         }
     }
 
-    fn set(&mut self, alloc: Global, word: &str, rest: &str) -> Result<bool, Trouble> {
+    fn set(&mut self, alloc: Global, word: &str, rest: &str) -> Result<bool, CaseTrouble> {
         match word {
-            "write" => self.piece = Piece::new(number(rest)?)?,
+            "write" => self.piece = CasePiece::new(number(rest)?)?,
             "write-fails" => self.failing = calls_of(alloc, rest)?,
             "cuts" => self.cuts = true,
             _ => return Ok(false),
@@ -205,15 +205,15 @@ impl Output {
     }
 }
 
-impl Door {
-    fn new(alloc: Global) -> Door {
-        Door {
+impl CaseDoor {
+    fn new(alloc: Global) -> CaseDoor {
+        CaseDoor {
             connections: Vec::new(alloc),
             failing: Vec::new(alloc),
         }
     }
 
-    fn set(&mut self, alloc: Global, word: &str, rest: &str) -> Result<bool, Trouble> {
+    fn set(&mut self, alloc: Global, word: &str, rest: &str) -> Result<bool, CaseTrouble> {
         match word {
             "door-fails" => self.failing = calls_of(alloc, rest)?,
             "peer-fails" => set_failing(&mut self.connections, rest)?,
@@ -222,28 +222,42 @@ impl Door {
         Ok(true)
     }
 
-    // Adds bytes that the connection of this number gives, which is the next or one before it.
-    fn add_said(&mut self, alloc: Global, nth: u64, pattern: Pattern<'_>) -> Result<(), Trouble> {
+    // Adds bytes that the connection of this number gives, or must be given. It is the next or one
+    // before it.
+    fn add(
+        &mut self,
+        alloc: Global,
+        nth: u64,
+        is_wanted: bool,
+        pattern: Pattern<'_>,
+    ) -> Result<(), CaseTrouble> {
         add_connection(alloc, &mut self.connections, nth)?;
-        add_said(&mut self.connections, nth, pattern)
-    }
-
-    // Adds bytes that it must be given.
-    fn add_told(&mut self, alloc: Global, nth: u64, pattern: Pattern<'_>) -> Result<(), Trouble> {
-        add_connection(alloc, &mut self.connections, nth)?;
-        add_told(&mut self.connections, nth, pattern)
+        match self.connections.get_mut(nth.wrapping_sub(1) as usize) {
+            Some(connection) => connection.add(is_wanted, pattern),
+            None => Err(CaseTrouble::Connection),
+        }
     }
 }
 
-impl Journal {
-    fn new(alloc: Global) -> Journal {
-        Journal {
+impl CaseConnection {
+    fn add(&mut self, is_wanted: bool, pattern: Pattern<'_>) -> Result<(), CaseTrouble> {
+        pattern.add_to(if is_wanted {
+            &mut self.wanted
+        } else {
+            &mut self.bytes
+        })
+    }
+}
+
+impl CaseJournal {
+    fn new(alloc: Global) -> CaseJournal {
+        CaseJournal {
             bytes: Vec::new(alloc),
             failing: Vec::new(alloc),
         }
     }
 
-    fn set(&mut self, alloc: Global, word: &str, rest: &str) -> Result<bool, Trouble> {
+    fn set(&mut self, alloc: Global, word: &str, rest: &str) -> Result<bool, CaseTrouble> {
         match word {
             "journal" => self.bytes = bytes_of(alloc, rest)?,
             "disk-fails" => add_disk_calls(alloc, &mut self.failing, rest)?,
@@ -253,16 +267,16 @@ impl Journal {
     }
 }
 
-impl Moved {
-    fn new(alloc: Global) -> Moved {
-        Moved {
+impl CaseMove {
+    fn new(alloc: Global) -> CaseMove {
+        CaseMove {
             text: Vec::new(alloc),
             bytes: Vec::new(alloc),
             left: None,
         }
     }
 
-    fn set(&mut self, alloc: Global, word: &str, rest: &str) -> Result<bool, Trouble> {
+    fn set(&mut self, alloc: Global, word: &str, rest: &str) -> Result<bool, CaseTrouble> {
         match word {
             "new-journal" => self.bytes = bytes_of(alloc, rest)?,
             "new-left" => self.left = Some(bytes_of(alloc, rest)?),
@@ -285,7 +299,7 @@ impl Wanted {
         }
     }
 
-    fn set(&mut self, alloc: Global, word: &str, rest: &str) -> Result<bool, Trouble> {
+    fn set(&mut self, alloc: Global, word: &str, rest: &str) -> Result<bool, CaseTrouble> {
         match word {
             "status" => self.status = number(rest)?,
             "taken" => self.taken = Some(number(rest)?),
@@ -306,13 +320,13 @@ impl Case {
             name,
             call: Call::Program,
             words: Vec::new(alloc),
-            input: Input::new(alloc),
-            output: Output::new(alloc),
+            input: CaseInput::new(alloc),
+            output: CaseOutput::new(alloc),
             text: Vec::new(alloc),
             failing: None,
-            journal: Journal::new(alloc),
-            moved: Moved::new(alloc),
-            door: Door::new(alloc),
+            journal: CaseJournal::new(alloc),
+            moved: CaseMove::new(alloc),
+            door: CaseDoor::new(alloc),
             wanted: Wanted::new(alloc),
             holds: false,
             is_judged: false,
@@ -320,39 +334,39 @@ impl Case {
     }
 
     /// Adds what a line says. A line that begins a case says nothing of this one.
-    pub fn add(&mut self, alloc: Global, line: Line<'_>) -> Result<(), Trouble> {
+    pub fn add(&mut self, alloc: Global, line: CaseLine<'_>) -> Result<(), CaseTrouble> {
         match line {
-            Line::Nothing | Line::Case(_) => Ok(()),
-            Line::Bytes(place, pattern) => self.add_bytes(alloc, place, pattern),
-            Line::Setting(word, rest) => self.set(alloc, word, rest),
+            CaseLine::Nothing | CaseLine::Case(_) => Ok(()),
+            CaseLine::Bytes(place, pattern) => self.add_bytes(alloc, place, pattern),
+            CaseLine::Setting(word, rest) => self.set(alloc, word, rest),
         }
     }
 
     fn add_bytes(
         &mut self,
         alloc: Global,
-        place: Place,
+        place: CasePlace,
         pattern: Pattern<'_>,
-    ) -> Result<(), Trouble> {
+    ) -> Result<(), CaseTrouble> {
         match place {
-            Place::Input => pattern.add_to(&mut self.input.bytes),
-            Place::Text => pattern.add_to(&mut self.text),
-            Place::NewText => pattern.add_to(&mut self.moved.text),
-            Place::Says(nth) => self.door.add_said(alloc, nth, pattern),
-            Place::Book(nth) => add_audited(alloc, &mut self.wanted.books, nth, pattern),
-            Place::Output => {
+            CasePlace::Input => pattern.add_to(&mut self.input.bytes),
+            CasePlace::Text => pattern.add_to(&mut self.text),
+            CasePlace::NewText => pattern.add_to(&mut self.moved.text),
+            CasePlace::Says(nth) => self.door.add(alloc, nth, false, pattern),
+            CasePlace::Book(nth) => add_audited(alloc, &mut self.wanted.books, nth, pattern),
+            CasePlace::Output => {
                 self.wanted.is_said = true;
                 pattern.add_to(&mut self.output.bytes)
             }
-            Place::Told(nth) => {
+            CasePlace::Told(nth) => {
                 self.wanted.is_said = true;
-                self.door.add_told(alloc, nth, pattern)
+                self.door.add(alloc, nth, true, pattern)
             }
         }
     }
 
     // Does what a line says that begins with a word.
-    fn set(&mut self, alloc: Global, word: &str, rest: &str) -> Result<(), Trouble> {
+    fn set(&mut self, alloc: Global, word: &str, rest: &str) -> Result<(), CaseTrouble> {
         if self.input.set(alloc, word, rest)? {
             return Ok(());
         }
@@ -374,7 +388,7 @@ impl Case {
         self.set_own(alloc, word, rest)
     }
 
-    fn set_own(&mut self, alloc: Global, word: &str, rest: &str) -> Result<(), Trouble> {
+    fn set_own(&mut self, alloc: Global, word: &str, rest: &str) -> Result<(), CaseTrouble> {
         match word {
             "words" => self.words = words_of(alloc, rest)?,
             "session" => self.call = Call::Session,
@@ -382,7 +396,7 @@ impl Case {
             "cabinet-fails" => self.failing = Some(number(rest)?),
             "holds" => self.holds = true,
             "judged" => self.is_judged = true,
-            _ => return Err(Trouble::Word),
+            _ => return Err(CaseTrouble::Word),
         }
         Ok(())
     }
@@ -391,11 +405,11 @@ impl Case {
 // Adds the connection of this number, where it is the next.
 fn add_connection(
     alloc: Global,
-    connections: &mut Vec<Connection>,
+    connections: &mut Vec<CaseConnection>,
     nth: u64,
 ) -> Result<(), AllocError> {
     if nth == (connections.len() as u64).saturating_add(1) {
-        connections.push(Connection {
+        connections.push(CaseConnection {
             bytes: Vec::new(alloc),
             wanted: Vec::new(alloc),
             failing: 0,
@@ -404,58 +418,33 @@ fn add_connection(
     Ok(())
 }
 
-fn add_said(
-    connections: &mut Vec<Connection>,
-    nth: u64,
-    pattern: Pattern<'_>,
-) -> Result<(), Trouble> {
-    match connections.get_mut(nth.wrapping_sub(1) as usize) {
-        Some(connection) => pattern.add_to(&mut connection.bytes),
-        None => Err(Trouble::Connection),
-    }
-}
-
-fn add_told(
-    connections: &mut Vec<Connection>,
-    nth: u64,
-    pattern: Pattern<'_>,
-) -> Result<(), Trouble> {
-    match connections.get_mut(nth.wrapping_sub(1) as usize) {
-        Some(connection) => pattern.add_to(&mut connection.wanted),
-        None => Err(Trouble::Connection),
-    }
-}
-
 // Adds bytes to the audit of the book of this number, which is the next or one before it.
 fn add_audited(
     alloc: Global,
     books: &mut Vec<Vec<u8>>,
     nth: u64,
     pattern: Pattern<'_>,
-) -> Result<(), Trouble> {
+) -> Result<(), CaseTrouble> {
     if nth == (books.len() as u64).saturating_add(1) {
         books.push(Vec::new(alloc))?;
     }
     match books.get_mut(nth.wrapping_sub(1) as usize) {
         Some(book) => pattern.add_to(book),
-        None => Err(Trouble::Book),
+        None => Err(CaseTrouble::Book),
     }
 }
 
 // The stops of a line: the first and the last number of calls, and the numbers of books.
-fn stop_of(alloc: Global, rest: &str) -> Result<Stop, Trouble> {
+fn stop_of(alloc: Global, rest: &str) -> Result<CaseStop, CaseTrouble> {
     let (from, rest) = first(rest);
     let (to, books) = first(rest);
+    let (from, to) = (number(from)?, number(to)?);
     let books = calls_of(alloc, books)?;
-    Ok(Stop {
-        from: number(from)?,
-        to: number(to)?,
-        books,
-    })
+    Ok(CaseStop { from, to, books })
 }
 
 // Has a call of a connection fail. The words are the numbers of both.
-fn set_failing(connections: &mut [Connection], rest: &str) -> Result<(), Trouble> {
+fn set_failing(connections: &mut [CaseConnection], rest: &str) -> Result<(), CaseTrouble> {
     let (connection, call) = first(rest);
     let (nth, call) = (number(connection)?, number(call)?);
     match connections.get_mut(nth.wrapping_sub(1) as usize) {
@@ -463,7 +452,7 @@ fn set_failing(connections: &mut [Connection], rest: &str) -> Result<(), Trouble
             connection.failing = call;
             Ok(())
         }
-        None => Err(Trouble::Connection),
+        None => Err(CaseTrouble::Connection),
     }
 }
 
@@ -477,12 +466,12 @@ fn words_of(alloc: Global, rest: &str) -> Result<Vec<String>, AllocError> {
 }
 
 // The numbers of calls in a line.
-fn calls_of(alloc: Global, rest: &str) -> Result<Vec<u64>, Trouble> {
+fn calls_of(alloc: Global, rest: &str) -> Result<Vec<u64>, CaseTrouble> {
     let mut calls = Vec::new(alloc);
     for word in rest.split_whitespace() {
         let nth = number(word)?;
         if nth == 0 {
-            return Err(Trouble::Zero);
+            return Err(CaseTrouble::Zero);
         }
         calls.push(nth)?;
     }
@@ -490,10 +479,10 @@ fn calls_of(alloc: Global, rest: &str) -> Result<Vec<u64>, Trouble> {
 }
 
 // The bytes of a line, which may be parted by spaces.
-fn bytes_of(alloc: Global, rest: &str) -> Result<Vec<u8>, Trouble> {
+fn bytes_of(alloc: Global, rest: &str) -> Result<Vec<u8>, CaseTrouble> {
     let mut bytes = Vec::new(alloc);
     for word in rest.split_whitespace() {
-        let part = hex::decode(alloc, word).ok().ok_or(Trouble::Digits)?;
+        let part = hex::decode(alloc, word).ok().ok_or(CaseTrouble::Digits)?;
         bytes.extend_from_slice(&part)?;
     }
     Ok(bytes)
@@ -504,9 +493,9 @@ fn add_disk_calls(
     alloc: Global,
     failing: &mut Vec<(DiskCall, u64)>,
     rest: &str,
-) -> Result<(), Trouble> {
+) -> Result<(), CaseTrouble> {
     let (kind, numbers) = first(rest);
-    let kind = disk_call(kind).ok_or(Trouble::Kind)?;
+    let kind = disk_call(kind).ok_or(CaseTrouble::Kind)?;
     for nth in &calls_of(alloc, numbers)? {
         failing.push((kind, *nth))?;
     }

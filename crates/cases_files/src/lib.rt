@@ -9,6 +9,9 @@ mod line;
 mod pattern;
 mod trouble;
 
-pub use case::{Call, Case, Connection, Door, Input, Journal, Moved, Output, Piece, Stop, Wanted};
-pub use file::{Refusal, read_cases};
-pub use trouble::Trouble;
+pub use case::{
+    Call, Case, CaseConnection, CaseDoor, CaseInput, CaseJournal, CaseMove, CaseOutput, CasePiece,
+    CaseStop, Wanted,
+};
+pub use file::{FileRefusal, read_cases};
+pub use trouble::CaseTrouble;

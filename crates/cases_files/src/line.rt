@@ -1,11 +1,11 @@
 // The lines of a case file.
 use crate::pattern::{Pattern, number};
-use crate::trouble::Trouble;
+use crate::trouble::CaseTrouble;
 use cases_common::first;
 
 /// Where the bytes of a line go.
 #[derive(Clone, Copy)]
-pub enum Place {
+pub enum CasePlace {
     /// To the input.
     Input,
     /// To the output.
@@ -24,65 +24,65 @@ pub enum Place {
 
 /// What a line of a case file says.
 #[derive(Clone, Copy)]
-pub enum Line<'a> {
+pub enum CaseLine<'a> {
     /// An empty line, or a comment.
     Nothing,
     /// The name of the case that begins here.
     Case(&'a str),
     /// Bytes, and where they go.
-    Bytes(Place, Pattern<'a>),
+    Bytes(CasePlace, Pattern<'a>),
     /// Any other word, and what stands after it, which are read where they are used.
     Setting(&'a str, &'a str),
 }
 
-impl<'a> Line<'a> {
+impl<'a> CaseLine<'a> {
     /// What this line says.
-    pub fn read(line: &'a str) -> Result<Line<'a>, Trouble> {
+    pub fn read(line: &'a str) -> Result<CaseLine<'a>, CaseTrouble> {
         if line.is_empty() || line.starts_with('#') {
-            return Ok(Line::Nothing);
+            return Ok(CaseLine::Nothing);
         }
         match place_of(line) {
-            Some((place, rest)) => Ok(Line::Bytes(place, Pattern::read(rest)?)),
-            None => Ok(Line::by_word(line)),
+            Some((place, rest)) => Ok(CaseLine::Bytes(place, Pattern::read(rest)?)),
+            None => Ok(CaseLine::by_word(line)),
         }
     }
 
-    fn by_word(line: &'a str) -> Line<'a> {
+    fn by_word(line: &'a str) -> CaseLine<'a> {
         let (word, rest) = first(line);
         if word == "case" {
-            return Line::Case(rest);
+            return CaseLine::Case(rest);
         }
-        Line::Setting(word, rest)
+        CaseLine::Setting(word, rest)
     }
 }
 
 // Where the bytes of a line go that begins with a mark, or a number and a mark, and what stands
 // after the mark.
-fn place_of(line: &str) -> Option<(Place, &str)> {
+fn place_of(line: &str) -> Option<(CasePlace, &str)> {
     if let Some(rest) = line.strip_prefix('<') {
-        return Some((Place::Input, rest));
+        return Some((CasePlace::Input, rest));
     }
     if let Some(rest) = line.strip_prefix('>') {
-        return Some((Place::Output, rest));
+        return Some((CasePlace::Output, rest));
     }
     if let Some(rest) = line.strip_prefix('=') {
-        return Some((Place::Text, rest));
+        return Some((CasePlace::Text, rest));
     }
     if let Some(rest) = line.strip_prefix('+') {
-        return Some((Place::NewText, rest));
+        return Some((CasePlace::NewText, rest));
     }
     numbered_place(line)
 }
 
-fn numbered_place(line: &str) -> Option<(Place, &str)> {
+fn numbered_place(line: &str) -> Option<(CasePlace, &str)> {
     if let Some((connection, rest)) = numbered(line, '<') {
-        return Some((Place::Says(connection), rest));
+        return Some((CasePlace::Says(connection), rest));
     }
     if let Some((connection, rest)) = numbered(line, '>') {
-        return Some((Place::Told(connection), rest));
+        return Some((CasePlace::Told(connection), rest));
     }
     let (book, rest) = numbered(line, '|')?;
-    Some((Place::Book(book), rest))
+    Some((CasePlace::Book(book), rest))
 }
 
 // The number before a mark, where the line begins with one, and what stands after the mark.

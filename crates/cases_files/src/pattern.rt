@@ -1,6 +1,6 @@
 // A line of bytes by a short rule: how often it comes, whether a line feed ends it, and what stands
 // in braces.
-use crate::trouble::Trouble;
+use crate::trouble::CaseTrouble;
 use cases_common::first;
 use itoa::Buffer;
 
@@ -15,7 +15,7 @@ pub struct Pattern<'a> {
 impl<'a> Pattern<'a> {
     /// Reads ` TEXT`, `20001 TEXT`, `. TEXT` or `20001. TEXT`. The text may be left out, and
     /// then the space before it too.
-    pub fn read(rest: &'a str) -> Result<Pattern<'a>, Trouble> {
+    pub fn read(rest: &'a str) -> Result<Pattern<'a>, CaseTrouble> {
         let (rule, text) = first(rest);
         let times = rule.strip_suffix('.');
         Ok(Pattern {
@@ -26,7 +26,7 @@ impl<'a> Pattern<'a> {
     }
 
     /// Adds the bytes that it stands for.
-    pub fn add_to(&self, bytes: &mut Vec<u8>) -> Result<(), Trouble> {
+    pub fn add_to(&self, bytes: &mut Vec<u8>) -> Result<(), CaseTrouble> {
         for nth in 0..self.times {
             add_once(bytes, self.text, nth)?;
             if self.ends_line {
@@ -37,7 +37,7 @@ impl<'a> Pattern<'a> {
     }
 }
 
-fn times_of(digits: &str) -> Result<u64, Trouble> {
+fn times_of(digits: &str) -> Result<u64, CaseTrouble> {
     if digits.is_empty() {
         return Ok(1);
     }
@@ -45,19 +45,19 @@ fn times_of(digits: &str) -> Result<u64, Trouble> {
 }
 
 /// The number that these digits write.
-pub fn number(digits: &str) -> Result<u64, Trouble> {
-    digits.parse().ok().ok_or(Trouble::Number)
+pub fn number(digits: &str) -> Result<u64, CaseTrouble> {
+    digits.parse().ok().ok_or(CaseTrouble::Number)
 }
 
 // Adds the text as it stands at its `nth` time, counted from 0.
-fn add_once(bytes: &mut Vec<u8>, text: &str, nth: u64) -> Result<(), Trouble> {
+fn add_once(bytes: &mut Vec<u8>, text: &str, nth: u64) -> Result<(), CaseTrouble> {
     let mut parts = text.split('{');
     if let Some(plain) = parts.next() {
         bytes.extend_from_slice(plain.as_bytes())?;
     }
     for part in parts {
         let Some((mark, plain)) = part.split_once('}') else {
-            return Err(Trouble::Brace);
+            return Err(CaseTrouble::Brace);
         };
         add_mark(bytes, mark, nth)?;
         bytes.extend_from_slice(plain.as_bytes())?;
@@ -66,7 +66,7 @@ fn add_once(bytes: &mut Vec<u8>, text: &str, nth: u64) -> Result<(), Trouble> {
 }
 
 // Adds what stands in braces.
-fn add_mark(bytes: &mut Vec<u8>, mark: &str, nth: u64) -> Result<(), Trouble> {
+fn add_mark(bytes: &mut Vec<u8>, mark: &str, nth: u64) -> Result<(), CaseTrouble> {
     match mark {
         "s" => bytes.push(b' ')?,
         "t" => bytes.push(b'\t')?,
@@ -74,7 +74,7 @@ fn add_mark(bytes: &mut Vec<u8>, mark: &str, nth: u64) -> Result<(), Trouble> {
         "o" => bytes.push(b'{')?,
         "c" => bytes.push(b'}')?,
         mark => match mark.strip_prefix('b') {
-            Some(byte) => bytes.push(byte.parse().ok().ok_or(Trouble::Brace)?)?,
+            Some(byte) => bytes.push(byte.parse().ok().ok_or(CaseTrouble::Brace)?)?,
             None => add_count(bytes, mark, nth)?,
         },
     }
@@ -82,8 +82,8 @@ fn add_mark(bytes: &mut Vec<u8>, mark: &str, nth: u64) -> Result<(), Trouble> {
 }
 
 // Adds a number, which each further time is one more.
-fn add_count(bytes: &mut Vec<u8>, first: &str, nth: u64) -> Result<(), Trouble> {
-    let first = number(first).ok().ok_or(Trouble::Brace)?;
+fn add_count(bytes: &mut Vec<u8>, first: &str, nth: u64) -> Result<(), CaseTrouble> {
+    let first = number(first).ok().ok_or(CaseTrouble::Brace)?;
     let count = first.saturating_add(nth);
     bytes.extend_from_slice(Buffer::new().format(count).as_bytes())?;
     Ok(())

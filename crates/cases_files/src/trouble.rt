@@ -5,7 +5,7 @@ use thiserror::Error;
 
 /// What is wrong with a line of a case file, or why a case could not be run.
 #[derive(Debug, Drop, Error)]
-pub enum Trouble {
+pub enum CaseTrouble {
     #[error("the line begins with no word that a case file knows")]
     Word,
     #[error("a number is wanted")]

@@ -2,7 +2,7 @@
 ghost use Rattle.std.specs.Prelude.{◌≡◌, length, IfOk};
 ghost use Rattle.hose_io.specs.Frame.{Stays};
 
-use cases_common::{Told, Trouble};
+use cases_common::{CaseText, Trouble};
 use hose_io::{Door, Failed, MemDoor, MemSource, Sink, Source};
 use std::alloc::{AllocError, Global};
 
@@ -11,13 +11,20 @@ fn is_movable<D: Door + Send>(_door: &D) {}
 
 /// What became of the only connection of a door, of which two bytes are taken and to which three
 /// are put, and whether another one comes.
-pub fn tell_only_one(alloc: Global, told: &mut Told) -> Result<(), Trouble> {
-    let mut door = one_comes(alloc)?;
+pub fn tell_only_one(told: &mut CaseText) -> Result<(), Trouble> {
+    let mut door = one_comes(told.alloc())?;
     is_movable(&door);
+    tell_served(&mut door, told)
+}
+
+fn tell_served(door: &mut MemDoor, told: &mut CaseText) -> Result<(), Trouble>
+    requires { door.old.accepted ≡ length door.old.ended }
+{
     door.open(1)?;
-    serve_one(&mut door)?;
-    let comes = comes(&mut door);
-    tell_ended(alloc, &door, told)?;
+    serve_one(door)?;
+    let comes = comes(door);
+    tell_ended(door, told)?;
+    let alloc = told.alloc();
     told.add(format!(in alloc; "\nanother one comes: {comes:?}"));
     Ok(())
 }
@@ -33,11 +40,12 @@ fn one_comes(alloc: Global) -> Result<MemDoor, AllocError>
 
 // The number of the one connection that ended, what was taken of it, what is left, and what was
 // put.
-fn tell_ended(alloc: Global, door: &MemDoor, told: &mut Told) -> Result<(), Trouble> {
+fn tell_ended(door: &MemDoor, told: &mut CaseText) -> Result<(), Trouble> {
     let [done] = door.ended() else {
         return Err(Trouble::Word);
     };
     let (taken, left, put) = (done.input.taken(), done.input.left(), done.output.bytes());
+    let alloc = told.alloc();
     told.add(format!(in alloc; "{} {taken:?} {left:?} {put:?}", done.number));
     Ok(())
 }
@@ -70,12 +78,17 @@ fn comes(door: &mut MemDoor) -> Result<bool, Failed> {
 
 /// What comes of opening a door and of accepting twice, of which the first and the third call fail,
 /// and how many calls failed then.
-pub fn tell_failing(alloc: Global, told: &mut Told) -> Result<(), Trouble> {
-    let mut door = MemDoor::new(alloc, Vec::new(alloc))?;
+pub fn tell_failing(told: &mut CaseText) -> Result<(), Trouble> {
+    let alloc = told.alloc();
+    tell_failures(&mut MemDoor::new(alloc, Vec::new(alloc))?, told)
+}
+
+fn tell_failures(door: &mut MemDoor, told: &mut CaseText) -> Result<(), Trouble> {
     door.fail(1)?;
     door.fail(3)?;
     let opened = door.open(1);
-    let comes = [comes(&mut door), comes(&mut door)];
+    let comes = [comes(door), comes(door)];
+    let alloc = told.alloc();
     told.add(format!(in alloc; "{opened:?} {comes:?} {}", door.faults().count));
     Ok(())
 }

@@ -1,45 +1,35 @@
 // Lines that are read as commands and as replies, and replies that are written.
 ghost use Rattle.hose_graph.specs.steps.Naming.{NamesPlaces};
 
-use cases_common::{Told, Trouble, debugged, network};
+use cases_common::{CaseText, Trouble, network};
 use hose_graph::{Reply, Topology};
-use hose_io::{Failed, MemSink};
+use hose_io::MemSink;
 use hose_proto::{put_reply, read_command, read_reply};
 use hose_words::{number, split};
 use std::alloc::{AllocError, Global};
 
 /// What a line is as a command.
-pub fn tell_command(alloc: Global, top: &Topology, line: &str, told: &mut Told) {
-    told.add(debugged(alloc, &read_command(alloc, top, line.as_bytes(), 0)));
+pub fn tell_command(top: &Topology, line: &str, told: &mut CaseText) {
+    told.show(&read_command(told.alloc(), top, line.as_bytes(), 0));
 }
 
 /// What a line is as a reply, and the line that is written of that.
-pub fn tell_reply(
-    alloc: Global,
-    top: &Topology,
-    line: &str,
-    told: &mut Told,
-) -> Result<(), Trouble> {
-    match read_reply(alloc, top, line.as_bytes()) {
-        Ok(reply) => tell_written(alloc, top, &reply, told),
+pub fn tell_reply(top: &Topology, line: &str, told: &mut CaseText) -> Result<(), Trouble> {
+    match read_reply(told.alloc(), top, line.as_bytes()) {
+        Ok(reply) => tell_written(top, &reply, told),
         Err(fault) => {
-            told.add(debugged(alloc, &fault));
+            told.show(&fault);
             Ok(())
         }
     }
 }
 
-fn tell_written(
-    alloc: Global,
-    top: &Topology,
-    reply: &Reply,
-    told: &mut Told,
-) -> Result<(), Trouble>
+fn tell_written(top: &Topology, reply: &Reply, told: &mut CaseText) -> Result<(), Trouble>
     requires { NamesPlaces top.now reply.now }
 {
-    told.add(debugged(alloc, reply));
+    told.show(reply);
     told.put("\n");
-    let sink = written(alloc, top, reply)?;
+    let sink = written(told.alloc(), top, reply)?;
     told.put(str::from_utf8(sink.bytes()).unwrap_or("no text"));
     Ok(())
 }
@@ -54,15 +44,19 @@ fn written(alloc: Global, top: &Topology, reply: &Reply) -> Result<MemSink, Trou
 }
 
 /// What a line with so many endpoints is as a reply, in a network of as many nodes.
-pub fn tell_endpoints(alloc: Global, count: u64, told: &mut Told) -> Result<(), Trouble> {
-    let top = nodes(alloc, count)?;
-    let line = endpoints(alloc, count)?;
-    tell_reply(alloc, &top, line.as_str(), told)
+pub fn tell_endpoints(count: u64, told: &mut CaseText) -> Result<(), Trouble> {
+    let top = nodes(told.alloc(), count)?;
+    tell_ends(&top, count, told)
+}
+
+fn tell_ends(top: &Topology, count: u64, told: &mut CaseText) -> Result<(), Trouble> {
+    let line = endpoints(told.alloc(), count)?;
+    tell_reply(top, line.as_str(), told)
 }
 
 // A network of so many nodes, without a link.
 fn nodes(alloc: Global, count: u64) -> Result<Topology, Trouble> {
-    let mut text = Told::new(alloc);
+    let mut text = CaseText::new(alloc);
     for number in 0..count {
         text.add(format!(in alloc; "node n{number}\n"));
     }
@@ -72,7 +66,7 @@ fn nodes(alloc: Global, count: u64) -> Result<Topology, Trouble> {
 
 // A reply with an endpoint at each of so many nodes.
 fn endpoints(alloc: Global, count: u64) -> Result<String, AllocError> {
-    let mut line = Told::new(alloc);
+    let mut line = CaseText::new(alloc);
     line.put("vpn 1 cost 2 at 3 ends");
     for number in 0..count {
         line.add(format!(in alloc; " n{number}:1"));
@@ -82,17 +76,30 @@ fn endpoints(alloc: Global, count: u64) -> Result<String, AllocError> {
 
 /// What comes of a reply of 4,919 bytes, which names 200 links, at a sink of which this call fails,
 /// and how many bytes are out then.
-pub fn tell_long(alloc: Global, failing: u64, told: &mut Told) -> Result<(), Trouble> {
-    let top = wide(alloc)?;
-    let line = amounts(alloc)?;
-    let reply = read_reply(alloc, &top, line.as_str().as_bytes())?;
-    told.add(debugged(alloc, &put_failing(alloc, &top, &reply, failing)?));
+pub fn tell_long(failing: u64, told: &mut CaseText) -> Result<(), Trouble> {
+    let top = wide(told.alloc())?;
+    tell_amounts(&top, failing, told)
+}
+
+fn tell_amounts(top: &Topology, failing: u64, told: &mut CaseText) -> Result<(), Trouble> {
+    let alloc = told.alloc();
+    let reply = read_reply(alloc, top, amounts(alloc)?.as_str().as_bytes())?;
+    put_failing(top, &reply, failing, told)
+}
+
+fn put_failing(top: &Topology, reply: &Reply, nth: u64, told: &mut CaseText) -> Result<(), Trouble>
+    requires { NamesPlaces top.now reply.now }
+{
+    let mut sink = MemSink::new(told.alloc())?;
+    sink.fail(nth)?;
+    let done = put_reply(&mut sink, top, reply);
+    told.show(&(done, sink.bytes().len()));
     Ok(())
 }
 
 // Two nodes with 200 links between them.
 fn wide(alloc: Global) -> Result<Topology, Trouble> {
-    let mut text = Told::new(alloc);
+    let mut text = CaseText::new(alloc);
     text.put("node a\nnode b\n");
     for _ in 0..200 {
         text.put("link a b 1 1\n");
@@ -103,7 +110,7 @@ fn wide(alloc: Global) -> Result<Topology, Trouble> {
 
 // A reply with an amount on each of 200 links.
 fn amounts(alloc: Global) -> Result<String, AllocError> {
-    let mut line = Told::new(alloc);
+    let mut line = CaseText::new(alloc);
     line.put("admitted 1 cost 0 at 1 links");
     for link in 0..200 {
         line.add(format!(in alloc; " {link}:18446744073709551615"));
@@ -111,37 +118,20 @@ fn amounts(alloc: Global) -> Result<String, AllocError> {
     line.finish()
 }
 
-fn put_failing(
-    alloc: Global,
-    top: &Topology,
-    reply: &Reply,
-    failing: u64,
-) -> Result<(Result<(), Failed>, usize), AllocError>
-    requires { NamesPlaces top.now reply.now }
-{
-    let mut sink = MemSink::new(alloc)?;
-    sink.fail(failing)?;
-    let done = put_reply(&mut sink, top, reply);
-    Ok((done, sink.bytes().len()))
+/// Whether a reply with so many numbers of VPNs is written as it was read, and its bytes.
+pub fn tell_vpns(top: &Topology, count: u64, told: &mut CaseText) -> Result<(), Trouble> {
+    let line = vpns(told.alloc(), count)?;
+    tell_same(top, line.as_str(), told)
 }
 
-/// Whether a reply with so many numbers of VPNs is written as it was read, and its bytes.
-pub fn tell_vpns(
-    alloc: Global,
-    top: &Topology,
-    count: u64,
-    told: &mut Told,
-) -> Result<(), Trouble> {
-    let line = vpns(alloc, count)?;
-    let line = line.as_str();
-    let sink = written_again(alloc, top, line.trim_end())?;
-    let is_same = sink.bytes() == line.as_bytes();
-    told.add(debugged(alloc, &(is_same, line.len())));
+fn tell_same(top: &Topology, line: &str, told: &mut CaseText) -> Result<(), Trouble> {
+    let sink = written_again(told.alloc(), top, line.trim_end())?;
+    told.show(&(sink.bytes() == line.as_bytes(), line.len()));
     Ok(())
 }
 
 fn vpns(alloc: Global, count: u64) -> Result<String, AllocError> {
-    let mut line = Told::new(alloc);
+    let mut line = CaseText::new(alloc);
     line.put("vpns");
     for id in 0..count {
         line.add(format!(in alloc; " {id}"));
@@ -156,9 +146,10 @@ fn written_again(alloc: Global, top: &Topology, line: &str) -> Result<MemSink, T
 }
 
 /// Whether a line is split into its words, which may hold a tab; and numbers of at most 512.
-pub fn tell_words(alloc: Global, told: &mut Told) {
+pub fn tell_words(told: &mut CaseText) {
     let words: [&[u8]; 2] = [b"link\ta", b"512"];
     let is_split = split(b"  link\ta  512 ").eq(words);
     let numbers = [number(b"512", 512), number(b"513", 512), number(b"01", 512)];
+    let alloc = told.alloc();
     told.add(format!(in alloc; "{is_split} {numbers:?}"));
 }

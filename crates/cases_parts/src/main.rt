@@ -17,11 +17,5 @@ use cases_common::run_calls;
 use std::process::ExitCode;
 
 fn main(rt: HostRuntime) -> ExitCode {
-    match run_calls::<PartCalls, _>(&rt, "calls.cases") {
-        Ok(()) => ExitCode::SUCCESS,
-        Err(trouble) => {
-            let _ = eprintln!(rt; "cases_parts: {trouble}");
-            ExitCode::FAILURE
-        }
-    }
+    run_calls::<PartCalls, _>(&rt, "cases_parts", "calls.cases")
 }

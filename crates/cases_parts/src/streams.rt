@@ -1,7 +1,7 @@
 // Sources, sinks and lines: bytes in pieces, calls that fail, readers and writers of std.
 ghost use Rattle.std.specs.Prelude.{◌<◌, length};
 
-use cases_common::{Told, Trouble, debugged, first, number};
+use cases_common::{CaseText, Trouble, first, number};
 use hose_io::{Failed, Gather, MemSink, MemSource, Sink, Source, StdSink, StdSource, write_all};
 use hose_words::LineReader;
 use std::alloc::{AllocError, Global};
@@ -9,70 +9,81 @@ use std::io::{self, ErrorKind, Read, Write};
 
 /// What comes of four takes of four bytes from a source of `abc` in pieces of two, of which the
 /// last fails; and what was taken, how many calls failed and how many bytes are left then.
-pub fn tell_source(alloc: Global, told: &mut Told) -> Result<(), Trouble> {
-    let mut source = MemSource::new(alloc, b"abc", 2)?;
+pub fn tell_source(told: &mut CaseText) -> Result<(), Trouble> {
+    tell_of_source(&mut MemSource::new(told.alloc(), b"abc", 2)?, told)
+}
+
+fn tell_of_source(source: &mut MemSource, told: &mut CaseText) -> Result<(), Trouble> {
     source.fail(4)?;
-    tell_takes(alloc, &mut source, 4, told)?;
+    tell_takes(source, 4, told)?;
     let (bytes, faults, left) = (source.taken(), source.faults().count, source.left().len());
+    let alloc = told.alloc();
     told.add(format!(in alloc; " {bytes:?} {faults} {left}"));
     Ok(())
 }
 
 // What comes of so many takes of four bytes.
 fn tell_takes<S: Source>(
-    alloc: Global,
     source: &mut S,
     count: u32,
-    told: &mut Told,
+    told: &mut CaseText,
 ) -> Result<(), AllocError> {
-    let mut taken = Vec::new(alloc);
+    let mut taken = Vec::new(told.alloc());
     for _ in 0..count {
         taken.push(source.take(&mut [0; 4]))?;
     }
-    told.add(debugged(alloc, &taken));
+    told.show(&taken);
     Ok(())
 }
 
 /// What comes of three puts of two bytes at a sink of which the first call fails; and what it has,
 /// how many calls failed and how many found no memory then.
-pub fn tell_sink(alloc: Global, told: &mut Told) -> Result<(), Trouble> {
-    let mut sink = MemSink::new(alloc)?;
+pub fn tell_sink(told: &mut CaseText) -> Result<(), Trouble> {
+    tell_of_sink(&mut MemSink::new(told.alloc())?, told)
+}
+
+fn tell_of_sink(sink: &mut MemSink, told: &mut CaseText) -> Result<(), Trouble> {
     sink.fail(1)?;
-    tell_puts(alloc, &mut sink, b"ab", 3, told)?;
+    tell_puts(sink, b"ab", 3, told)?;
     let (bytes, faults) = (sink.bytes(), sink.faults());
+    let alloc = told.alloc();
     told.add(format!(in alloc; " {bytes:?} {} {}", faults.count, faults.starved));
     Ok(())
 }
 
 // What comes of so many puts of the same bytes.
 fn tell_puts<O: Sink>(
-    alloc: Global,
     sink: &mut O,
     bytes: &[u8],
     count: u32,
-    told: &mut Told,
+    told: &mut CaseText,
 ) -> Result<(), AllocError>
     requires { 0 < length bytes.now }
 {
-    let mut put = Vec::new(alloc);
+    let mut put = Vec::new(told.alloc());
     for _ in 0..count {
         put.push(sink.put(bytes))?;
     }
-    told.add(debugged(alloc, &put));
+    told.show(&put);
     Ok(())
 }
 
 /// What comes of a text of 4,096 bytes and then a few where this call fails, and how much is out.
-pub fn tell_gathered(alloc: Global, failing: u64, told: &mut Told) -> Result<(), Trouble> {
-    let mut sink = MemSink::new(alloc)?;
+pub fn tell_gathered(failing: u64, told: &mut CaseText) -> Result<(), Trouble> {
+    let mut sink = MemSink::new(told.alloc())?;
     sink.fail(failing)?;
-    let mut text = Gather::new();
-    text.add(&mut sink, &[b'a'; 4_096]);
-    text.add(&mut sink, b"b");
-    text.add_number(&mut sink, 10);
-    let done = text.finish(&mut sink);
+    let done = gather(&mut sink);
+    let alloc = told.alloc();
     told.add(format!(in alloc; "{done:?} {}", sink.bytes().len()));
     Ok(())
+}
+
+fn gather(sink: &mut MemSink) -> Result<(), Failed> {
+    let mut text = Gather::new();
+    text.add(sink, &[b'a'; 4_096]);
+    text.add(sink, b"b");
+    text.add_number(sink, 10);
+    text.finish(sink)
 }
 
 // Gives and takes a byte in each of its calls. The second is interrupted, the fourth moves nothing,
@@ -112,44 +123,43 @@ impl Write for Trickle {
 
 /// What comes of six takes from a reader that is interrupted, ends and fails, of six puts to such a
 /// writer, and of three whole texts.
-pub fn tell_trickled(alloc: Global, told: &mut Told) -> Result<(), Trouble> {
-    let mut source = StdSource::new(Trickle { calls: 0 });
-    tell_takes(alloc, &mut source, 6, told)?;
+pub fn tell_trickled(told: &mut CaseText) -> Result<(), Trouble> {
+    tell_takes(&mut StdSource::new(Trickle { calls: 0 }), 6, told)?;
     told.put("\n");
-    let mut sink = StdSink::new(Trickle { calls: 0 });
-    tell_puts(alloc, &mut sink, b"abc", 6, told)?;
+    tell_puts(&mut StdSink::new(Trickle { calls: 0 }), b"abc", 6, told)?;
     told.put("\n");
-    tell_whole(alloc, told);
+    tell_whole(told);
     Ok(())
 }
 
-fn tell_whole(alloc: Global, told: &mut Told) {
+fn tell_whole(told: &mut CaseText) {
     let mut sink = StdSink::new(Trickle { calls: 0 });
     let whole = [
         write_all(&mut sink, b"abc"),
         write_all(&mut sink, b"abc"),
         write_all(&mut sink, b"abc"),
     ];
-    told.add(debugged(alloc, &whole));
+    told.show(&whole);
 }
 
 /// What two bytes are that pass through a reader and a writer of std.
-pub fn tell_passed(alloc: Global, told: &mut Told) -> Result<(), Trouble> {
+pub fn tell_passed(told: &mut CaseText) -> Result<(), Trouble> {
     let mut piece = [0; 3];
     let count = StdSource::new(b"ab".as_slice()).take(&mut piece)?;
-    let mut bytes = Vec::new(alloc);
+    let mut bytes = Vec::new(told.alloc());
     write_all(&mut StdSink::new(&mut bytes), &piece[..count])?;
-    told.add(debugged(alloc, &bytes));
+    told.show(&bytes);
     Ok(())
 }
 
 /// The next four lines of a text, given in pieces, of which a call fails, and what is left of it
 /// then. The words are the call, and the lines, between which a slash stands.
-pub fn tell_lines(alloc: Global, piece: u64, words: &str, told: &mut Told) -> Result<(), Trouble> {
+pub fn tell_lines(piece: u64, words: &str, told: &mut CaseText) -> Result<(), Trouble> {
     let (failing, text) = first(words);
-    let mut source = parted(alloc, piece, text)?;
-    source.fail(number(failing)?)?;
-    tell_all(alloc, LineReader::new(source), told);
+    let failing = number(failing)?;
+    let mut source = parted(told.alloc(), piece, text)?;
+    source.fail(failing)?;
+    tell_all(LineReader::new(source), told);
     Ok(())
 }
 
@@ -164,9 +174,10 @@ fn parted(alloc: Global, piece: u64, text: &str) -> Result<MemSource, AllocError
     MemSource::new(alloc, &bytes, piece.max(1))
 }
 
-fn tell_all(alloc: Global, mut lines: LineReader<MemSource>, told: &mut Told) {
+fn tell_all(mut lines: LineReader<MemSource>, told: &mut CaseText) {
+    let alloc = told.alloc();
     for _ in 0..4 {
         told.add(format!(in alloc; "{:?}\n", lines.next()));
     }
-    told.add(debugged(alloc, &lines.into_source().left()));
+    told.show(&lines.into_source().left());
 }

@@ -1,5 +1,5 @@
 // Link sets, hoses, networks, names, and copies of values.
-use cases_common::{Told, Trouble, debugged, name};
+use cases_common::{CaseText, Trouble, debugged, name};
 use hose_graph::{Amounts, Endpoint, Entry, Hose, HoseFault, Link, NodeList, Topology};
 use hose_links::LinkSet;
 use std::alloc::{AllocError, Global};
@@ -14,7 +14,8 @@ fn of_three(links: &LinkSet) -> [bool; 3] {
 
 /// Three links at first, with one put, filled but for that, as copied then, and with one cleared;
 /// and whether the copy is the same before that and after it.
-pub fn tell_links(alloc: Global, told: &mut Told) -> Result<(), Trouble> {
+pub fn tell_links(told: &mut CaseText) -> Result<(), Trouble> {
+    let alloc = told.alloc();
     let mut links = LinkSet::new(alloc, 3)?;
     let at_first = of_three(&links);
     links.put(1);
@@ -31,12 +32,12 @@ pub fn tell_links(alloc: Global, told: &mut Told) -> Result<(), Trouble> {
 }
 
 /// A hose of these endpoints, with its total, and its copy; or why it is refused.
-pub fn tell_hose(alloc: Global, words: &str, told: &mut Told) -> Result<(), Trouble> {
-    let ends = endpoints(alloc, words)?;
-    match Hose::build(alloc, &ends) {
-        Ok(hose) => told.add(with_copy(alloc, &hose)),
+pub fn tell_hose(words: &str, told: &mut CaseText) -> Result<(), Trouble> {
+    let ends = endpoints(told.alloc(), words)?;
+    match Hose::build(told.alloc(), &ends) {
+        Ok(hose) => told.add(with_copy(told.alloc(), &hose)),
         Err(HoseFault::Memory) => told.add(Err(AllocError)),
-        Err(fault) => told.add(debugged(alloc, &fault)),
+        Err(fault) => told.show(&fault),
     }
     Ok(())
 }
@@ -65,8 +66,9 @@ fn with_copy(alloc: Global, hose: &Hose) -> Result<String, AllocError> {
 
 /// What comes of a node, of the same again, of a link from a node to itself, and of one of these
 /// without capacity, at an empty network.
-pub fn tell_refusals(alloc: Global, told: &mut Told) -> Result<(), Trouble> {
+pub fn tell_refusals(told: &mut CaseText) -> Result<(), Trouble> {
     let node = name("a")?;
+    let alloc = told.alloc();
     let mut top = Topology::new(alloc)?;
     let added = [top.add_node(node), top.add_node(node)];
     let links = [top.add_link(loop_of(1)), top.add_link(loop_of(0))];
@@ -85,21 +87,23 @@ fn loop_of(capacity: u64) -> Link {
 }
 
 /// Whether words are names, and whether these are the same.
-pub fn tell_names(alloc: Global, words: &str, told: &mut Told) {
+pub fn tell_names(words: &str, told: &mut CaseText) {
     let (one, other) = words.split_once(' ').unwrap_or((words, ""));
     let (one, other) = (name(one).ok(), name(other).ok());
     let is_same = one == other;
+    let alloc = told.alloc();
     told.add(format!(in alloc; "{} {} {is_same}", one.is_some(), other.is_some()));
 }
 
 /// Copies of amounts and of a list of nodes, and whether copies of an entry and of a network are
 /// printed alike.
-pub fn tell_copies(alloc: Global, top: &Topology, told: &mut Told) -> Result<(), Trouble> {
-    told.add(debugged(alloc, &copied_amounts(alloc)?));
+pub fn tell_copies(top: &Topology, told: &mut CaseText) -> Result<(), Trouble> {
+    let alloc = told.alloc();
+    told.show(&copied_amounts(alloc)?);
     told.put("\n");
-    told.add(debugged(alloc, &copied_nodes(alloc)?));
-    told.add(format!(in alloc; "\nthe entry {}", is_entry_alike(alloc)?));
-    told.add(format!(in alloc; ", the network {}", is_network_alike(alloc, top)?));
+    told.show(&copied_nodes(alloc)?);
+    let (entry, network) = (is_entry_alike(alloc)?, is_network_alike(alloc, top)?);
+    told.add(format!(in alloc; "\nthe entry {entry}, the network {network}"));
     Ok(())
 }
 

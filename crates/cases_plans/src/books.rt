@@ -1,7 +1,7 @@
 // Books: what they say of entries, in which order, what entries change, and how they are audited.
 ghost use Rattle.hose_graph.specs.declared.limits.TheConstants.{MOST_EPOCH};
 
-use cases_common::{Told, Trouble, debugged, first, name, named, number, shown};
+use cases_common::{CaseCall, CaseText, Trouble, first, name, named, number, shown};
 use hose_audit::audit;
 use hose_book::{Book, Books, Plain};
 use hose_graph::{Entry, MOST_EPOCH, MOST_LIVE, Topology};
@@ -16,22 +16,15 @@ pub fn book_at(alloc: Global, network: &str, epoch: &str) -> Result<Book, Troubl
 
 /// What comes of steps at the book of a network, which begins at an epoch. They stand between
 /// semicolons.
-pub fn tell_steps(
-    alloc: Global,
-    network: &str,
-    line: &str,
-    told: &mut Told,
-) -> Result<(), Trouble> {
-    let (epoch, steps) = first(line);
-    let mut plain = Plain {
-        book: book_at(alloc, network, epoch)?,
-    };
-    tell_all(alloc, &mut plain, steps, told)
+pub fn tell_steps(call: CaseCall<'_>, told: &mut CaseText) -> Result<(), Trouble> {
+    let (epoch, steps) = first(call.words);
+    let book = book_at(told.alloc(), call.network, epoch)?;
+    tell_all(&mut Plain { book }, steps, told)
 }
 
-fn tell_all(alloc: Global, plain: &mut Plain, steps: &str, told: &mut Told) -> Result<(), Trouble> {
+fn tell_all(plain: &mut Plain, steps: &str, told: &mut CaseText) -> Result<(), Trouble> {
     for step in steps.split(';') {
-        tell_step(alloc, plain, step.trim(), told)?;
+        tell_step(plain, step.trim(), told)?;
         told.put("\n");
     }
     Ok(())
@@ -39,33 +32,25 @@ fn tell_all(alloc: Global, plain: &mut Plain, steps: &str, told: &mut Told) -> R
 
 // What comes of a step: what a book says, or an entry that is judged, and entered where it is
 // sound; many of these; one that is committed then.
-fn tell_step(alloc: Global, plain: &mut Plain, step: &str, told: &mut Told) -> Result<(), Trouble> {
+fn tell_step(plain: &mut Plain, step: &str, told: &mut CaseText) -> Result<(), Trouble> {
     let (word, rest) = first(step);
     match word {
-        "fill" => tell_filled(alloc, &mut plain.book, rest, told),
-        "turns" => tell_turns(alloc, &mut plain.book, rest, told),
-        "commit" => tell_committed(alloc, plain, rest, told),
-        "audit" | "recent" | "stands" | "serves" => {
-            tell_looked_at(alloc, &plain.book, word, rest, told)
-        }
-        _ => tell_entered(alloc, &mut plain.book, step, told),
+        "fill" => tell_filled(&mut plain.book, rest, told),
+        "turns" => tell_turns(&mut plain.book, rest, told),
+        "commit" => tell_committed(plain, rest, told),
+        "audit" | "recent" | "stands" | "serves" => tell_looked_at(&plain.book, word, rest, told),
+        _ => tell_entered(&mut plain.book, step, told),
     }
 }
 
 // What a book says: the audit; what changed of late; the epoch, how many VPNs are live, and the
 // loads; the links in service.
-fn tell_looked_at(
-    alloc: Global,
-    book: &Book,
-    word: &str,
-    rest: &str,
-    told: &mut Told,
-) -> Result<(), Trouble> {
+fn tell_looked_at(book: &Book, word: &str, rest: &str, told: &mut CaseText) -> Result<(), Trouble> {
     match word {
-        "audit" => return tell_audit(alloc, book, told),
-        "recent" => told.add(recent(alloc, book, number(rest)?)),
-        "stands" => told.add(standing(alloc, book)),
-        _ => told.add(debugged(alloc, book.service())),
+        "audit" => return tell_audit(book, told),
+        "recent" => tell_recent(book, number(rest)?, told),
+        "stands" => tell_standing(book, told),
+        _ => told.show(book.service()),
     }
     Ok(())
 }
@@ -104,51 +89,48 @@ fn admission(alloc: Global, top: &Topology, words: &str) -> Result<Entry, Troubl
     })
 }
 
-fn tell_entered(
-    alloc: Global,
-    book: &mut Book,
-    words: &str,
-    told: &mut Told,
-) -> Result<(), Trouble> {
-    let entry = entry_of(alloc, book.topology(), words)?;
+fn tell_entered(book: &mut Book, words: &str, told: &mut CaseText) -> Result<(), Trouble> {
+    let entry = entry_of(told.alloc(), book.topology(), words)?;
+    enter(book, entry, told);
+    Ok(())
+}
+
+fn enter(book: &mut Book, entry: Entry, told: &mut CaseText) {
     let judged = book.check(&entry);
-    told.add(debugged(alloc, &judged));
+    told.show(&judged);
     if judged.is_ok() {
         book.apply(entry);
     }
+}
+
+fn tell_committed(plain: &mut Plain, words: &str, told: &mut CaseText) -> Result<(), Trouble> {
+    let entry = entry_of(told.alloc(), plain.book.topology(), words)?;
+    commit(plain, entry, told);
     Ok(())
 }
 
-fn tell_committed(
-    alloc: Global,
-    plain: &mut Plain,
-    words: &str,
-    told: &mut Told,
-) -> Result<(), Trouble> {
-    let entry = entry_of(alloc, plain.book.topology(), words)?;
+fn commit(plain: &mut Plain, entry: Entry, told: &mut CaseText) {
     if plain.book.check(&entry).is_err() {
         told.put("no sound entry");
     } else {
-        told.add(debugged(alloc, &plain.commit(entry, ())));
+        told.show(&plain.commit(entry, ()));
     }
-    Ok(())
 }
 
-fn standing(alloc: Global, book: &Book) -> Result<String, AllocError> {
+fn tell_standing(book: &Book, told: &mut CaseText) {
     let (epoch, live, loads) = (book.epoch(), book.live().len(), book.loads());
-    format!(in alloc; "epoch {epoch}, {live} live, loads {loads:?}")
+    let alloc = told.alloc();
+    told.add(format!(in alloc; "epoch {epoch}, {live} live, loads {loads:?}"));
 }
 
 // Enters an admission as often as VPNs may be live, and tells how often it was sound.
-fn tell_filled(
-    alloc: Global,
-    book: &mut Book,
-    words: &str,
-    told: &mut Told,
-) -> Result<(), Trouble> {
-    let entry = entry_of(alloc, book.topology(), words)?;
-    let sound = fill_with(alloc, book, &entry)?;
-    told.add(debugged(alloc, &sound));
+fn tell_filled(book: &mut Book, words: &str, told: &mut CaseText) -> Result<(), Trouble> {
+    let entry = entry_of(told.alloc(), book.topology(), words)?;
+    tell_filled_with(book, &entry, told)
+}
+
+fn tell_filled_with(book: &mut Book, entry: &Entry, told: &mut CaseText) -> Result<(), Trouble> {
+    told.show(&fill_with(told.alloc(), book, entry)?);
     Ok(())
 }
 
@@ -172,12 +154,20 @@ fn enter_copy(alloc: Global, book: &mut Book, entry: &Entry) -> Result<bool, All
 }
 
 // Enters an admission and its release, so often in turn, and tells how many entries were sound.
-fn tell_turns(alloc: Global, book: &mut Book, words: &str, told: &mut Told) -> Result<(), Trouble> {
+fn tell_turns(book: &mut Book, words: &str, told: &mut CaseText) -> Result<(), Trouble> {
     let (times, words) = first(words);
     let times = number(times)?;
-    let entry = entry_of(alloc, book.topology(), words)?;
-    let sound = turn_with(alloc, book, &entry, times)?;
-    told.add(debugged(alloc, &sound));
+    let entry = entry_of(told.alloc(), book.topology(), words)?;
+    tell_turns_with(book, &entry, times, told)
+}
+
+fn tell_turns_with(
+    book: &mut Book,
+    entry: &Entry,
+    times: u64,
+    told: &mut CaseText,
+) -> Result<(), Trouble> {
+    told.show(&turn_with(told.alloc(), book, entry, times)?);
     Ok(())
 }
 
@@ -209,17 +199,25 @@ fn release_last(book: &mut Book) -> Result<bool, Trouble> {
 
 // The floor, how many changes there are, the first four of them and the last, and how many are told
 // as those since an epoch.
-fn recent(alloc: Global, book: &Book, seen: u64) -> Result<String, AllocError> {
+fn tell_recent(book: &Book, seen: u64, told: &mut CaseText) {
     let (floor, changes, since) = (book.floor(), book.changes(), book.changes_since(seen).len());
     let (count, last) = (changes.len(), changes.last());
     let first = &changes[..count.min(4)];
-    format!(in alloc; "floor {floor}, {count} changes {first:?} to {last:?}, {since} since {seen}")
+    let alloc = told.alloc();
+    told.add(format!(in alloc;
+        "floor {floor}, {count} changes {first:?} to {last:?}, {since} since {seen}"
+    ));
 }
 
-fn tell_audit(alloc: Global, book: &Book, told: &mut Told) -> Result<(), Trouble> {
+fn tell_audit(book: &Book, told: &mut CaseText) -> Result<(), Trouble> {
+    let sink = audited(told.alloc(), book)?;
+    told.put(str::from_utf8(sink.bytes()).unwrap_or("no text").trim_end());
+    Ok(())
+}
+
+// A sink with the audit of a book.
+fn audited(alloc: Global, book: &Book) -> Result<MemSink, Trouble> {
     let mut sink = MemSink::new(alloc)?;
     audit(book, &mut sink)?;
-    let text = String::from_utf8_lossy(alloc, sink.bytes())?;
-    told.put(text.as_str().trim_end());
-    Ok(())
+    Ok(sink)
 }

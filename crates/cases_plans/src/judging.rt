@@ -1,38 +1,34 @@
 // Whether amounts are what a hose reserves on some tree.
-use cases_common::{Told, Trouble, debugged, first, number, shown};
+use cases_common::{CaseText, Trouble, first, number, shown};
 use hose_graph::{Amounts, Hose, Topology};
 use hose_tree::is_reservation;
 use std::alloc::{AllocError, Global};
 
 /// Whether amounts are what a hose reserves, of the ends and links of a reply.
-pub fn tell_judged(
-    alloc: Global,
-    top: &Topology,
-    words: &str,
-    told: &mut Told,
-) -> Result<(), Trouble> {
-    let (hose, amounts) = shown(alloc, top, words)?;
-    tell_verdict(alloc, top, &hose, &amounts, told);
+pub fn tell_judged(top: &Topology, words: &str, told: &mut CaseText) -> Result<(), Trouble> {
+    let (hose, amounts) = shown(told.alloc(), top, words)?;
+    told.show(&is_reservation(top, &hose, &amounts));
     Ok(())
-}
-
-fn tell_verdict(alloc: Global, top: &Topology, hose: &Hose, amounts: &Amounts, told: &mut Told) {
-    told.add(debugged(alloc, &is_reservation(top, hose, amounts)));
 }
 
 /// Whether amounts are what a hose reserves, of the hose of the first node and another one, of 3
 /// each, and of amounts that no reply tells: none, one, one too many, and one on a link that is not
 /// there.
-pub fn tell_reserved(
-    alloc: Global,
-    top: &Topology,
-    words: &str,
-    told: &mut Told,
-) -> Result<(), Trouble> {
+pub fn tell_reserved(top: &Topology, words: &str, told: &mut CaseText) -> Result<(), Trouble> {
     let (node, links) = first(words);
-    let amounts = amounts_of(alloc, number(links)?)?;
-    let hose = hose_with(alloc, number(node)?)?;
-    tell_verdict(alloc, top, &hose, &amounts, told);
+    let links = number(links)?;
+    let hose = hose_with(told.alloc(), number(node)?)?;
+    tell_reserved_by(top, &hose, links, told)
+}
+
+fn tell_reserved_by(
+    top: &Topology,
+    hose: &Hose,
+    links: u64,
+    told: &mut CaseText,
+) -> Result<(), Trouble> {
+    let amounts = amounts_of(told.alloc(), links)?;
+    told.show(&is_reservation(top, hose, &amounts));
     Ok(())
 }
 

@@ -18,11 +18,5 @@ use cases_common::run_calls;
 use std::process::ExitCode;
 
 fn main(rt: HostRuntime) -> ExitCode {
-    match run_calls::<PlanCalls, _>(&rt, "calls.cases") {
-        Ok(()) => ExitCode::SUCCESS,
-        Err(trouble) => {
-            let _ = eprintln!(rt; "cases_plans: {trouble}");
-            ExitCode::FAILURE
-        }
-    }
+    run_calls::<PlanCalls, _>(&rt, "cases_plans", "calls.cases")
 }

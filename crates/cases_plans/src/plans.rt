@@ -10,7 +10,7 @@ ghost use Rattle.hose_law.specs.Tree.{JoinsHose};
 ghost use Rattle.hose_law.specs.Walk.{capacity_of};
 ghost use Rattle.hose_tree.specs.steps.Amounts.{AreWithinCapacities};
 
-use cases_common::{Told, Trouble, debugged, first, hose, numbers};
+use cases_common::{CaseText, Trouble, first, hose, numbers};
 use hose_graph::{Amounts, Hose, Row, Topology};
 use hose_links::LinkSet;
 use hose_paths::{PlainRows, RowMaker};
@@ -54,7 +54,8 @@ fn has_distance(row: &Row, node: u32) -> bool
 }
 
 /// The distances from a root, and the links to it.
-pub fn tell_row(alloc: Global, top: &Topology, root: u32, told: &mut Told) -> Result<(), Trouble> {
+pub fn tell_row(top: &Topology, root: u32, told: &mut CaseText) -> Result<(), Trouble> {
+    let alloc = told.alloc();
     let row = row_of(alloc, top, root)?;
     told.add(format!(in alloc; "{:?} {:?}", row.dist, row.tight));
     Ok(())
@@ -70,27 +71,26 @@ fn has_places(row: &Row, hose: &Hose) -> bool
 
 /// What a hose costs from a root.
 pub fn tell_weight(
-    alloc: Global,
     top: &Topology,
     root: u32,
     hose: &Hose,
-    told: &mut Told,
+    told: &mut CaseText,
 ) -> Result<(), Trouble> {
-    let row = row_of(alloc, top, root)?;
+    let row = row_of(told.alloc(), top, root)?;
     if !has_places(&row, hose) {
         return Err(Trouble::Word);
     }
-    told.add(debugged(alloc, &weight(&row, hose)));
+    told.show(&weight(&row, hose));
     Ok(())
 }
 
 /// The root that is chosen of these weights; a word that is no number is none.
-pub fn tell_chosen(alloc: Global, words: &str, told: &mut Told) -> Result<(), Trouble> {
-    let weights = weights_of(alloc, words)?;
+pub fn tell_chosen(words: &str, told: &mut CaseText) -> Result<(), Trouble> {
+    let weights = weights_of(told.alloc(), words)?;
     if weights.len() > 512 {
         return Err(Trouble::Word);
     }
-    told.add(debugged(alloc, &choose(&weights)));
+    told.show(&choose(&weights));
     Ok(())
 }
 
@@ -114,30 +114,22 @@ pub fn tree_from(alloc: Global, top: &Topology, root: u32, hose: &Hose) -> Resul
     Ok(tree)
 }
 
-/// What a hose reserves on the tree of a root, and the links of that tree.
-pub fn tell_tree(
-    alloc: Global,
-    top: &Topology,
-    root: u32,
-    hose: &Hose,
-    told: &mut Told,
-) -> Result<(), Trouble> {
-    let tree = tree_from(alloc, top, root, hose)?;
-    told.add(format!(in alloc; "{tree:?}\n"));
-    told.add(debugged(alloc, &reservations(alloc, &tree, hose)?));
+/// What a hose reserves on a tree, and the links of that tree.
+pub fn tell_tree(tree: &Tree, hose: &Hose, told: &mut CaseText) -> Result<(), Trouble>
+    requires { JoinsHose tree.now hose.now }
+{
+    told.show(tree);
+    told.put("\n");
+    told.show(&reservations(told.alloc(), tree, hose)?);
     Ok(())
 }
 
 /// What 3, 4 and 5 cost on the first links, and whether they fit beside these loads.
-pub fn tell_fitting(
-    alloc: Global,
-    top: &Topology,
-    loads: &[u64],
-    told: &mut Told,
-) -> Result<(), Trouble> {
+pub fn tell_fitting(top: &Topology, loads: &[u64], told: &mut CaseText) -> Result<(), Trouble> {
     if top.links() != 3 || !are_carried(top, loads) {
         return Err(Trouble::Word);
     }
+    let alloc = told.alloc();
     let amounts = first_amounts(alloc)?;
     let (cost, fits) = (cost(top, &amounts), fits(top, loads, &amounts));
     told.add(format!(in alloc; "{cost} {fits}"));
@@ -152,12 +144,12 @@ fn first_amounts(alloc: Global) -> Result<Amounts, AllocError>
 }
 
 /// What the first node reaches over the first link alone.
-pub fn tell_reached(alloc: Global, top: &Topology, told: &mut Told) -> Result<(), Trouble> {
+pub fn tell_reached(top: &Topology, told: &mut CaseText) -> Result<(), Trouble> {
     if top.nodes() == 0 || top.links() == 0 {
         return Err(Trouble::Word);
     }
-    let links = first_link(alloc, top)?;
-    told.add(debugged(alloc, &reached(alloc, top, &links, 0)?));
+    let links = first_link(told.alloc(), top)?;
+    told.show(&reached(told.alloc(), top, &links, 0)?);
     Ok(())
 }
 
@@ -210,23 +202,25 @@ struct State {
     loads: Vec<u64>,
 }
 
-// A state by the numbers of the links that are out, and the words of the loads.
-fn state_of(alloc: Global, top: &Topology, out: &[u64], loads: &str) -> Result<State, Trouble>
+// A state by the words of the loads, and of the links that are out: none where there is no word.
+fn state_of(alloc: Global, top: &Topology, out: &str, loads: &str) -> Result<State, Trouble>
     ensures service { IfOk result (λ state. length state.service ≡ length top.now.links) }
     ensures loads { IfOk result (λ state. AreWithinCapacities top.now state.loads.items) }
 {
     let loads = loads_of(alloc, top, loads)?;
-    let service = service(alloc, top, out)?;
+    let service = service_but(alloc, top, out)?;
     Ok(State { service, loads })
 }
 
-// A state by the words of the links that are out, and of the loads.
-fn state_but(alloc: Global, top: &Topology, out: &str, loads: &str) -> Result<State, Trouble>
-    ensures service { IfOk result (λ state. length state.service ≡ length top.now.links) }
-    ensures loads { IfOk result (λ state. AreWithinCapacities top.now state.loads.items) }
+// The links in service where those of these words are out.
+fn service_but(alloc: Global, top: &Topology, out: &str) -> Result<LinkSet, Trouble>
+    ensures { IfOk result (λ links. length links ≡ length top.now.links) }
 {
+    if out.is_empty() {
+        return Ok(service(alloc, top, &[])?);
+    }
     let out = numbers(alloc, out)?;
-    state_of(alloc, top, &out, loads)
+    Ok(service(alloc, top, &out)?)
 }
 
 fn loads_of(alloc: Global, top: &Topology, words: &str) -> Result<Vec<u64>, Trouble>
@@ -241,38 +235,59 @@ fn loads_of(alloc: Global, top: &Topology, words: &str) -> Result<Vec<u64>, Trou
 
 /// What is decided of a hose beside some loads, and whether the grounds of that hold beside others,
 /// with all links in service. The line has the loads, the others, and the hose.
-pub fn tell_decided(
-    alloc: Global,
-    top: &Topology,
-    line: &str,
-    told: &mut Told,
-) -> Result<(), Trouble> {
-    let (loads, rest) = first(line);
-    let (later, line) = first(rest);
-    let hose = hose(alloc, top, line)?;
-    let now = state_of(alloc, top, &[], loads)?;
-    let then = state_of(alloc, top, &[], later)?;
-    told.add(decided_at(alloc, top, &now, &then, &hose));
-    Ok(())
+pub fn tell_decided(top: &Topology, line: &str, told: &mut CaseText) -> Result<(), Trouble> {
+    tell_over(top, ["", ""], line, told)
 }
 
 /// What is decided of a hose over the links in service, and whether the grounds of that hold over
 /// others. The line has the numbers of the links that are out, of those that are out then, and what
 /// `tell_decided` has.
-pub fn tell_served(
-    alloc: Global,
-    top: &Topology,
-    line: &str,
-    told: &mut Told,
-) -> Result<(), Trouble> {
+pub fn tell_served(top: &Topology, line: &str, told: &mut CaseText) -> Result<(), Trouble> {
     let (out, rest) = first(line);
-    let (out_later, rest) = first(rest);
-    let (loads, rest) = first(rest);
     let (later, line) = first(rest);
-    let hose = hose(alloc, top, line)?;
-    let now = state_but(alloc, top, out, loads)?;
-    let then = state_but(alloc, top, out_later, later)?;
-    told.add(decided_at(alloc, top, &now, &then, &hose));
+    tell_over(top, [out, later], line, told)
+}
+
+// The same, where the words of the links that are out, now and later, do not stand in the line.
+fn tell_over(
+    top: &Topology,
+    out: [&str; 2],
+    line: &str,
+    told: &mut CaseText,
+) -> Result<(), Trouble> {
+    let (loads, rest) = first(line);
+    let (later, line) = first(rest);
+    let hose = hose(told.alloc(), top, line)?;
+    tell_between(top, &hose, out, [loads, later], told)
+}
+
+fn tell_between(
+    top: &Topology,
+    hose: &Hose,
+    out: [&str; 2],
+    loads: [&str; 2],
+    told: &mut CaseText,
+) -> Result<(), Trouble>
+    requires { AreNodes top.now hose.now }
+{
+    let now = state_of(told.alloc(), top, out[0], loads[0])?;
+    tell_later(top, hose, &now, out[1], loads[1], told)
+}
+
+fn tell_later(
+    top: &Topology,
+    hose: &Hose,
+    now: &State,
+    out: &str,
+    loads: &str,
+    told: &mut CaseText,
+) -> Result<(), Trouble>
+    requires nodes { AreNodes top.now hose.now }
+    requires service { length now.now.service ≡ length top.now.links }
+    requires loads_now { AreWithinCapacities top.now now.now.loads.items }
+{
+    let then = state_of(told.alloc(), top, out, loads)?;
+    told.add(decided_at(told.alloc(), top, now, &then, hose));
     Ok(())
 }
 

@@ -1,5 +1,5 @@
 // Quotes that are held under numbers.
-use cases_common::{Told, Trouble};
+use cases_common::{CaseText, Trouble};
 use hose_core::{Quote, Quotes};
 use hose_graph::{Amounts, Hose, MOST_QUOTES};
 use hose_links::LinkSet;
@@ -9,31 +9,34 @@ use std::alloc::{AllocError, Global};
 /// What is held under the first, the last and the numbers beside them, and the lowest free number,
 /// after each of these steps: the first and the last are put; all between them; the last is
 /// cleared; and the first.
-pub fn tell_held(alloc: Global, told: &mut Told) -> Result<(), Trouble> {
-    let mut quotes = Quotes::new();
-    tell_put(alloc, &mut quotes, told)?;
-    clear(&mut quotes, 16);
-    told.add(standing(alloc, &quotes));
+pub fn tell_held(told: &mut CaseText) -> Result<(), Trouble> {
+    tell_steps(&mut Quotes::new(), told)
+}
+
+fn tell_steps(quotes: &mut Quotes, told: &mut CaseText) -> Result<(), Trouble> {
+    tell_put(quotes, told)?;
+    clear(quotes, 16);
+    tell_standing(quotes, told);
     told.put("\n");
-    clear(&mut quotes, 1);
-    told.add(standing(alloc, &quotes));
+    clear(quotes, 1);
+    tell_standing(quotes, told);
     Ok(())
 }
 
-fn tell_put(alloc: Global, quotes: &mut Quotes, told: &mut Told) -> Result<(), Trouble> {
-    put(alloc, quotes, 1)?;
-    put(alloc, quotes, 16)?;
-    told.add(standing(alloc, quotes));
+fn tell_put(quotes: &mut Quotes, told: &mut CaseText) -> Result<(), Trouble> {
+    put(told.alloc(), quotes, 1)?;
+    put(told.alloc(), quotes, 16)?;
+    tell_standing(quotes, told);
     told.put("\n");
     for number in 2..16 {
-        put(alloc, quotes, number)?;
+        put(told.alloc(), quotes, number)?;
     }
-    told.add(standing(alloc, quotes));
+    tell_standing(quotes, told);
     told.put("\n");
     Ok(())
 }
 
-fn standing(alloc: Global, quotes: &Quotes) -> Result<String, AllocError> {
+fn tell_standing(quotes: &Quotes, told: &mut CaseText) {
     let held = [
         seen(quotes, 0),
         seen(quotes, 1),
@@ -41,7 +44,8 @@ fn standing(alloc: Global, quotes: &Quotes) -> Result<String, AllocError> {
         seen(quotes, 16),
         seen(quotes, 17),
     ];
-    format!(in alloc; "{held:?} {:?}", quotes.free())
+    let alloc = told.alloc();
+    told.add(format!(in alloc; "{held:?} {:?}", quotes.free()));
 }
 
 // The epoch at which the quote of a number was made.
@@ -69,17 +73,31 @@ fn clear(quotes: &mut Quotes, number: u64) {
 
 // A quote that tells the epoch at which it was made.
 fn quote_of(alloc: Global, seen: u64) -> Result<Quote, Trouble> {
+    let (hose, amounts) = pair(alloc)?;
+    let grounds = grounds(alloc)?;
     Ok(Quote {
-        hose: Hose::build(alloc, &[(0, 1), (1, 1)])?,
+        hose,
         seen,
         cost: 3,
-        amounts: Amounts::build(alloc, &[(0, 1), (1, 1)])?,
-        grounds: Grounds {
-            first: None,
-            half: 1,
-            first_fits: false,
-            safe: LinkSet::new(alloc, 3)?,
-            service: LinkSet::new(alloc, 3)?,
-        },
+        amounts,
+        grounds,
+    })
+}
+
+fn pair(alloc: Global) -> Result<(Hose, Amounts), Trouble> {
+    let hose = Hose::build(alloc, &[(0, 1), (1, 1)])?;
+    let amounts = Amounts::build(alloc, &[(0, 1), (1, 1)])?;
+    Ok((hose, amounts))
+}
+
+fn grounds(alloc: Global) -> Result<Grounds, AllocError> {
+    let safe = LinkSet::new(alloc, 3)?;
+    let service = LinkSet::new(alloc, 3)?;
+    Ok(Grounds {
+        first: None,
+        half: 1,
+        first_fits: false,
+        safe,
+        service,
     })
 }

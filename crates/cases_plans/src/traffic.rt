@@ -2,39 +2,24 @@
 ghost use Rattle.std.specs.Prelude.{◌≡◌, ◌<◌, length};
 ghost use Rattle.hose_law.specs.Tree.{JoinsHose};
 
-use crate::plans::tree_from;
-use cases_common::{Told, Trouble};
+use cases_common::{CaseText, Trouble};
 use hose_graph::{Hose, Topology};
 use hose_tree::{Matrix, Tree, heaviest, load};
 use std::alloc::{AllocError, Global};
 
-/// The heaviest matrix of each link on the tree of a root, what it puts there, and whether it has
-/// all within the rates: the sums of its rows and columns are.
+/// What the heaviest matrix of each link of a tree puts there, and whether it has all within the
+/// rates: the sums of its rows and columns are. The matrices come too, where they are to be shown.
 pub fn tell_heaviest(
-    alloc: Global,
     top: &Topology,
-    root: u32,
+    tree: &Tree,
     hose: &Hose,
-    told: &mut Told,
-) -> Result<(), Trouble> {
-    let tree = tree_from(alloc, top, root, hose)?;
+    shows: bool,
+    told: &mut CaseText,
+) -> Result<(), Trouble>
+    requires { JoinsHose tree.now hose.now }
+{
     for link in 0..top.links() {
-        told.add(heaviest_at(alloc, &tree, hose, link, true));
-    }
-    Ok(())
-}
-
-/// The same, without the matrices.
-pub fn tell_attained(
-    alloc: Global,
-    top: &Topology,
-    root: u32,
-    hose: &Hose,
-    told: &mut Told,
-) -> Result<(), Trouble> {
-    let tree = tree_from(alloc, top, root, hose)?;
-    for link in 0..top.links() {
-        told.add(heaviest_at(alloc, &tree, hose, link, false));
+        told.add(heaviest_at(told.alloc(), tree, hose, link, shows));
     }
     Ok(())
 }

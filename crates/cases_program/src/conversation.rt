@@ -1,8 +1,8 @@
 // Two customers who each release what they are told is admitted, at once.
 ghost use Rattle.hose_shared.specs.steps.Sharing.{IsPassOf, IsSamePass};
 
-use crate::sessions::{Book, close, serve, share};
-use cases_files::{Case, Trouble};
+use crate::sessions::{CaseBook, close, serve, share};
+use cases_files::{Case, CaseTrouble};
 use cases_stage::{Outcome, customer, outcome_of_two};
 use hose_turn::Pass;
 use std::alloc::{AllocError, Global};
@@ -18,7 +18,7 @@ pub fn converse_twice<R: Wait + Threads + Sync>(
     alloc: Global,
     case: &Case,
     times: u64,
-) -> Result<Outcome, Trouble> {
+) -> Result<Outcome, CaseTrouble> {
     let (book, mut pass) = share(alloc, case)?;
     let other = book.split(&mut pass);
     let (mine, theirs) = thread::join(
@@ -38,7 +38,7 @@ pub fn converse_twice<R: Wait + Threads + Sync>(
 fn converse<W: Wait>(
     rt: &W,
     alloc: Global,
-    book: &Book,
+    book: &CaseBook,
     pass: Pass,
     times: u64,
 ) -> (Result<Vec<u8>, AllocError>, Pass)

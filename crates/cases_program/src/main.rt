@@ -14,26 +14,10 @@ mod run;
 mod runner;
 mod sessions;
 
-use cases_files::Trouble;
 use cases_stage::run_files;
 use runner::Runner;
 use std::process::ExitCode;
-use std::rt::Files;
-use std::sync::Wait;
-use std::thread::Threads;
 
 fn main(rt: HostRuntime) -> ExitCode {
-    match run_all(&rt) {
-        Ok(()) => ExitCode::SUCCESS,
-        Err(trouble) => {
-            let _ = eprintln!(rt; "cases_program: {trouble}");
-            ExitCode::FAILURE
-        }
-    }
-}
-
-fn run_all<R: Input + Files + Print + AllocGlobal + Threads + Wait + Sync>(
-    rt: &R,
-) -> Result<(), Trouble> {
-    run_files(&Runner::new(rt), rt)
+    run_files(&Runner::new(&rt), &rt, "cases_program")
 }

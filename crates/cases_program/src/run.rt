@@ -4,7 +4,7 @@ ghost use Rattle.hose_disk.specs.steps.CabinetState.{cabinet_frame};
 
 use crate::holding::HoldingGate;
 use cases_files::Case;
-use cases_stage::{Outcome, Stage, outcome_of, stage_of};
+use cases_stage::{CaseStage, Outcome, outcome_of, stage_of};
 use hose_disk::Cabinet;
 use hose_io::{Door, Sink, Source};
 use hose_pool::{Gate, PlainGate};
@@ -25,21 +25,10 @@ pub fn run_program<R: Threads + Wait + Sync>(
     let by_long = Box::new(alloc, |length: u64| long(length))?;
     let tariffs = tariffs(alloc, by_flat, by_hops, by_long)?;
     if case.holds {
-        run_held(rt, alloc, case, &tariffs)
-    } else {
-        run_freely(rt, alloc, case, &tariffs)
+        return run_held(rt, alloc, case, &tariffs);
     }
-}
-
-// A run whose sessions wait for nobody.
-fn run_freely<R: Threads + Wait + Sync>(
-    rt: &R,
-    alloc: Global,
-    case: &Case,
-    tariffs: &[Tariff],
-) -> Result<Outcome, AllocError> {
     let gate = &PlainGate;
-    run_by(Context { rt, alloc, gate }, case, tariffs)
+    run_by(Context { rt, alloc, gate }, case, &tariffs)
 }
 
 // A run of which the first session is held, and whether the gate found sessions that are not beside
@@ -69,12 +58,12 @@ fn run_on<R: Threads + Wait + Sync, G: Gate + Sync>(
     context: Context<'_, R, G>,
     case: &Case,
     tariffs: &[Tariff],
-    stage: Stage,
+    stage: CaseStage,
 ) -> Result<Outcome, AllocError>
     requires { (cabinet_frame stage.cabinet).out ≡ None }
 {
     let alloc = context.alloc;
-    let Stage {
+    let CaseStage {
         input,
         output,
         cabinet,
@@ -86,14 +75,14 @@ fn run_on<R: Threads + Wait + Sync, G: Gate + Sync>(
         cabinet,
         door,
     };
-    let status = run_in(context, &case.words, tariffs, &mut world);
+    let status = run_in(context, case, tariffs, &mut world);
     let OwnedOutside {
         input,
         output,
         cabinet,
         door,
     } = world;
-    let stage = Stage {
+    let stage = CaseStage {
         input,
         output,
         cabinet,
@@ -105,12 +94,12 @@ fn run_on<R: Threads + Wait + Sync, G: Gate + Sync>(
 // The program's call, at types of which no more is known: its clauses are long at those of a case.
 fn run_in<R: Threads + Wait + Sync, I: Source, O: Sink, C: Cabinet, L: Door + Send, G: Gate + Sync>(
     context: Context<'_, R, G>,
-    words: &[String],
+    case: &Case,
     tariffs: &[Tariff],
     world: &mut OwnedOutside<I, O, C, L>,
 ) -> u8
     requires { (C.frame world.old.cabinet).out ≡ None }
     ensures { (C.frame world.new.cabinet).out ≡ None }
 {
-    program(context, words, tariffs, world)
+    program(context, &case.words, tariffs, world)
 }

@@ -4,7 +4,7 @@ ghost use Rattle.hose_pool.specs.steps.Shareable.{IsShared};
 use crate::conversation::converse_twice;
 use crate::run::run_program;
 use crate::sessions::run_session;
-use cases_files::{Call, Case, Trouble};
+use cases_files::{Call, Case, CaseTrouble};
 use cases_stage::{Outcome, Runs};
 use std::alloc::Global;
 use std::marker::Model;
@@ -13,21 +13,21 @@ use std::thread::Threads;
 
 /// What several threads may use at once, which is all that is `Sync`. The proof of a trait's method
 /// is not told of that bound, so an invariant keeps it.
-pub trait Shareable {
+pub trait UsedAtOnce {
     ghost is_shareable: { Type 0 };
 }
 
-impl<T: Sync> Shareable for T {
+impl<T: Sync> UsedAtOnce for T {
     ghost is_shareable = { IsShared T.row.shr_at };
 }
 
 /// What runs a case: a runtime, of which threads come. A contract sees nothing of it.
 #[derive(Drop)]
-pub struct Runner<'a, R: Shareable> {
+pub struct Runner<'a, R: UsedAtOnce> {
     rt: &'a R,
 }
 
-impl<'a, R: Shareable> Model for Runner<'a, R> {
+impl<'a, R: UsedAtOnce> Model for Runner<'a, R> {
     ghost use Rattle.std.specs.Prelude.{⊤};
 
     ghost Value = { ⊤ };
@@ -44,7 +44,7 @@ impl<'a, R: Sync> Runner<'a, R> {
 }
 
 impl<R: Threads + Wait + Sync> Runs for Runner<'_, R> {
-    fn run(&self, alloc: Global, case: &Case, cut: u64) -> Result<Outcome, Trouble> {
+    fn run(&self, alloc: Global, case: &Case, cut: u64) -> Result<Outcome, CaseTrouble> {
         match case.call {
             Call::Program => Ok(run_program(self.rt, alloc, case)?),
             Call::Session => run_session(self.rt, alloc, case, cut),

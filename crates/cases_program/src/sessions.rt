@@ -2,8 +2,10 @@
 ghost use Rattle.std.specs.Prelude.{◌≡◌, IfOk};
 ghost use Rattle.hose_shared.specs.steps.Sharing.{IsPassOf, IsSamePass};
 
-use cases_files::{Case, Connection, Trouble};
-use cases_stage::{Ends, LongSource, NarrowSink, Outcome, disk_of, ends_of, network_of, peer_ends};
+use cases_files::{Case, CaseTrouble};
+use cases_stage::{
+    CaseEnds, LongSource, NarrowSink, Outcome, disk_of, ends_of, network_of, peer_ends,
+};
 use hose_disk::MemDisk;
 use hose_graph::Topology;
 use hose_io::{Sink, Source};
@@ -16,7 +18,7 @@ use hose_turn::{ALL_SHARES, Pass};
 use std::alloc::{AllocError, Global};
 use std::sync::Wait;
 
-pub type Book = Shared<MemDisk, AnyStore>;
+pub type CaseBook = Shared<MemDisk, AnyStore>;
 
 /// Serves the session of a case, after that of its first connection if it has one. One more call of
 /// the output fails, if its number is not 0.
@@ -25,7 +27,7 @@ pub fn run_session<W: Wait>(
     alloc: Global,
     case: &Case,
     cut: u64,
-) -> Result<Outcome, Trouble> {
+) -> Result<Outcome, CaseTrouble> {
     let mut outcome = Outcome::new(alloc, 0, None);
     serve_ends(rt, alloc, case, cut, &mut outcome)?;
     Ok(outcome)
@@ -37,7 +39,7 @@ fn serve_ends<W: Wait>(
     case: &Case,
     cut: u64,
     outcome: &mut Outcome,
-) -> Result<(), Trouble> {
+) -> Result<(), CaseTrouble> {
     let mut ends = ends_of(alloc, case, cut)?;
     serve_case(rt, alloc, case, &mut ends, outcome)?;
     Ok(outcome.tell_ends(&ends)?)
@@ -47,9 +49,9 @@ fn serve_case<W: Wait>(
     rt: &W,
     alloc: Global,
     case: &Case,
-    ends: &mut Ends<LongSource, NarrowSink>,
+    ends: &mut CaseEnds<LongSource, NarrowSink>,
     outcome: &mut Outcome,
-) -> Result<(), Trouble> {
+) -> Result<(), CaseTrouble> {
     let (book, pass) = share(alloc, case)?;
     let (before, pass) = serve_before(rt, alloc, case, &book, pass, outcome);
     let (end, pass) = serve(rt, alloc, ends, &book, pass);
@@ -71,7 +73,7 @@ fn status_of(end: SessionEnd) -> u64 {
 }
 
 /// The book of a case, on its journal, and its first pass.
-pub fn share(alloc: Global, case: &Case) -> Result<(Book, Pass), Trouble>
+pub fn share(alloc: Global, case: &Case) -> Result<(CaseBook, Pass), CaseTrouble>
     ensures of { IfOk result (λ made. IsPassOf made.0 made.1) }
     ensures share { IfOk result (λ made. made.1.share ≡ ALL_SHARES) }
 {
@@ -79,24 +81,24 @@ pub fn share(alloc: Global, case: &Case) -> Result<(Book, Pass), Trouble>
     share_on(alloc, disk, network_of(alloc, case)?)
 }
 
-fn share_on(alloc: Global, disk: MemDisk, top: Topology) -> Result<(Book, Pass), Trouble>
+fn share_on(alloc: Global, disk: MemDisk, top: Topology) -> Result<(CaseBook, Pass), CaseTrouble>
     ensures of { IfOk result (λ made. IsPassOf made.0 made.1) }
     ensures share { IfOk result (λ made. made.1.share ≡ ALL_SHARES) }
 {
     match Store::open(alloc, disk, top) {
         Ok(store) => Ok(Shared::new(alloc, store)?),
-        Err(_) => Err(Trouble::Opening),
+        Err(_) => Err(CaseTrouble::Opening),
     }
 }
 
 /// The disk of a book that is closed.
-pub fn close(book: Book, pass: Pass) -> Result<MemDisk, Trouble>
+pub fn close(book: CaseBook, pass: Pass) -> Result<MemDisk, CaseTrouble>
     requires of { IsPassOf book pass }
     requires share { pass.share ≡ ALL_SHARES }
 {
     let (closed, disk, _book) = book.close(pass).close();
     if closed.is_err() {
-        return Err(Trouble::Close);
+        return Err(CaseTrouble::Close);
     }
     Ok(disk)
 }
@@ -106,30 +108,16 @@ fn serve_before<W: Wait>(
     rt: &W,
     alloc: Global,
     case: &Case,
-    book: &Book,
+    book: &CaseBook,
     pass: Pass,
     outcome: &mut Outcome,
 ) -> (Result<(), AllocError>, Pass)
     requires { IsPassOf book.now pass }
     ensures { IsSamePass pass result.1 }
 {
-    match case.door.connections.first() {
-        Some(connection) => serve_peer(rt, alloc, connection, book, pass, outcome),
-        None => (Ok(()), pass),
-    }
-}
-
-fn serve_peer<W: Wait>(
-    rt: &W,
-    alloc: Global,
-    connection: &Connection,
-    book: &Book,
-    pass: Pass,
-    outcome: &mut Outcome,
-) -> (Result<(), AllocError>, Pass)
-    requires { IsPassOf book.now pass }
-    ensures { IsSamePass pass result.1 }
-{
+    let Some(connection) = case.door.connections.first() else {
+        return (Ok(()), pass);
+    };
     match peer_ends(alloc, connection) {
         Ok(mut ends) => {
             let (_, pass) = serve(rt, alloc, &mut ends, book, pass);
@@ -143,8 +131,8 @@ fn serve_peer<W: Wait>(
 pub fn serve<W: Wait, S: Source, O: Sink>(
     rt: &W,
     alloc: Global,
-    ends: &mut Ends<S, O>,
-    book: &Book,
+    ends: &mut CaseEnds<S, O>,
+    book: &CaseBook,
     pass: Pass,
 ) -> (SessionEnd, Pass)
     requires { IsPassOf book.now pass }

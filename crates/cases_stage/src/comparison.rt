@@ -5,8 +5,8 @@ use crate::outcome::Outcome;
 use crate::places::{admitted, never_go_back};
 use crate::running::Runs;
 use crate::stops::{cuts_that_differ, epoch_of, stops_that_differ, topology_of};
-use cases_common::Told;
-use cases_files::{Call, Case, Trouble};
+use cases_common::CaseText;
+use cases_files::{Call, Case, CaseTrouble};
 use std::alloc::{AllocError, Global};
 
 // How many bytes of an output are shown, and how many of them stand before the first that differs.
@@ -15,130 +15,120 @@ const SHOWN: usize = 72;
 const BEFORE: usize = 24;
 
 /// Runs a case, and gives a line for each thing that is not as it says.
-pub fn differences<C: Runs>(runs: &C, alloc: Global, case: &Case) -> Result<String, Trouble> {
-    let mut told = Told::new(alloc);
-    add_differences(runs, alloc, &mut told, case)?;
+pub fn differences<C: Runs>(runs: &C, alloc: Global, case: &Case) -> Result<String, CaseTrouble> {
+    let mut told = CaseText::new(alloc);
+    add_differences(runs, &mut told, case)?;
     Ok(told.finish()?)
 }
 
-fn add_differences<C: Runs>(
-    runs: &C,
-    alloc: Global,
-    told: &mut Told,
-    case: &Case,
-) -> Result<(), Trouble> {
-    add_run(runs, alloc, told, case)?;
-    let lost = cuts_that_differ(runs, alloc, case)?;
-    add_lost(alloc, told, lost, "failed calls something else comes");
+fn add_differences<C: Runs>(runs: &C, told: &mut CaseText, case: &Case) -> Result<(), CaseTrouble> {
+    add_run(runs, told, case)?;
+    let lost = cuts_that_differ(runs, told.alloc(), case)?;
+    add_lost(told, lost, "failed calls something else comes");
     Ok(())
 }
 
-fn add_run<C: Runs>(runs: &C, alloc: Global, told: &mut Told, case: &Case) -> Result<(), Trouble> {
-    let mut outcome = runs.run(alloc, case, 0)?;
-    add_outcome(runs, alloc, told, case, &mut outcome)
+fn add_run<C: Runs>(runs: &C, told: &mut CaseText, case: &Case) -> Result<(), CaseTrouble> {
+    let mut outcome = runs.run(told.alloc(), case, 0)?;
+    add_outcome(runs, told, case, &mut outcome)
 }
 
 // Adds what is otherwise in what came of a case.
 fn add_outcome<C: Runs>(
     runs: &C,
-    alloc: Global,
-    told: &mut Told,
+    told: &mut CaseText,
     case: &Case,
     outcome: &mut Outcome,
-) -> Result<(), Trouble> {
-    add_numbers(alloc, told, case, outcome);
-    add_output(alloc, told, case, outcome);
-    add_rules(alloc, told, case, &outcome.given)?;
-    add_given(alloc, told, case, &outcome.given);
-    add_stops(runs, alloc, told, case, outcome)?;
-    add_journal(runs, alloc, told, case, outcome)
+) -> Result<(), CaseTrouble> {
+    add_numbers(told, case, outcome);
+    add_output(told, case, outcome);
+    add_rules(told, case, &outcome.given)?;
+    add_given(told, case, &outcome.given);
+    add_stops(runs, told, case, outcome)?;
+    let left = outcome.left(told.alloc())?;
+    add_journals(told, case, outcome, &left);
+    add_epoch(runs, told, case, &left)
 }
 
 // Adds how many stops or failed calls lost something, if any did.
-fn add_lost(alloc: Global, told: &mut Told, lost: u64, what: &str) {
+fn add_lost(told: &mut CaseText, lost: u64, what: &str) {
     if lost > 0 {
-        told.add(format!(in alloc; "after {lost} {what}\n"));
+        told.add(format!(in told.alloc(); "after {lost} {what}\n"));
     }
 }
 
 // Adds how many stops leave another book than one of those that are wanted.
 fn add_stops<C: Runs>(
     runs: &C,
-    alloc: Global,
-    told: &mut Told,
+    told: &mut CaseText,
     case: &Case,
     outcome: &Outcome,
-) -> Result<(), Trouble> {
+) -> Result<(), CaseTrouble> {
     let Some(disk) = &outcome.disk else {
         return Ok(());
     };
-    let lost = stops_that_differ(runs, alloc, case, disk)?;
-    add_lost(alloc, told, lost, "stops another book is found");
+    let lost = stops_that_differ(runs, told.alloc(), case, disk)?;
+    add_lost(told, lost, "stops another book is found");
     Ok(())
 }
 
 // Adds a line where the sessions of a case were not beside each other, one for the status, and one
 // for how much is taken.
-fn add_numbers(alloc: Global, told: &mut Told, case: &Case, outcome: &Outcome) {
+fn add_numbers(told: &mut CaseText, case: &Case, outcome: &Outcome) {
     if outcome.is_alone {
         told.put("a session went on before the other had come so far\n");
     }
     let (status, wanted) = (outcome.status, case.wanted.status);
     if status != wanted {
-        told.add(format!(in alloc; "the status is {status}, and {wanted} is wanted\n"));
+        told.add(format!(in told.alloc(); "the status is {status}, and {wanted} is wanted\n"));
     }
     let taken = outcome.taken;
     let wanted = case.wanted.taken.unwrap_or(taken);
     if taken != wanted {
-        told.add(format!(in alloc;
+        told.add(format!(in told.alloc();
             "{taken} bytes of the input are taken, and {wanted} are wanted\n"
         ));
     }
 }
 
 // Adds a line for the output. Of connections that are judged the last line alone can be known.
-fn add_output(alloc: Global, told: &mut Told, case: &Case, outcome: &Outcome) {
+fn add_output(told: &mut CaseText, case: &Case, outcome: &Outcome) {
     let (output, wanted) = (outcome.output.as_slice(), case.output.bytes.as_slice());
     if case.is_judged && output.ends_with(wanted) {
         return;
     }
-    add_bytes(alloc, told, "the output", output, wanted);
+    add_bytes(told, "the output", output, wanted);
 }
 
 // Adds a line for how many connections do not keep the rules.
-fn add_rules(
-    alloc: Global,
-    told: &mut Told,
-    case: &Case,
-    given: &[Vec<u8>],
-) -> Result<(), AllocError> {
+fn add_rules(told: &mut CaseText, case: &Case, given: &[Vec<u8>]) -> Result<(), AllocError> {
     let wrong = match case.call {
         Call::Conversation(_) => going_back(given),
-        _ if case.is_judged => wrongly_answered(alloc, given)?,
+        _ if case.is_judged => wrongly_answered(told.alloc(), given)?,
         _ => 0,
     };
     if wrong > 0 {
-        told.add(format!(in alloc; "{wrong} connections are answered against the rules\n"));
+        told.add(format!(in told.alloc(); "{wrong} connections are answered against the rules\n"));
     }
     Ok(())
 }
 
 // Adds a line for each connection that was given other bytes than it must be, where they are not
 // judged.
-fn add_given(alloc: Global, told: &mut Told, case: &Case, given: &[Vec<u8>]) {
+fn add_given(told: &mut CaseText, case: &Case, given: &[Vec<u8>]) {
     if case.is_judged {
         return;
     }
     for place in 0..case.door.connections.len() {
         let wanted = case.door.connections[place].wanted.as_slice();
-        add_connection(alloc, told, place, given_at(given, place), wanted);
+        add_connection(told, place, given_at(given, place), wanted);
     }
 }
 
-fn add_connection(alloc: Global, told: &mut Told, place: usize, given: &[u8], wanted: &[u8]) {
+fn add_connection(told: &mut CaseText, place: usize, given: &[u8], wanted: &[u8]) {
     let number = place.saturating_add(1);
-    match format!(in alloc; "connection {number}") {
-        Ok(name) => add_bytes(alloc, told, name.as_str(), given, wanted),
+    match format!(in told.alloc(); "connection {number}") {
+        Ok(name) => add_bytes(told, name.as_str(), given, wanted),
         Err(error) => told.add(Err(error)),
     }
 }
@@ -174,64 +164,49 @@ fn wrongly_answered(alloc: Global, given: &[Vec<u8>]) -> Result<usize, AllocErro
     Ok(given.len().saturating_sub(ids.len()))
 }
 
-// Adds a line for what each journal has in place of what it should, and one for the epoch that is
-// found.
-fn add_journal<C: Runs>(
-    runs: &C,
-    alloc: Global,
-    told: &mut Told,
-    case: &Case,
-    outcome: &mut Outcome,
-) -> Result<(), Trouble> {
-    let left = outcome.left(alloc)?;
-    add_left(alloc, told, "the journal", &case.wanted.left, &left);
-    add_left(
-        alloc,
-        told,
-        "the new journal",
-        &case.moved.left,
-        &outcome.moved,
-    );
-    add_epoch(runs, alloc, told, case, &left)
+// Adds a line for what each journal has in place of what it should.
+fn add_journals(told: &mut CaseText, case: &Case, outcome: &Outcome, left: &[u8]) {
+    add_left(told, "the journal", &case.wanted.left, left);
+    add_left(told, "the new journal", &case.moved.left, &outcome.moved);
 }
 
 // Adds a line where bytes are wanted, and others are left.
-fn add_left(alloc: Global, told: &mut Told, name: &str, wanted: &Option<Vec<u8>>, left: &[u8]) {
+fn add_left(told: &mut CaseText, name: &str, wanted: &Option<Vec<u8>>, left: &[u8]) {
     if let Some(wanted) = wanted {
         if wanted.as_slice() != left {
-            add_hex(alloc, told, name, left);
+            add_hex(told, name, left);
         }
     }
 }
 
-fn add_hex(alloc: Global, told: &mut Told, name: &str, left: &[u8]) {
-    match hex::encode(alloc, left) {
-        Ok(is) => told.add(format!(in alloc; "{name} has {is}\n")),
+fn add_hex(told: &mut CaseText, name: &str, left: &[u8]) {
+    match hex::encode(told.alloc(), left) {
+        Ok(is) => told.add(format!(in told.alloc(); "{name} has {is}\n")),
         Err(error) => told.add(Err(error)),
     }
 }
 
+// Adds a line for the epoch that is found.
 fn add_epoch<C: Runs>(
     runs: &C,
-    alloc: Global,
-    told: &mut Told,
+    told: &mut CaseText,
     case: &Case,
     journal: &[u8],
-) -> Result<(), Trouble> {
+) -> Result<(), CaseTrouble> {
     let Some(at) = case.wanted.at else {
         return Ok(());
     };
-    let found = epoch_of(runs, alloc, topology_of(&case.text), journal)?;
+    let found = epoch_of(runs, told.alloc(), topology_of(&case.text), journal)?;
     if found != Some(at) {
-        told.add(format!(in alloc; "the book is found at {found:?}, and {at} is wanted\n"));
+        told.add(format!(in told.alloc(); "the book is found at {found:?}, and {at} is wanted\n"));
     }
     Ok(())
 }
 
 // Adds a line for where what was written differs first, and what stands there.
-fn add_bytes(alloc: Global, told: &mut Told, name: &str, output: &[u8], wanted: &[u8]) {
+fn add_bytes(told: &mut CaseText, name: &str, output: &[u8], wanted: &[u8]) {
     if output != wanted {
-        told.add(difference(alloc, name, output, wanted));
+        told.add(difference(told.alloc(), name, output, wanted));
     }
 }
 

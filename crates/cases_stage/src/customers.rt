@@ -1,7 +1,7 @@
 // A customer who releases what it is told is admitted.
 ghost use Rattle.std.specs.Prelude.{◌≡◌, ◌<◌, ◌≤◌, IfOk, None, length};
 
-use crate::streams::Ends;
+use crate::streams::CaseEnds;
 use hose_io::{Failed, MemSink, MemSource, Sink, Source};
 use hose_words::Cursor;
 use std::alloc::{AllocError, Global};
@@ -12,10 +12,10 @@ pub fn customer<'a>(
     alloc: Global,
     told: &'a Cell<u64>,
     times: u64,
-) -> Result<Ends<Asking<'a>, Hearing<'a>>, AllocError> {
+) -> Result<CaseEnds<Asking<'a>, Hearing<'a>>, AllocError> {
     let source = Asking::new(alloc, told, times)?;
     let stored = MemSink::new(alloc)?;
-    Ok(Ends {
+    Ok(CaseEnds {
         source,
         sink: Hearing { stored, told },
     })

@@ -15,5 +15,5 @@ mod streams;
 pub use customers::{Asking, Hearing, customer};
 pub use outcome::{Outcome, outcome_of_two};
 pub use running::{Runs, run_files};
-pub use stage::{Stage, disk_of, ends_of, network_of, outcome_of, peer_ends, stage_of};
-pub use streams::{Ends, LongSource, NarrowSink};
+pub use stage::{CaseStage, disk_of, ends_of, network_of, outcome_of, peer_ends, stage_of};
+pub use streams::{CaseEnds, LongSource, NarrowSink};

@@ -1,5 +1,5 @@
 // What came of a case.
-use crate::streams::{Ends, LongSource, NarrowSink};
+use crate::streams::{CaseEnds, LongSource, NarrowSink};
 use hose_disk::{Disk, MemDisk};
 use std::alloc::{AllocError, Global};
 
@@ -41,7 +41,7 @@ impl Outcome {
     }
 
     /// Tells what went through the ends of a session.
-    pub fn tell_ends(&mut self, ends: &Ends<LongSource, NarrowSink>) -> Result<(), AllocError> {
+    pub fn tell_ends(&mut self, ends: &CaseEnds<LongSource, NarrowSink>) -> Result<(), AllocError> {
         self.taken = ends.source.taken();
         self.output.extend_from_slice(ends.sink.bytes())
     }

@@ -4,8 +4,10 @@ ghost use Rattle.hose_disk.specs.steps.CabinetState.{cabinet_frame};
 ghost use Rattle.hose_io.specs.steps.DoorState.{IsFresh};
 
 use crate::outcome::{Outcome, held, whole};
-use crate::streams::{Ends, LongSource, NarrowSink};
-use cases_files::{Case, Connection, Door, Input, Journal, Output, Trouble};
+use crate::streams::{CaseEnds, LongSource, NarrowSink};
+use cases_files::{
+    Case, CaseConnection, CaseDoor, CaseInput, CaseJournal, CaseOutput, CaseTrouble,
+};
 use hose_disk::{Cabinet, Disk, DiskCall, MemCabinet, MemDisk};
 use hose_graph::Topology;
 use hose_io::{MemDoor, MemSink, MemSource};
@@ -35,7 +37,7 @@ const FILLING: usize = 65_536;
 
 /// What a run of the program is handed of a case.
 #[derive(Drop)]
-pub struct Stage {
+pub struct CaseStage {
     pub input: LongSource,
     pub output: NarrowSink,
     pub cabinet: MemCabinet,
@@ -43,13 +45,12 @@ pub struct Stage {
 }
 
 /// What a run of the program is handed of a case.
-pub fn stage_of(alloc: Global, case: &Case) -> Result<Stage, AllocError>
+pub fn stage_of(alloc: Global, case: &Case) -> Result<CaseStage, AllocError>
     ensures { IfOk result (λ stage. (cabinet_frame stage.cabinet).out ≡ None) }
 {
-    let cabinet = cabinet_of(alloc, case)?;
-    let door = door_of(alloc, &case.door)?;
-    let Ends { source, sink } = ends_of(alloc, case, 0)?;
-    Ok(Stage {
+    let (cabinet, door) = around_of(alloc, case)?;
+    let CaseEnds { source, sink } = ends_of(alloc, case, 0)?;
+    Ok(CaseStage {
         input: source,
         output: sink,
         cabinet,
@@ -57,12 +58,20 @@ pub fn stage_of(alloc: Global, case: &Case) -> Result<Stage, AllocError>
     })
 }
 
+fn around_of(alloc: Global, case: &Case) -> Result<(MemCabinet, MemDoor), AllocError>
+    ensures { IfOk result (λ around. (cabinet_frame around.0).out ≡ None) }
+{
+    let cabinet = cabinet_of(alloc, case)?;
+    let door = door_of(alloc, &case.door)?;
+    Ok((cabinet, door))
+}
+
 /// What came of a run with this status.
 pub fn outcome_of(
     alloc: Global,
     case: &Case,
     status: u8,
-    mut stage: Stage,
+    mut stage: CaseStage,
 ) -> Result<Outcome, AllocError>
     requires { (cabinet_frame stage.cabinet).out ≡ None }
 {
@@ -75,7 +84,7 @@ fn tell_stage(
     alloc: Global,
     case: &Case,
     status: u8,
-    stage: &mut Stage,
+    stage: &mut CaseStage,
     outcome: &mut Outcome,
 ) -> Result<(), AllocError>
     requires { (cabinet_frame stage.old.cabinet).out ≡ None }
@@ -115,7 +124,7 @@ fn held_in(alloc: Global, cabinet: &mut MemCabinet, name: &str) -> Result<Vec<u8
 
 fn tell_streams(
     alloc: Global,
-    stage: &Stage,
+    stage: &CaseStage,
     connections: usize,
     outcome: &mut Outcome,
 ) -> Result<(), AllocError> {
@@ -129,29 +138,29 @@ pub fn ends_of(
     alloc: Global,
     case: &Case,
     cut: u64,
-) -> Result<Ends<LongSource, NarrowSink>, AllocError> {
+) -> Result<CaseEnds<LongSource, NarrowSink>, AllocError> {
     let source = source_of(alloc, &case.input)?;
     let sink = sink_of(alloc, &case.output, cut)?;
-    Ok(Ends { source, sink })
+    Ok(CaseEnds { source, sink })
 }
 
 /// The ends of a session that a connection of a case has.
 pub fn peer_ends(
     alloc: Global,
-    connection: &Connection,
-) -> Result<Ends<MemSource, MemSink>, AllocError> {
+    connection: &CaseConnection,
+) -> Result<CaseEnds<MemSource, MemSink>, AllocError> {
     let source = MemSource::new(alloc, &connection.bytes, PIECE)?;
     let sink = MemSink::new(alloc)?;
-    Ok(Ends { source, sink })
+    Ok(CaseEnds { source, sink })
 }
 
-fn source_of(alloc: Global, input: &Input) -> Result<LongSource, AllocError> {
+fn source_of(alloc: Global, input: &CaseInput) -> Result<LongSource, AllocError> {
     let stored = stored_of(alloc, input)?;
     let again = again_of(alloc, input)?;
     Ok(LongSource::new(stored, input.piece, again, input.more))
 }
 
-fn stored_of(alloc: Global, input: &Input) -> Result<MemSource, AllocError> {
+fn stored_of(alloc: Global, input: &CaseInput) -> Result<MemSource, AllocError> {
     let mut source = MemSource::new(alloc, &input.bytes, input.piece.bytes)?;
     fail_takes(&mut source, &input.failing)?;
     Ok(source)
@@ -165,7 +174,7 @@ fn fail_takes(source: &mut MemSource, calls: &[u64]) -> Result<(), AllocError> {
 }
 
 // What comes again and again after the input.
-fn again_of(alloc: Global, input: &Input) -> Result<Vec<u8>, AllocError> {
+fn again_of(alloc: Global, input: &CaseInput) -> Result<Vec<u8>, AllocError> {
     if input.repeats {
         return Vec::from_slice(alloc, &input.bytes);
     }
@@ -176,7 +185,7 @@ fn again_of(alloc: Global, input: &Input) -> Result<Vec<u8>, AllocError> {
 }
 
 // A sink as the case says, of which one more call fails where its number is not 0.
-fn sink_of(alloc: Global, output: &Output, cut: u64) -> Result<NarrowSink, AllocError> {
+fn sink_of(alloc: Global, output: &CaseOutput, cut: u64) -> Result<NarrowSink, AllocError> {
     Ok(NarrowSink::new(taking(alloc, &output.failing, cut)?, output.piece))
 }
 
@@ -254,16 +263,16 @@ fn write_new(cabinet: &mut MemCabinet, bytes: &[u8])
 }
 
 /// The network of a case.
-pub fn network_of(alloc: Global, case: &Case) -> Result<Topology, Trouble> {
+pub fn network_of(alloc: Global, case: &Case) -> Result<Topology, CaseTrouble> {
     let source = MemSource::new(alloc, &case.text, PIECE)?;
     match read(alloc, &mut LineReader::new(source)) {
         Ok(top) => Ok(top),
-        Err(_) => Err(Trouble::Opening),
+        Err(_) => Err(CaseTrouble::Opening),
     }
 }
 
 /// A disk on which a journal is durable, and of which calls fail as its case says.
-pub fn disk_of(alloc: Global, journal: &Journal) -> Result<MemDisk, AllocError> {
+pub fn disk_of(alloc: Global, journal: &CaseJournal) -> Result<MemDisk, AllocError> {
     let mut disk = MemDisk::new(alloc)?;
     write_durably(&mut disk, &journal.bytes);
     fail_disk(&mut disk, &journal.failing)?;
@@ -293,7 +302,7 @@ struct Peers {
 }
 
 impl Peers {
-    fn add(&mut self, alloc: Global, connection: &Connection) -> Result<(), AllocError> {
+    fn add(&mut self, alloc: Global, connection: &CaseConnection) -> Result<(), AllocError> {
         let mut source = MemSource::new(alloc, &connection.bytes, PIECE)?;
         source.fail(connection.failing)?;
         self.sources.push(source)?;
@@ -306,13 +315,13 @@ impl Peers {
 }
 
 // A door that the connections of a case come to.
-fn door_of(alloc: Global, door: &Door) -> Result<MemDoor, AllocError> {
+fn door_of(alloc: Global, door: &CaseDoor) -> Result<MemDoor, AllocError> {
     let mut opening = peers_of(alloc, &door.connections)?.into_door(alloc)?;
     fail_door(&mut opening, &door.failing)?;
     Ok(opening)
 }
 
-fn peers_of(alloc: Global, connections: &[Connection]) -> Result<Peers, AllocError> {
+fn peers_of(alloc: Global, connections: &[CaseConnection]) -> Result<Peers, AllocError> {
     let mut peers = Peers {
         sources: Vec::new(alloc),
     };
@@ -323,7 +332,7 @@ fn peers_of(alloc: Global, connections: &[Connection]) -> Result<Peers, AllocErr
 fn add_peers(
     alloc: Global,
     peers: &mut Peers,
-    connections: &[Connection],
+    connections: &[CaseConnection],
 ) -> Result<(), AllocError> {
     for connection in connections {
         peers.add(alloc, connection)?;

@@ -5,18 +5,10 @@ use crate::outcome::{Outcome, held};
 use crate::places::last_place;
 use crate::running::Runs;
 use crate::stage::{JOURNAL, TEXT};
-use cases_files::{Case, Trouble};
+use cases_common::STOP_PICKS;
+use cases_files::{Case, CaseTrouble};
 use hose_disk::{MemDisk, Pick};
 use std::alloc::{AllocError, Global};
-
-// What a stop may leave of bytes that no sync made durable.
-const PICKS: [Pick; 5] = [
-    Pick::Kept,
-    Pick::Lost,
-    Pick::Fill(0),
-    Pick::Fill(1),
-    Pick::Fill(255),
-];
 
 // The status of a session whose output failed.
 const WRITE: u64 = 4;
@@ -28,7 +20,7 @@ pub fn stops_that_differ<C: Runs>(
     alloc: Global,
     case: &Case,
     disk: &MemDisk,
-) -> Result<u64, Trouble> {
+) -> Result<u64, CaseTrouble> {
     let mut audit = Case::new(alloc, String::new(alloc));
     count_stops(runs, alloc, case, disk, &mut audit)
 }
@@ -51,11 +43,11 @@ fn count_stops<C: Runs>(
     case: &Case,
     disk: &MemDisk,
     audit: &mut Case,
-) -> Result<u64, Trouble> {
+) -> Result<u64, CaseTrouble> {
     ask_for_audit(alloc, audit, case)?;
     let mut differ = 0u64;
     for stop in &case.wanted.stops {
-        let books = Named {
+        let books = NamedBooks {
             books: &case.wanted.books,
             numbers: &stop.books,
         };
@@ -74,10 +66,10 @@ fn count_picks<C: Runs>(
     audit: &mut Case,
     disk: &MemDisk,
     calls: u64,
-    books: Named<'_>,
-) -> Result<u64, Trouble> {
+    books: NamedBooks<'_>,
+) -> Result<u64, CaseTrouble> {
     let mut lost = 0u64;
-    for pick in PICKS {
+    for pick in STOP_PICKS {
         if !is_found(runs, alloc, audit, disk, (calls, pick), books)? {
             lost = lost.saturating_add(1);
         }
@@ -91,8 +83,8 @@ fn is_found<C: Runs>(
     audit: &mut Case,
     disk: &MemDisk,
     stop: (u64, Pick),
-    books: Named<'_>,
-) -> Result<bool, Trouble> {
+    books: NamedBooks<'_>,
+) -> Result<bool, CaseTrouble> {
     let told = audit_after(runs, alloc, audit, disk, stop.0, stop.1)?;
     Ok(books.has(&told))
 }
@@ -105,7 +97,7 @@ fn audit_after<C: Runs>(
     disk: &MemDisk,
     calls: u64,
     pick: Pick,
-) -> Result<Vec<u8>, Trouble> {
+) -> Result<Vec<u8>, CaseTrouble> {
     if calls > disk.calls() {
         return Ok(Vec::new(alloc));
     }
@@ -120,19 +112,19 @@ fn left_by(alloc: Global, disk: &MemDisk, calls: u64, pick: Pick) -> Result<Vec<
     held(alloc, &mut image)
 }
 
-fn output_of<C: Runs>(runs: &C, alloc: Global, case: &Case) -> Result<Vec<u8>, Trouble> {
+fn output_of<C: Runs>(runs: &C, alloc: Global, case: &Case) -> Result<Vec<u8>, CaseTrouble> {
     let Outcome { output, .. } = runs.run(alloc, case, 0)?;
     Ok(output)
 }
 
 // The audits of books, and the numbers of those of which one must be found after a stop.
 #[derive(Clone, Copy)]
-struct Named<'a> {
+struct NamedBooks<'a> {
     books: &'a [Vec<u8>],
     numbers: &'a [u64],
 }
 
-impl Named<'_> {
+impl NamedBooks<'_> {
     // Whether a text is the audit of one of them.
     fn has(&self, told: &[u8]) -> bool {
         for number in self.numbers {
@@ -152,7 +144,7 @@ pub fn epoch_of<C: Runs>(
     alloc: Global,
     topology: &[u8],
     journal: &[u8],
-) -> Result<Option<u64>, Trouble> {
+) -> Result<Option<u64>, CaseTrouble> {
     let mut case = Case::new(alloc, String::new(alloc));
     epoch_by(runs, alloc, &mut case, topology, journal)
 }
@@ -163,7 +155,7 @@ fn epoch_by<C: Runs>(
     case: &mut Case,
     topology: &[u8],
     journal: &[u8],
-) -> Result<Option<u64>, Trouble> {
+) -> Result<Option<u64>, CaseTrouble> {
     ask_for_link(alloc, case, topology, journal)?;
     let output = output_of(runs, alloc, case)?;
     Ok(last_place(&output))
@@ -203,7 +195,7 @@ pub fn topology_of(bytes: &[u8]) -> &[u8] {
 
 /// After how many failed calls of its output, each in turn, something else comes of a session than
 /// should. Its output takes a byte in a call.
-pub fn cuts_that_differ<C: Runs>(runs: &C, alloc: Global, case: &Case) -> Result<u64, Trouble> {
+pub fn cuts_that_differ<C: Runs>(runs: &C, alloc: Global, case: &Case) -> Result<u64, CaseTrouble> {
     let mut differ = 0u64;
     if case.output.cuts {
         count_cuts(runs, alloc, case, &mut differ)?;
@@ -216,7 +208,7 @@ fn count_cuts<C: Runs>(
     alloc: Global,
     case: &Case,
     differ: &mut u64,
-) -> Result<(), Trouble> {
+) -> Result<(), CaseTrouble> {
     for nth in 1..=case.output.bytes.len() as u64 {
         if !is_right_after(runs, alloc, case, nth)? {
             *differ = differ.saturating_add(1);
@@ -232,7 +224,7 @@ fn is_right_after<C: Runs>(
     alloc: Global,
     case: &Case,
     nth: u64,
-) -> Result<bool, Trouble> {
+) -> Result<bool, CaseTrouble> {
     let mut cut = runs.run(alloc, case, nth)?;
     is_right(runs, alloc, case, &mut cut, nth)
 }
@@ -243,7 +235,7 @@ fn is_right<C: Runs>(
     case: &Case,
     cut: &mut Outcome,
     nth: u64,
-) -> Result<bool, Trouble> {
+) -> Result<bool, CaseTrouble> {
     if !stops_before(case, cut, nth) {
         return Ok(false);
     }
@@ -262,7 +254,7 @@ fn has_told<C: Runs>(
     alloc: Global,
     case: &Case,
     cut: &mut Outcome,
-) -> Result<bool, Trouble> {
+) -> Result<bool, CaseTrouble> {
     if cut.disk.is_none() {
         return Ok(false);
     }
@@ -276,7 +268,7 @@ fn epoch_left<C: Runs>(
     alloc: Global,
     case: &Case,
     cut: &mut Outcome,
-) -> Result<Option<u64>, Trouble> {
+) -> Result<Option<u64>, CaseTrouble> {
     let journal = cut.left(alloc)?;
     epoch_of(runs, alloc, &case.text, &journal)
 }

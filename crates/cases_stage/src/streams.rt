@@ -1,12 +1,12 @@
 // The streams of a case: those in memory, with more bytes than are stored, and in pieces.
 ghost use Rattle.std.specs.Prelude.{◌≤◌, None};
 
-use cases_files::Piece;
+use cases_files::CasePiece;
 use hose_io::{Failed, MemSink, MemSource, Sink, Source};
 
 /// The two ends of a session.
 #[derive(Drop)]
-pub struct Ends<S: Source, O: Sink> {
+pub struct CaseEnds<S: Source, O: Sink> {
     pub source: S,
     pub sink: O,
 }
@@ -15,7 +15,7 @@ pub struct Ends<S: Source, O: Sink> {
 #[derive(Drop)]
 pub struct LongSource {
     stored: MemSource,
-    piece: Piece,
+    piece: CasePiece,
     again: Vec<u8>,
     place: usize,
     more: u64,
@@ -24,7 +24,7 @@ pub struct LongSource {
 
 impl LongSource {
     /// The bytes of `stored`, and then so many of `again`.
-    pub fn new(stored: MemSource, piece: Piece, again: Vec<u8>, more: u64) -> LongSource {
+    pub fn new(stored: MemSource, piece: CasePiece, again: Vec<u8>, more: u64) -> LongSource {
         LongSource {
             stored,
             piece,
@@ -72,14 +72,14 @@ impl Source for LongSource {
 #[derive(Drop)]
 pub struct NarrowSink {
     stored: MemSink,
-    piece: Piece,
+    piece: CasePiece,
     // How many calls took all that they were given.
     pieces: u64,
 }
 
 impl NarrowSink {
     /// The sink, which takes so many bytes at most in a call.
-    pub fn new(stored: MemSink, piece: Piece) -> NarrowSink {
+    pub fn new(stored: MemSink, piece: CasePiece) -> NarrowSink {
         NarrowSink {
             stored,
             piece,

@@ -22,9 +22,9 @@ use std::test::Fail;
 use std::thread;
 use std::thread::Threads;
 
-/// How often a thread looks at a flag before it gives up. Another thread has long raised the flag
-/// by then, where it does not wait for the one that looks.
-const MOST_LOOKS: u32 = 1_000_000_000;
+/// How often a thread looks for what another one is to do before it gives up. The other has long
+/// done it by then, where it does not wait for the one that looks.
+pub const MOST_LOOKS: u32 = 1_000_000_000;
 
 /// The rates 3, 4 and 5 at `a`, `b` and `c` of the star. The links `a h`, `b h` and `c h` reserve
 /// 3, 4 and 5 for them, which costs 3·1 + 4·2 + 5·3 = 26.
@@ -34,10 +34,10 @@ const LARGE: &str = "admit a:3 b:4 c:5";
 const SMALL: &str = "admit a:1 b:1";
 
 /// A book on a disk in memory that many passes use.
-pub type Book = Shared<MemDisk, AnyStore>;
+pub type ThreadsBook = Shared<MemDisk, AnyStore>;
 
 /// A network's empty book on a disk in memory, and its first pass.
-pub fn shared(alloc: Global, top: Topology) -> Result<(Book, Pass), Fail>
+pub fn shared(alloc: Global, top: Topology) -> Result<(ThreadsBook, Pass), Fail>
     ensures of { IfOk result (λ made. IsPassOf made.0 made.1) }
     ensures share { IfOk result (λ made. made.1.share ≡ ALL_SHARES) }
 {
@@ -45,7 +45,7 @@ pub fn shared(alloc: Global, top: Topology) -> Result<(Book, Pass), Fail>
     share(alloc, disk, top)
 }
 
-fn share(alloc: Global, disk: MemDisk, top: Topology) -> Result<(Book, Pass), Fail>
+fn share(alloc: Global, disk: MemDisk, top: Topology) -> Result<(ThreadsBook, Pass), Fail>
     ensures of { IfOk result (λ made. IsPassOf made.0 made.1) }
     ensures share { IfOk result (λ made. made.1.share ≡ ALL_SHARES) }
 {
@@ -60,8 +60,28 @@ fn share(alloc: Global, disk: MemDisk, top: Topology) -> Result<(Book, Pass), Fa
 pub struct Scene<'a, W> {
     pub rt: &'a W,
     pub alloc: Global,
-    pub book: &'a Book,
+    pub book: &'a ThreadsBook,
     pub customer: &'a Name,
+}
+
+impl<'a, W> Scene<'a, W> {
+    /// What its calls are made in, which pass a gate.
+    pub fn context<'b, G>(&'b self, gate: &'b G) -> Context<'b, W, G> {
+        Context {
+            rt: self.rt,
+            alloc: self.alloc,
+            gate,
+        }
+    }
+
+    /// Its customer, as one who calls.
+    pub fn caller<'b, G>(&'b self, context: &'b Context<'b, W, G>) -> Caller<'b, W, G> {
+        Caller {
+            context,
+            session: 1,
+            customer: self.customer,
+        }
+    }
 }
 
 /// What an admission is answered, and the pass.
@@ -76,17 +96,8 @@ pub fn admit<W: Wait, G: Gate, R: RowMaker>(
     requires nodes { AreNodes scene.now.book.now.network hose }
     ensures { IsPassOf scene.now.book.now result.1 }
 {
-    let context = Context {
-        rt: scene.rt,
-        alloc: scene.alloc,
-        gate,
-    };
-    let caller = Caller {
-        context: &context,
-        session: 1,
-        customer: scene.customer,
-    };
-    scene.book.admit(&caller, pass, hose, rows)
+    let context = scene.context(gate);
+    scene.book.admit(&scene.caller(&context), pass, hose, rows)
 }
 
 /// What a first quote is answered.
@@ -94,16 +105,8 @@ fn quote<W: Wait, R: RowMaker>(scene: &Scene<'_, W>, pass: Pass, hose: Hose, row
     requires of { IsPassOf scene.now.book.now pass }
     requires nodes { AreNodes scene.now.book.now.network hose }
 {
-    let context = Context {
-        rt: scene.rt,
-        alloc: scene.alloc,
-        gate: &PlainGate,
-    };
-    let caller = Caller {
-        context: &context,
-        session: 1,
-        customer: scene.customer,
-    };
+    let context = scene.context(&PlainGate);
+    let caller = scene.caller(&context);
     let mut quotes = Quotes::new();
     let (reply, _pass) = scene.book.quote(&caller, pass, &mut quotes, hose, rows);
     reply
@@ -169,7 +172,7 @@ impl RowMaker for WaitingRows<'_> {
 
 /// What a thread asks for.
 #[derive(Clone, Copy, Debug)]
-enum Asked {
+enum ThreadAsked {
     Admission,
     Quote,
 }
@@ -184,7 +187,7 @@ struct Answered {
 /// What is answered to a hose that is asked for.
 fn ask<W: Wait, R: RowMaker>(
     scene: &Scene<'_, W>,
-    asked: Asked,
+    asked: ThreadAsked,
     pass: Pass,
     hose: Hose,
     rows: &mut R,
@@ -193,18 +196,18 @@ fn ask<W: Wait, R: RowMaker>(
     requires nodes { AreNodes scene.now.book.now.network hose }
 {
     match asked {
-        Asked::Admission => {
+        ThreadAsked::Admission => {
             let (reply, _pass) = admit(scene, &PlainGate, pass, hose, rows);
             reply
         }
-        Asked::Quote => quote(scene, pass, hose, rows),
+        ThreadAsked::Quote => quote(scene, pass, hose, rows),
     }
 }
 
 /// Asks for the large hose, and plans it once the other thread was answered.
 fn ask_slowly<W: Wait>(
     scene: &Scene<'_, W>,
-    asked: Asked,
+    asked: ThreadAsked,
     pass: Pass,
     hose: Hose,
     flags: &Flags,
@@ -237,7 +240,7 @@ fn admit_meanwhile<W: Wait>(scene: &Scene<'_, W>, pass: Pass, hose: Hose, flags:
 fn ask_beside<W: Wait + Threads + Sync>(
     rt: &W,
     alloc: Global,
-    asked: Asked,
+    asked: ThreadAsked,
 ) -> Result<(Answered, Answered), Fail> {
     let (book, pass) = shared(alloc, named(alloc, "star")?)?;
     ask_on(rt, alloc, &book, pass, asked)
@@ -246,9 +249,9 @@ fn ask_beside<W: Wait + Threads + Sync>(
 fn ask_on<W: Wait + Threads + Sync>(
     rt: &W,
     alloc: Global,
-    book: &Book,
+    book: &ThreadsBook,
     pass: Pass,
-    asked: Asked,
+    asked: ThreadAsked,
 ) -> Result<(Answered, Answered), Fail>
     requires of { IsPassOf book.now pass }
     requires share { pass.share ≡ ALL_SHARES }
@@ -262,10 +265,10 @@ fn ask_on<W: Wait + Threads + Sync>(
 fn ask_at_once<W: Wait + Threads + Sync>(
     rt: &W,
     alloc: Global,
-    book: &Book,
+    book: &ThreadsBook,
     customer: &Name,
     pass: Pass,
-    asked: Asked,
+    asked: ThreadAsked,
     large: Hose,
     small: Hose,
 ) -> (Answered, Answered)
@@ -328,7 +331,7 @@ const QUOTED: &str = "Answered { reply: Quoted { quote: 1, cost: 26, at: 0, \
 fn is_asked_beside<W: Wait + Threads + Sync>(
     rt: &W,
     alloc: Global,
-    asked: Asked,
+    asked: ThreadAsked,
     want: &str,
 ) -> Result<(), Fail> {
     let (first, second) = ask_beside(rt, alloc, asked)?;
@@ -348,6 +351,6 @@ fn are_answered(
 #[test]
 fn a_plan_is_made_outside_of_the_lock(rt: HostRuntime) -> Result<(), Fail> {
     let alloc = rt.alloc();
-    is_asked_beside(&rt, alloc, Asked::Admission, ADMITTED)?;
-    is_asked_beside(&rt, alloc, Asked::Quote, QUOTED)
+    is_asked_beside(&rt, alloc, ThreadAsked::Admission, ADMITTED)?;
+    is_asked_beside(&rt, alloc, ThreadAsked::Quote, QUOTED)
 }

@@ -4,12 +4,11 @@ ghost use Rattle.hose_graph.specs.declared.limits.TheConstants.{MOST_EPOCH};
 ghost use Rattle.hose_law.specs.steps.Plan.{AreNodes};
 ghost use Rattle.hose_shared.specs.steps.Sharing.{IsPassOf};
 
-use crate::shared::{Book, Scene, admit, shared, tells};
+use crate::shared::{MOST_LOOKS, Scene, ThreadsBook, admit, shared, tells};
 use cases_common::{hose, name, network};
 use hose_graph::{Hose, Name, Reply};
 use hose_paths::PlainRows;
 use hose_pool::{Gate, PlainGate, Point};
-use hose_shared::{Caller, Context};
 use hose_turn::{ALL_SHARES, Pass};
 use std::alloc::Global;
 use std::sync::Wait;
@@ -27,9 +26,6 @@ const WIDE: &str = "admit a:6 b:6";
 
 /// The rate 5 at `a` and `b`: it reserves 5 of the cheap link, for 5, and leaves 5 of it free.
 const NARROW: &str = "admit a:5 b:5";
-
-/// How often a thread looks at a count before it gives up.
-const MOST_LOOKS: u32 = 1_000_000_000;
 
 /// How many plans of one thread were made, and how many of them the other one has spoilt.
 #[derive(Drop)]
@@ -91,17 +87,8 @@ fn widen_lane<W: Wait>(scene: &Scene<'_, W>, pass: Pass, id: u64) -> (Reply, Pas
     requires id { id ≤ MOST_EPOCH }
     ensures { IsPassOf scene.now.book.now result.1 }
 {
-    let context = Context {
-        rt: scene.rt,
-        alloc: scene.alloc,
-        gate: &PlainGate,
-    };
-    let caller = Caller {
-        context: &context,
-        session: 1,
-        customer: scene.customer,
-    };
-    scene.book.release(&caller, pass, id)
+    let context = scene.context(&PlainGate);
+    scene.book.release(&scene.caller(&context), pass, id)
 }
 
 /// What the thread was answered that spoilt three plans.
@@ -143,13 +130,16 @@ fn spoil<W: Wait>(
 
 /// What the two were answered, and how many plans were made outside of the lock.
 #[derive(Drop)]
-struct Answers {
+struct SpoiltAnswers {
     wide: Reply,
     spoilt: Spoilt,
     made: u64,
 }
 
-fn admit_on_spoilt_plans<W: Wait + Threads + Sync>(rt: &W, alloc: Global) -> Result<Answers, Fail> {
+fn admit_on_spoilt_plans<W: Wait + Threads + Sync>(
+    rt: &W,
+    alloc: Global,
+) -> Result<SpoiltAnswers, Fail> {
     let (lanes, pass) = shared(alloc, network(alloc, LANES)?)?;
     admit_on_lanes(rt, alloc, &lanes, pass)
 }
@@ -157,9 +147,9 @@ fn admit_on_spoilt_plans<W: Wait + Threads + Sync>(rt: &W, alloc: Global) -> Res
 fn admit_on_lanes<W: Wait + Threads + Sync>(
     rt: &W,
     alloc: Global,
-    book: &Book,
+    book: &ThreadsBook,
     pass: Pass,
-) -> Result<Answers, Fail>
+) -> Result<SpoiltAnswers, Fail>
     requires of { IsPassOf book.now pass }
     requires share { pass.share ≡ ALL_SHARES }
 {
@@ -173,13 +163,13 @@ fn admit_on_lanes<W: Wait + Threads + Sync>(
 fn admit_at_once<W: Wait + Threads + Sync>(
     rt: &W,
     alloc: Global,
-    book: &Book,
+    book: &ThreadsBook,
     customer: &Name,
     pass: Pass,
     wide: Hose,
     narrow: Hose,
     again: Hose,
-) -> Answers
+) -> SpoiltAnswers
     requires of { IsPassOf book.now pass }
     requires share { pass.share ≡ ALL_SHARES }
     requires wide { AreNodes book.now.network wide }
@@ -216,7 +206,7 @@ fn admit_at_once<W: Wait + Threads + Sync>(
         ),
     );
     let made = plans.made.load(Ordering::SeqCst);
-    Answers { wide, spoilt, made }
+    SpoiltAnswers { wide, spoilt, made }
 }
 
 /// After the third plan the hose is decided under the lock, where no plan can go stale.
@@ -226,7 +216,7 @@ fn three_plans_go_stale(rt: HostRuntime) -> Result<(), Fail> {
     are_told(rt.alloc(), &answers)
 }
 
-fn are_told(alloc: Global, answers: &Answers) -> Result<(), Fail> {
+fn are_told(alloc: Global, answers: &SpoiltAnswers) -> Result<(), Fail> {
     tells(
         alloc,
         &answers.spoilt,

@@ -23,15 +23,15 @@ const BACKBONE: &str = "node sea\nnode svl\nnode lax\nnode den\nnode kcy\nnode h
 
 /// Numbers of links, from one up to another that is none of them.
 #[derive(Clone, Copy)]
-struct Numbers {
+struct LinkNumbers {
     from: u32,
     to: u32,
 }
 
-const NONE: Numbers = Numbers { from: 0, to: 0 };
+const NONE: LinkNumbers = LinkNumbers { from: 0, to: 0 };
 
 /// All links but those of some numbers.
-fn links_but(alloc: Global, top: &Topology, out: Numbers) -> Result<LinkSet, AllocError>
+fn links_but(alloc: Global, top: &Topology, out: LinkNumbers) -> Result<LinkSet, AllocError>
     ensures { IfOk result (λ links. length links ≡ length top.now.links) }
 {
     let mut links = LinkSet::new(alloc, top.links())?;
@@ -57,7 +57,7 @@ fn makes<R: RowMaker>(
     alloc: Global,
     rows: &mut R,
     top: &Topology,
-    out: Numbers,
+    out: LinkNumbers,
     want: &str,
 ) -> Result<(), Fail> {
     if top.nodes() < 4 {
@@ -72,7 +72,7 @@ fn makes_all<R: RowMaker>(
     alloc: Global,
     rows: &mut R,
     top: &Topology,
-    out: Numbers,
+    out: LinkNumbers,
     want: &[Row],
 ) -> Result<(), Fail> {
     let links = links_but(alloc, top, out)?;
@@ -207,7 +207,7 @@ const WHOLE: &str = "Row { root: 3, dist: [Some(1), Some(2), Some(3), Some(0)], 
 const WITHOUT: &str = "Row { root: 3, dist: [Some(1), None, Some(3), Some(0)], \
     tight: [Some(0), None, Some(2), None] }";
 
-const SECOND: Numbers = Numbers { from: 1, to: 2 };
+const SECOND: LinkNumbers = LinkNumbers { from: 1, to: 2 };
 
 /// Fails where a maker makes other rows than those of the links that it is asked for.
 fn makes_each<R: RowMaker>(alloc: Global, rows: &mut R, top: &Topology) -> Result<(), Fail> {
@@ -240,7 +240,7 @@ fn agree<T: Threads + Sync>(
     alloc: Global,
     top: &Topology,
     table: &RowTable,
-    out: Numbers,
+    out: LinkNumbers,
 ) -> Result<(), Fail> {
     let links = links_but(alloc, top, out)?;
     let plain = all_by(alloc, &mut PlainRows::new(), top, &links)?;
@@ -254,7 +254,7 @@ fn makers_of_rows_agree_on_a_backbone(rt: HostRuntime) -> Result<(), Fail> {
     let top = network(rt.alloc(), BACKBONE)?;
     let table = table_of_all(&rt, rt.alloc(), &top, 4)?;
     agree(&rt, rt.alloc(), &top, &table, NONE)?;
-    let late = Numbers {
+    let late = LinkNumbers {
         from: 10,
         to: top.links(),
     };

@@ -4,17 +4,24 @@ use std::fmt::Debug;
 
 /// What is told of a case. That there was no memory for a piece of it shows at its end.
 #[derive(Drop)]
-pub struct Told {
+pub struct CaseText {
+    alloc: Global,
     text: String,
     is_whole: bool,
 }
 
-impl Told {
-    pub fn new(alloc: Global) -> Told {
-        Told {
+impl CaseText {
+    pub fn new(alloc: Global) -> CaseText {
+        CaseText {
+            alloc,
             text: String::new(alloc),
             is_whole: true,
         }
+    }
+
+    /// Where memory is taken from for what is told, and for what is told of.
+    pub fn alloc(&self) -> Global {
+        self.alloc
     }
 
     /// Adds a piece, where there was memory for it.
@@ -32,9 +39,28 @@ impl Told {
         }
     }
 
+    /// Adds a value, as it is printed for those who look for faults.
+    pub fn show<T: Debug>(&mut self, value: &T) {
+        self.add(debugged(self.alloc, value));
+    }
+
+    /// Forgets what was told so far.
+    pub fn clear(&mut self) {
+        self.text = String::new(self.alloc);
+    }
+
     /// Whether nothing was added.
     pub fn is_empty(&self) -> bool {
         self.text.is_empty()
+    }
+
+    /// What was told so far.
+    pub fn told(&self) -> Result<&str, AllocError> {
+        if self.is_whole {
+            Ok(self.text.as_str())
+        } else {
+            Err(AllocError)
+        }
     }
 
     pub fn finish(self) -> Result<String, AllocError> {
