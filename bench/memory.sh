@@ -132,7 +132,7 @@ def judge(name, status, output, journal):
             is_as_before = journal == held or not held and judged(network, journal)[1] == 0
             if not is_as_before:
                 raise Wrong(f"the journal has {journal.hex()}")
-        elif judged(network, journal) != (desk.audit(), 0):
+        elif judged(network, journal)[:2] != (desk.audit(), 0):
             raise Wrong(f"the journal has {journal.hex()}")
     return status == 0 and "memory" not in replies
 
@@ -218,7 +218,7 @@ def server_without(growth, library, work):
     if replies != wanted[:len(replies)]:
         raise Wrong(f"status {status}, {replies}")
     # What was acknowledged is in the journal, and what was not told yet may be, as the last entry.
-    told = judged(NETWORKS["star"], journal.read_bytes())
+    told = judged(NETWORKS["star"], journal.read_bytes())[:2]
     if told != (desk.audit(), 0) and (len(replies) > 1 or told[1] != 0):
         raise Wrong(f"status {status}, {replies}, and the journal has {told}")
     if status in (6, 7):
