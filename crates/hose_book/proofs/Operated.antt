@@ -7,7 +7,7 @@ use Rattle.hose_law.specs.History.{next_book}
 use Rattle.hose_graph.specs.Limits.{most_epoch}
 use Rattle.hose_law.specs.steps.Live.{HasRisingIds}
 use Rattle.hose_law.specs.Service.{links_in_service}
-use Rattle.hose_law.specs.Tracks.{Recent}
+use Rattle.hose_law.specs.Recent.{Recent}
 use Rattle.hose_law.proofs.Entries.{rising_next}
 use Rattle.hose_book.specs.steps.Changes.{AreUpTo, with_changes}
 use Rattle.hose_book.specs.steps.Ledger.{AreKeptLoads, IsKept}

@@ -12,7 +12,8 @@ use Rattle.hose_graph.specs.declared.entry.Vpn.{Vpn}
 use Rattle.hose_graph.specs.declared.entry.Entry.TheVariants.{Release}
 use Rattle.hose_graph.specs.Network.{Network}
 use Rattle.hose_law.specs.Book.{Book, IsLiveVpn, amount_on, load_of}
-use Rattle.hose_law.specs.History.{is_vpn, next_book, touched_links}
+use Rattle.hose_law.specs.History.{is_vpn, next_book}
+use Rattle.hose_law.specs.steps.Tracks.{touched_links}
 use Rattle.hose_law.specs.Live.{Rise}
 use Rattle.hose_graph.specs.Ascending.{firsts}
 use Rattle.hose_book.specs.steps.Ledger.{IsKept}

@@ -7,8 +7,9 @@ use Rattle.std.proofs.lemmas.List.Elements.{Contains-append_cases, All-get_or, A
 use Rattle.std.proofs.lemmas.List.Quantifiers.{all_pairs_push}
 use Rattle.hose_graph.specs.declared.entry.Entry.{Entry}
 use Rattle.hose_law.specs.Book.{Book}
-use Rattle.hose_law.specs.History.{book_of, opening_book, touched_links}
-use Rattle.hose_law.specs.Tracks.{Change, Recent, Tracks, changes_of}
+use Rattle.hose_law.specs.History.{book_of, opening_book}
+use Rattle.hose_law.specs.steps.Tracks.{Tracks, changes_of, touched_links}
+use Rattle.hose_law.specs.Recent.{Change, Recent}
 use Rattle.hose_law.proofs.Epochs.{epoch_after}
 use Rattle.hose_law.proofs.Tracked.{tracks_anew, tracks_more}
 use Rattle.std.specs.List.Sorted.{IsStrictlyIncreasing}

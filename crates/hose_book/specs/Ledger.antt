@@ -4,7 +4,7 @@ use Rattle.hose_graph.specs.Network.{Network}
 use Rattle.hose_graph.specs.declared.entry.Entry.{Entry}
 use Rattle.hose_law.specs.Book.{Book}
 use Rattle.hose_law.specs.History.{book_of}
-use Rattle.hose_law.specs.Tracks.{Recent, Tracks}
+use Rattle.hose_law.specs.Recent.{Recent}
 
 -- a network, the book of it, and which links recent entries touched
 pub record Ledger : Type 0 where
@@ -16,10 +16,8 @@ pub record Ledger : Type 0 where
 abbrev pub HasBookOf : ℕ → List Entry → Ledger → Type 0
 HasBookOf epoch history ledger = ledger.book ≡ book_of epoch history
 
--- The ledger is that of a network and a history: its book is the history's, and its changes track
--- the history.
+-- the ledger is that of a network and a history: its book is the history's
 pub record IsLedgerOf (network : Network) (epoch : ℕ) (history : List Entry)
     (ledger : Ledger) : Type 0 where
   pub is_network : ledger.network ≡ network
   pub is_book : HasBookOf epoch history ledger
-  pub tracks : Tracks epoch history ledger.recent

@@ -6,7 +6,7 @@ ghost use Rattle.hose_law.specs.Book.{IsLiveVpn, amount_on};
 ghost use Rattle.hose_law.specs.History.{IsSoundAt};
 ghost use Rattle.hose_graph.specs.Limits.{most_epoch};
 ghost use Rattle.hose_graph.specs.declared.entry.Entry.{Entry};
-ghost use Rattle.hose_law.specs.Tracks.{Tracks};
+ghost use Rattle.hose_law.specs.steps.Tracks.{Tracks};
 ghost use Rattle.hose_book.specs.Ledger.{HasBookOf};
 ghost use Rattle.hose_book.specs.steps.Changes.{opening_recent};
 ghost use Rattle.hose_book.specs.steps.Ledger.{TracksOn, next_ledger};

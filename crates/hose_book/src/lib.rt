@@ -26,7 +26,7 @@ ghost use Rattle.hose_law.specs.Book.{loads_of};
 ghost use Rattle.hose_law.specs.Live.{Rise};
 ghost use Rattle.hose_law.specs.Room.{first_links};
 ghost use Rattle.hose_law.specs.Service.{is_out};
-ghost use Rattle.hose_law.specs.Tracks.{Tracks};
+ghost use Rattle.hose_law.specs.steps.Tracks.{Tracks};
 ghost use Rattle.hose_tree.specs.steps.Amounts.{AreWithinCapacities};
 
 mod books;

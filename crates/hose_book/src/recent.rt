@@ -3,7 +3,7 @@ ghost use Rattle.std.specs.Prelude.{[], ◌≡◌, ◌+◌, ◌<◌, ◌≤◌, 
 ghost use Rattle.hose_book.specs.steps.Changes.{AreInOrder, AreSince, AreUpTo, AscendByLinks, opening_recent, with_changes};
 ghost use Rattle.hose_book.specs.declared.recent.TheConstants.{MOST_CHANGES};
 ghost use Rattle.hose_graph.specs.Ascending.{IsAscending, firsts};
-ghost use Rattle.hose_law.specs.Tracks.{changes_of};
+ghost use Rattle.hose_law.specs.steps.Tracks.{changes_of};
 ghost use Rattle.hose_book.specs.steps.Limits.{most_changes};
 
 use hose_graph::{MOST_TREE_LINKS, ReservedLink};
@@ -31,7 +31,7 @@ pub(crate) struct RecentChanges {
 
 impl Model for RecentChanges {
     ghost use Rattle.std.specs.Prelude.{◌≤◌, length, vec_capacity};
-    ghost use Rattle.hose_law.specs.Tracks.{Recent};
+    ghost use Rattle.hose_law.specs.Recent.{Recent};
     ghost use Rattle.hose_book.specs.steps.Changes.{AreInOrder, AscendByLinks};
     ghost use Rattle.hose_book.specs.declared.recent.TheConstants.{MOST_CHANGES};
 

@@ -5,8 +5,8 @@ use Rattle.hose_graph.specs.declared.entry.Entry.{Entry}
 use Rattle.hose_graph.specs.declared.command.Reply.{Reply}
 use Rattle.hose_graph.specs.declared.command.Reply.TheVariants as reply
 use Rattle.hose_law.specs.History.{IsSoundAt}
-use Rattle.hose_law.specs.ReplyKind.{kind_of}
-use Rattle.hose_law.specs.ReplyKind.ReplyKind.{ByTheBook}
+use Rattle.hose_law.specs.steps.ReplyKind.{kind_of}
+use Rattle.hose_law.specs.steps.ReplyKind.ReplyKind.{ByTheBook}
 use Rattle.hose_book.specs.declared.books.Books.{Ghosts}
 use Rattle.hose_book.specs.declared.books.Committed.{Committed}
 use Rattle.hose_book.specs.declared.books.Committed.TheVariants.{Done}

@@ -5,9 +5,8 @@ use Rattle.hose_graph.specs.Network.{Network}
 use Rattle.hose_graph.specs.declared.entry.Entry.{Entry}
 use Rattle.hose_law.specs.Book.{Book, loads_of}
 use Rattle.hose_law.specs.Room.{first_links}
-use Rattle.hose_law.specs.Tracks.{Change, Recent, changes_of}
-use Rattle.hose_law.specs.History.{touched_links}
-use Rattle.hose_law.specs.steps.Tracks.{IsNamedSince}
+use Rattle.hose_law.specs.Recent.{Change, Recent}
+use Rattle.hose_law.specs.steps.Tracks.{IsNamedSince, changes_of, touched_links}
 use Rattle.hose_law.proofs.Entries.{next_epoch, untouched, untouched_out}
 use Rattle.hose_law.proofs.Rooms.{loads_of-at}
 use Rattle.hose_law.proofs.Serving.{length-links_in_service, links_in_service-at}

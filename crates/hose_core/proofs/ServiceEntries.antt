@@ -10,8 +10,8 @@ use Rattle.hose_law.specs.Answer.{IsAnswer, IsOperatorAnswer, IsServiceAnswer, M
 use Rattle.hose_law.specs.Book.{Book}
 use Rattle.hose_law.specs.History.{IsSoundAt, book_of}
 use Rattle.hose_law.specs.Quotes.{Holding}
-use Rattle.hose_law.specs.ReplyKind.{kind_of}
-use Rattle.hose_law.specs.ReplyKind.ReplyKind.{ByTheBook}
+use Rattle.hose_law.specs.steps.ReplyKind.{kind_of}
+use Rattle.hose_law.specs.steps.ReplyKind.ReplyKind.{ByTheBook}
 use Rattle.hose_law.specs.Service.{LinkStands}
 use Rattle.hose_law.specs.steps.Service.{service_entry}
 use Rattle.hose_book.specs.declared.books.Books.{Ghosts}

@@ -5,8 +5,8 @@ ghost use Rattle.hose_graph.specs.steps.Naming.{NamesPlaces};
 ghost use Rattle.hose_law.specs.Answer.{IsPlannedAnswer};
 ghost use Rattle.hose_law.specs.History.{IsSoundAt};
 ghost use Rattle.hose_law.specs.Plan.{plan_cost};
-ghost use Rattle.hose_law.specs.ReplyKind.{kind_of};
-ghost use Rattle.hose_law.specs.ReplyKind.ReplyKind.{ByTheBook};
+ghost use Rattle.hose_law.specs.steps.ReplyKind.{kind_of};
+ghost use Rattle.hose_law.specs.steps.ReplyKind.ReplyKind.{ByTheBook};
 ghost use Rattle.hose_core.specs.steps.Claiming.{IsPlannedEntry};
 ghost use Rattle.hose_core.specs.steps.Stepping.{AnswersBy, Goes, HaveAnswered, IsToldAs, TellsPlan};
 

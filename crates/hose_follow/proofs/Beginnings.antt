@@ -6,7 +6,7 @@ use mathlib.Core.List.{IsPrefix}
 use Rattle.hose_graph.specs.Network.{Network}
 use Rattle.hose_graph.specs.declared.entry.Entry.{Entry}
 use Rattle.hose_law.specs.Book.{Book}
-use Rattle.hose_law.specs.History.{AreFrom, IsDecided, IsDecidedAt, IsSoundAt, IsSoundFrom, book_after, book_of, next_book, opening_book}
+use Rattle.hose_law.specs.History.{AreFrom, IsDecided, IsDecidedAt, IsSoundAt, book_after, book_of, next_book, opening_book}
 
 module _ {X : Type 0} where
   -- a beginning with the list's next entry is a beginning
@@ -34,7 +34,7 @@ module _ {X : Type 0} where
 
 -- ---- sound and decided beginnings
 
-sound_front : (network : Network) (book : Book) (own rest : List Entry) → IsSoundFrom network book (own ++ rest) → IsSoundFrom network book own
+sound_front : (network : Network) (book : Book) (own rest : List Entry) → AreFrom IsSoundAt network book 0 (own ++ rest) → AreFrom IsSoundAt network book 0 own
 sound_front network book [] rest sound = tt
 sound_front network book (entry ∷ own) rest sound = (sound.0, sound_front network (next_book book entry) own rest sound.1)
 
@@ -51,7 +51,7 @@ legal_front network own all (rest, same) legal =
       decided = decided_front network (opening_book 0) own rest whole.decided;
     }
 
-sound_then : (network : Network) (book : Book) (own rest : List Entry) (entry : Entry) → IsSoundFrom network book (own ++ entry ∷ rest) → IsSoundAt network (book_after book own) entry
+sound_then : (network : Network) (book : Book) (own rest : List Entry) (entry : Entry) → AreFrom IsSoundAt network book 0 (own ++ entry ∷ rest) → IsSoundAt network (book_after book own) entry
 sound_then network book [] rest entry sound = sound.0
 sound_then network book (first ∷ own) rest entry sound = sound_then network (next_book book first) own rest entry sound.1
 

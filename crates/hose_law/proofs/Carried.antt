@@ -6,12 +6,12 @@ use Rattle.hose_graph.specs.declared.entry.Entry.TheVariants.{Admit}
 use Rattle.hose_graph.specs.Network.{Network}
 use Rattle.hose_law.specs.Book.{Book}
 use Rattle.hose_law.specs.Carried.{AreCarried}
-use Rattle.hose_law.specs.History.{IsSound, IsSoundAt, IsSoundFrom, book_after, next_book, opening_book}
+use Rattle.hose_law.specs.History.{IsSound, IsSoundAt, book_after, next_book, opening_book, AreFrom}
 use Rattle.hose_law.specs.Room.{room_of}
 use Rattle.hose_law.proofs.Carrying.{reservation_carries}
 
 -- an entry of a sound history is sound at the book before it
-sound_at : (network : Network) (book : Book) (entries : List Entry) (entry : Entry) (place : ℕ) → IsSoundFrom network book entries → slice_get entries place ≡ Some entry → IsSoundAt network (book_after book (take place entries)) entry
+sound_at : (network : Network) (book : Book) (entries : List Entry) (entry : Entry) (place : ℕ) → AreFrom IsSoundAt network book 0 entries → slice_get entries place ≡ Some entry → IsSoundAt network (book_after book (take place entries)) entry
 sound_at network book [] entry place sound there = absurd (cc there)
 sound_at network book (first ∷ rest) entry zero sound there = subst (IsSoundAt network book) (cc there) sound.0
 sound_at network book (first ∷ rest) entry (suc place) sound there = sound_at network (next_book book first) rest entry place sound.1 there

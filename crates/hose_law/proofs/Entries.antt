@@ -20,7 +20,8 @@ use Rattle.hose_graph.specs.declared.entry.Entry.TheVariants.{Admit, Release, Do
 use Rattle.hose_graph.specs.declared.entry.Vpn.{Vpn}
 use Rattle.hose_graph.proofs.Members.{in_filter}
 use Rattle.hose_law.specs.Book.{Book, amount_on, load_of}
-use Rattle.hose_law.specs.History.{next_book, is_vpn, touched_links, IsDecidedAt, IsSoundAt}
+use Rattle.hose_law.specs.History.{next_book, is_vpn, IsDecidedAt, IsSoundAt}
+use Rattle.hose_law.specs.steps.Tracks.{touched_links}
 use Rattle.hose_law.specs.Room.{room_of}
 use Rattle.hose_law.specs.Service.{is_out, put_back, taken_out}
 use Rattle.hose_law.specs.Walk.{capacity_of}

@@ -7,7 +7,7 @@ use Rattle.hose_graph.specs.declared.command.Reply.{Reply}
 use Rattle.hose_graph.specs.declared.command.Reply.TheVariants.{Admitted, Released, NoVpn, Vpns, Newest, LinkState, Down, Up, Denied}
 use Rattle.hose_graph.specs.Network.{Network}
 use Rattle.hose_law.specs.Book.{Book}
-use Rattle.hose_law.specs.History.{AreFrom, EntryKind, next_book, book_after, book_of, opening_book, IsSound, IsSoundAt, IsDecidedAt, IsSoundFrom, IsDecided}
+use Rattle.hose_law.specs.History.{AreFrom, EntryKind, next_book, book_after, book_of, opening_book, IsSound, IsSoundAt, IsDecidedAt, IsDecided}
 use Rattle.hose_law.specs.Answer.{IsPlannedAnswer, IsAnswer, IsOperatorAnswer, IsServiceAnswer, IsTakeAnswer}
 use Rattle.hose_law.specs.Quotes.{at_number, Holding, HeldQuote}
 use Rattle.hose_law.specs.Script.{disks_in, one_if_disk}
@@ -17,7 +17,7 @@ pub book_after_push : (book : Book) (entries : List Entry) (entry : Entry) → b
 book_after_push book [] entry = refl
 book_after_push book (first ∷ entries) entry = book_after_push (next_book book first) entries entry
 
-pub sound_push : (network : Network) (book : Book) (entries : List Entry) (entry : Entry) → IsSoundFrom network book entries → IsSoundAt network (book_after book entries) entry → IsSoundFrom network book (entries ++ entry ∷ [])
+pub sound_push : (network : Network) (book : Book) (entries : List Entry) (entry : Entry) → AreFrom IsSoundAt network book 0 entries → IsSoundAt network (book_after book entries) entry → AreFrom IsSoundAt network book 0 (entries ++ entry ∷ [])
 sound_push network book [] entry sound at = (at, tt)
 sound_push network book (first ∷ entries) entry sound at = (sound.0, sound_push network (next_book book first) entries entry sound.1 at)
 

@@ -1,18 +1,18 @@
 -- An answer makes a step.
-use Rattle.std.proofs.Common.{◌≡◌, ◌⊎◌, ℕ, Bool, true, false, List, Option, None, Some, length, take, inl, inr, refl, sym, ap, subst}
+use Rattle.std.proofs.Common.{◌≡◌, ◌⊎◌, ℕ, Bool, true, false, List, Option, None, Some, length, take, inl, inr, refl, ap}
 use Rattle.hose_graph.specs.Network.{Network}
 use Rattle.hose_graph.specs.declared.entry.Entry.{Entry}
 use Rattle.hose_graph.specs.declared.command.Command.{Command}
 use Rattle.hose_graph.specs.declared.command.Command.TheVariants.{Admit, AdmitAfter, Quote, Take, Release, Show, Vpns as VpnsCommand, Link, Down as DownCommand, Up as UpCommand}
 use Rattle.hose_graph.specs.declared.command.Reply.{Reply}
-use Rattle.hose_graph.specs.declared.command.Reply.TheVariants.{Admitted, Quoted, Refused, Stale, Full, Spent, Released, NoVpn, TooMany, Shown, Vpns, Newest, LinkState, Down, Up, Already, Denied, Memory}
+use Rattle.hose_graph.specs.declared.command.Reply.TheVariants.{Admitted, Quoted, Refused, Stale, Full, Spent, Released, NoVpn, TooMany, Shown, Vpns, Newest, LinkState, Down, Up, Already, Denied, Disk, Memory}
 use Rattle.hose_graph.specs.Hose.{Endpoint}
-use Rattle.hose_law.specs.Answer.{IsAdmitAnswer, IsAfterAnswer, IsAnswer, IsLinkAnswer, IsOperatorAnswer, IsPlannedAnswer, IsQuoteAnswer, IsReleaseAnswer, IsServiceAnswer, IsShowAnswer, IsStepOf, IsStepOfKind, IsTakeAnswer, IsTakingAnswer, IsVpnsAnswer, with_entry}
+use Rattle.hose_law.specs.Answer.{IsAdmitAnswer, IsAfterAnswer, IsAnswer, IsLinkAnswer, IsOperatorAnswer, IsPlannedAnswer, IsQuoteAnswer, IsReleaseAnswer, IsServiceAnswer, IsShowAnswer, IsStepOf, IsTakeAnswer, IsTakingAnswer, IsVpnsAnswer, with_entry}
 use Rattle.hose_law.specs.steps.Answer.{ChangesHeld}
 use Rattle.hose_law.specs.Book.{Book}
 use Rattle.hose_law.specs.History.{IsDecidedAt, IsSoundAt, book_of}
-use Rattle.hose_law.specs.ReplyKind.{ReplyKind, kind_of}
-use Rattle.hose_law.specs.ReplyKind.ReplyKind.{ByTheBook, ForDisk, ForMemory, ForNoCommand}
+use Rattle.hose_law.specs.steps.ReplyKind.{kind_of}
+use Rattle.hose_law.specs.steps.ReplyKind.ReplyKind.{ByTheBook}
 use Rattle.hose_law.specs.Quotes.{Holding, HeldQuote, at_number}
 use Rattle.hose_law.proofs.Scripts.{answer_decided}
 
@@ -94,13 +94,9 @@ module _ (network : Network) (epoch : ℕ) (history : List Entry) (customer : Li
   -- an answer, with its entry added, is a step
   pub step_of : (command : Command) (reply : Reply) (entry : Option Entry) (after : Holding) → IsAnswer network epoch history customer held command reply entry after
       → IsStepOf network epoch history customer held command reply entry (with_entry history entry) after
-  step_of command reply entry after answer =
-      subst (λ (kind : ReplyKind). IsStepOfKind network epoch history customer held command kind reply entry (with_entry history entry) after) (sym (answer_kind command reply entry after answer)) (answer, refl)
-
-  -- one reply is for want of memory
-  memory_alone : (reply : Reply) → kind_of reply ≡ ForMemory → reply ≡ Memory
-  memory_alone Memory is = refl
-  memory_alone reply is = absurd (cc is)
+  step_of command (Disk at) entry after answer = absurd (cc (answer_kind command (Disk at) entry after answer))
+  step_of command Memory entry after answer = absurd (cc (answer_kind command Memory entry after answer))
+  step_of command reply entry after answer = (answer, refl)
 
   -- want of memory: there is no entry, and nothing changes
   pub record IsIdle (reply : Reply) (entry : Option Entry) (next : List Entry) (after : Holding) : Type 0 where
@@ -118,13 +114,9 @@ module _ (network : Network) (epoch : ℕ) (history : List Entry) (customer : Li
   -- a step is one or the other
   pub step_cases : (command : Command) (reply : Reply) (entry : Option Entry) (next : List Entry) (after : Holding) → IsStepOf network epoch history customer held command reply entry next after
       → IsIdle reply entry next after ⊎ IsAnswered command entry next after
-  step_cases command reply entry next after step = at (kind_of reply) refl step
-    where
-      at : (kind : ReplyKind) → kind_of reply ≡ kind → IsStepOfKind network epoch history customer held command kind reply entry next after → IsIdle reply entry next after ⊎ IsAnswered command entry next after
-      at ByTheBook is step = inr (record { given = reply; is = step.0; goes = inr step.1 })
-      at (ForDisk place) is step = inr (record { given = step.2.0; is = step.2.1; goes = inl step.3 })
-      at ForMemory is step = inl (record { tells = memory_alone reply is; none = step.1; stays = step.2; keeps = step.3 })
-      at ForNoCommand is step = absurd step
+  step_cases command (Disk at) entry next after step = inr (record { given = step.2.0; is = step.2.1; goes = inl step.3 })
+  step_cases command Memory entry next after step = inl (record { tells = refl; none = step.1; stays = step.2; keeps = step.3 })
+  step_cases command reply entry next after step = inr (record { given = reply; is = step.0; goes = inr step.1 })
 
   -- a step without an entry leads nowhere
   pub step_stays : (command : Command) (reply : Reply) (next : List Entry) (after : Holding) → IsStepOf network epoch history customer held command reply None next after → next ≡ history

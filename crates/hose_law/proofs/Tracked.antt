@@ -5,10 +5,10 @@ use Rattle.std.proofs.lemmas.List.Elements.{Contains-append_left, Contains-appen
 use Rattle.std.proofs.Math.Seq.{take-append-add}
 use Rattle.hose_graph.specs.declared.entry.Entry.{Entry}
 use Rattle.hose_law.specs.Book.{Book, load_of}
-use Rattle.hose_law.specs.History.{book_after, book_of, next_book, opening_book, touched_links}
+use Rattle.hose_law.specs.History.{book_after, book_of, next_book, opening_book}
+use Rattle.hose_law.specs.steps.Tracks.{IsNamedSince, LoadsStay, ServiceStays, Tracks, changes_from, changes_of, touched_links}
 use Rattle.hose_law.specs.Service.{is_out}
-use Rattle.hose_law.specs.Tracks.{Change, Recent, Tracks, changes_from, changes_of}
-use Rattle.hose_law.specs.steps.Tracks.{IsNamedSince, LoadsStay, ServiceStays}
+use Rattle.hose_law.specs.Recent.{Change, Recent}
 use Rattle.hose_law.proofs.Entries.{next_epoch, untouched, untouched_out}
 
 -- a link that is touched is named by a change

@@ -12,7 +12,7 @@ use Rattle.hose_graph.specs.declared.entry.Entry.TheVariants.{Admit as AdmitEntr
 use Rattle.hose_graph.specs.declared.command.Command.{Command}
 use Rattle.hose_graph.specs.declared.command.Command.TheVariants.{Admit, AdmitAfter, Quote, Take, Release, Show, Vpns as VpnsCommand, Link, Down as DownCommand, Up as UpCommand}
 use Rattle.hose_graph.specs.declared.command.Reply.{Reply}
-use Rattle.hose_graph.specs.declared.command.Reply.TheVariants.{Admitted, Quoted, Refused, Stale, Full, Spent, Released, NoVpn, TooMany, Shown, Vpns, Newest, LinkState, Down, Up, Already, Denied}
+use Rattle.hose_graph.specs.declared.command.Reply.TheVariants.{Admitted, Quoted, Refused, Stale, Full, Spent, Released, NoVpn, TooMany, Shown, Vpns, Newest, LinkState, Down, Up, Already, Denied, Disk, Memory}
 use Rattle.hose_law.proofs.LiveIds.{HasDistinctIds, live_ids, vpn_unique}
 use Rattle.hose_law.proofs.CanonicalPlans.{planned_unique}
 use Rattle.hose_law.proofs.Numbers.{some_is}
@@ -22,12 +22,10 @@ use Rattle.hose_law.specs.Book.{Book, HasVpn, IsLiveVpn, load_of}
 use Rattle.hose_law.specs.Decision.{HaveEqualGrounds, IsPlanned, IsReachedList, IsRefused, lowest_end}
 use Rattle.hose_law.specs.History.{book_of}
 use Rattle.hose_law.specs.Room.{room_of, safe_links}
-use Rattle.hose_law.specs.Answer.{AreVpnsOf, IsNewest, IsPlannedAnswer, IsAdmitAnswer, IsAfterAnswer, IsQuoteAnswer, IsTakingAnswer, IsTakeAnswer, IsReleaseAnswer, IsShowAnswer, IsVpnsAnswer, IsLinkAnswer, IsOperatorAnswer, IsServiceAnswer, IsAnswer, IsStep, IsStepOfKind, with_entry}
+use Rattle.hose_law.specs.Answer.{AreVpnsOf, IsNewest, IsPlannedAnswer, IsAdmitAnswer, IsAfterAnswer, IsQuoteAnswer, IsTakingAnswer, IsTakeAnswer, IsReleaseAnswer, IsShowAnswer, IsVpnsAnswer, IsLinkAnswer, IsOperatorAnswer, IsServiceAnswer, IsAnswer, IsStep, with_entry}
 use Rattle.hose_law.specs.Service.{LinkStands, is_out}
 use Rattle.hose_law.specs.steps.Service.{service_entry}
 use Rattle.hose_law.specs.Quotes.{Holding, HeldQuote, at_number, free_number, with_held, with_number}
-use Rattle.hose_law.specs.ReplyKind.{ReplyKind, IsDiskKind, IsMemoryKind, kind_of}
-use Rattle.hose_law.specs.ReplyKind.ReplyKind.{ByTheBook, ForDisk, ForMemory, ForNoCommand}
 use Rattle.hose_law.specs.Script.{ReadLine, Asks, IsForDisk, IsForMemory, IsLineStep, IsScript, ScriptState, WithoutDisk, WithoutMemory}
 
 -- A kind of answers relates a reply and what comes of it: the entry that joins the history, or what is held then.
@@ -421,13 +419,9 @@ Answered network epoch history customer held command reply next after =
 -- a step whose reply is not for want of memory or a failure of the disk has an answer
 answered : (network : Network) (epoch : ℕ) (history : List Entry) (customer : List ℕ) (held : Holding) (command : Command) (reply : Reply) (next : List Entry) (after : Holding)
     → (¬ IsForMemory reply) × (¬ IsForDisk reply) → IsStep network epoch history customer held command reply next after → Answered network epoch history customer held command reply next after
-answered network epoch history customer held command reply next after answers step = at (kind_of reply) answers step.1
-  where
-    at : (kind : ReplyKind) → (¬ IsMemoryKind kind) × (¬ IsDiskKind kind) → IsStepOfKind network epoch history customer held command kind reply step.0 next after → Answered network epoch history customer held command reply next after
-    at ByTheBook answers is = (step.0, is.0, is.1)
-    at (ForDisk failed) answers is = absurd (answers.1 tt)
-    at ForMemory answers is = absurd (answers.0 tt)
-    at ForNoCommand answers is = absurd is
+answered network epoch history customer held command (Disk at) next after answers step = absurd (answers.1 tt)
+answered network epoch history customer held command Memory next after answers step = absurd (answers.0 tt)
+answered network epoch history customer held command reply next after answers step = (step.0, step.1.0, step.1.1)
 
 -- a script is at one place where both parts are the same
 state_same : (one two : ScriptState) → one.history ≡ two.history → one.holdings ≡ two.holdings → one ≡ two

@@ -6,7 +6,7 @@ use Rattle.hose_graph.specs.declared.entry.Entry.TheVariants.{Admit as AdmitEntr
 use Rattle.hose_graph.specs.declared.command.Command.{Command}
 use Rattle.hose_graph.specs.declared.command.Command.TheVariants.{Admit, AdmitAfter, Quote, Take, Release, Show, Vpns as VpnsCommand, Link, Down as DownCommand, Up as UpCommand}
 use Rattle.hose_graph.specs.declared.command.Reply.{Reply}
-use Rattle.hose_graph.specs.declared.command.Reply.TheVariants.{Admitted, Quoted, Refused, Stale, Full, Spent, Released, NoVpn, NoQuote, TooMany, Shown, Vpns, Newest, LinkState, Down, Up, Already, Denied}
+use Rattle.hose_graph.specs.declared.command.Reply.TheVariants.{Disk, Memory, Admitted, Quoted, Refused, Stale, Full, Spent, Released, NoVpn, NoQuote, TooMany, Shown, Vpns, Newest, LinkState, Down, Up, Already, Denied}
 use Rattle.hose_graph.specs.declared.entry.Vpn.{Vpn}
 use Rattle.hose_graph.specs.Amounts.{ReservedLink}
 use Rattle.hose_graph.specs.Hose.{Endpoint}
@@ -17,8 +17,6 @@ use Rattle.hose_law.specs.Room.{room_of}
 use Rattle.hose_law.specs.Book.{Book, IsLiveVpn, HasVpn, load_of}
 use Rattle.hose_law.specs.Decision.{HaveEqualGrounds, IsPlanned, IsRefused}
 use Rattle.hose_law.specs.History.{book_of}
-use Rattle.hose_law.specs.ReplyKind.{ReplyKind, kind_of}
-use Rattle.hose_law.specs.ReplyKind.ReplyKind.{ByTheBook, ForDisk, ForMemory, ForNoCommand}
 use Rattle.hose_law.specs.Service.{LinkStands, is_out}
 use Rattle.hose_law.specs.Quotes.{Holding, HeldQuote, at_number, free_number, with_number}
 
@@ -220,29 +218,20 @@ MayWantMemory book customer held (Link link) = ⊥
 MayWantMemory book customer held (DownCommand link) = customer ≡ operator
 MayWantMemory book customer held (UpCommand link) = customer ≡ operator
 
--- A step at a history, whose answer has this entry, by the kind of its reply: the answer, with its
--- entry added; or the disk failed to keep the entry, which is not added; or want of memory, which
--- changes nothing. No other reply is that to a command.
-abbrev pub IsStepOfKind : Network → ℕ → List Entry → List ℕ → Holding → Command → ReplyKind → Reply
-    → Option Entry → List Entry → Holding → Type 0
-IsStepOfKind network epoch history customer held command ByTheBook reply entry next after =
-    IsAnswer network epoch history customer held command reply entry after
-    × (next ≡ with_entry history entry)
-IsStepOfKind network epoch history customer held command (ForDisk at) reply entry next after =
-    (at ≡ (book_of epoch history).epoch) × IsSome entry
-    × ((given : Reply)
-    × IsAnswer network epoch history customer held command given entry after)
-    × (next ≡ history)
-IsStepOfKind network epoch history customer held command ForMemory reply entry next after =
-    MayWantMemory (book_of epoch history) customer held command
-    × (entry ≡ None) × (next ≡ history) × (after ≡ held)
-IsStepOfKind network epoch history customer held command ForNoCommand reply entry next after = ⊥
-
--- a step at a history, whose answer has this entry
+-- A step at a history, whose answer has this entry: the answer, with its entry added; or the disk
+-- failed to keep the entry, which is not added; or want of memory, which changes nothing. No other
+-- reply is an answer.
 abbrev pub IsStepOf : Network → ℕ → List Entry → List ℕ → Holding → Command → Reply → Option Entry
     → List Entry → Holding → Type 0
+IsStepOf network epoch history customer held command (Disk at) entry next after =
+    (at ≡ (book_of epoch history).epoch) × IsSome entry × ((given : Reply)
+    × IsAnswer network epoch history customer held command given entry after) × (next ≡ history)
+IsStepOf network epoch history customer held command Memory entry next after =
+    MayWantMemory (book_of epoch history) customer held command
+    × (entry ≡ None) × (next ≡ history) × (after ≡ held)
 IsStepOf network epoch history customer held command reply entry next after =
-    IsStepOfKind network epoch history customer held command (kind_of reply) reply entry next after
+    IsAnswer network epoch history customer held command reply entry after
+    × (next ≡ with_entry history entry)
 
 -- a step at a history
 abbrev pub IsStep : Network → ℕ → List Entry → List ℕ → Holding → Command → Reply → List Entry

@@ -1,12 +1,10 @@
 -- Histories: lists of accepted entries, the books that they lead to, and which of them are sound
 -- and decided.
 use Rattle.std.specs.Prelude.{ℕ, zero, suc, ◌+◌, ◌<◌, ◌==◌, ◌&&◌, not, Bool, List, [], ◌∷◌, ◌++◌, filter, length, ⊤}
-use Rattle.std.specs.List.{flat_map}
 use Rattle.std.specs.Str.{bytes_eq}
 use Rattle.hose_graph.specs.declared.entry.Entry.{Entry}
 use Rattle.hose_graph.specs.declared.entry.Entry.TheVariants.{Admit, Release, Down, Up}
 use Rattle.hose_graph.specs.declared.entry.Vpn.{Vpn}
-use Rattle.hose_graph.specs.Ascending.{firsts}
 use Rattle.hose_graph.specs.Limits.{most_epoch, most_live}
 use Rattle.hose_graph.specs.Network.{Network}
 use Rattle.hose_law.specs.Book.{Book, HasVpn}
@@ -42,15 +40,6 @@ next_book book (Down link) =
 next_book book (Up link) =
     record { epoch = book.epoch + 1; live = book.live; out = put_back book.out link }
 
--- the links that an entry touches at a book: those of the amounts that it admits or gives up, or
--- the one that it takes out of service or puts back
-abbrev pub touched_links : Book → Entry → List ℕ
-touched_links book (Admit customer hose amounts) = firsts amounts
-touched_links book (Release customer id) =
-    flat_map (λ (vpn : Vpn). firsts vpn.amounts) (filter (is_vpn customer id) book.live)
-touched_links book (Down link) = link ∷ []
-touched_links book (Up link) = link ∷ []
-
 -- the book after entries, in order
 abbrev pub book_after : Book → List Entry → Book
 book_after book [] = book
@@ -80,16 +69,6 @@ IsDecidedAt network book (Release customer id) = IsSoundAt network book (Release
 IsDecidedAt network book (Down link) = IsSoundAt network book (Down link)
 IsDecidedAt network book (Up link) = IsSoundAt network book (Up link)
 
--- each entry is sound at the book of the entries before it
-abbrev pub IsSoundFrom : Network → Book → List Entry → Type 0
-IsSoundFrom network book [] = ⊤
-IsSoundFrom network book (entry ∷ entries) =
-    IsSoundAt network book entry × IsSoundFrom network (next_book book entry) entries
-
--- each entry of a history that begins at an epoch is sound at the book of those before it
-abbrev pub IsSound : Network → ℕ → List Entry → Type 0
-IsSound network epoch history = IsSoundFrom network (opening_book epoch) history
-
 -- what an entry may be at a book of a network, as sound or decided
 abbrev pub EntryKind : Type 1
 EntryKind = Network → Book → Entry → Type 0
@@ -101,6 +80,10 @@ AreFrom Kind network book zero (entry ∷ entries) =
     Kind network book entry × AreFrom Kind network (next_book book entry) zero entries
 AreFrom Kind network book (suc place) (entry ∷ entries) =
     AreFrom Kind network (next_book book entry) place entries
+
+-- each entry of a history that begins at an epoch is sound at the book of those before it
+abbrev pub IsSound : Network → ℕ → List Entry → Type 0
+IsSound network epoch history = AreFrom IsSoundAt network (opening_book epoch) 0 history
 
 -- a history is sound, and decided from a place on
 pub record IsDecided (network : Network) (epoch place : ℕ) (history : List Entry) : Type 0 where

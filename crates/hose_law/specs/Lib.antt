@@ -11,13 +11,12 @@ pub mod Live
 pub mod Matrix
 pub mod Plan
 pub mod Quotes
-pub mod ReplyKind
+pub mod Recent
 pub mod Room
 pub mod Route
 pub mod Row
 pub mod Script
 pub mod Service
-pub mod Tracks
 pub mod Transcript
 pub mod Tree
 pub mod Walk

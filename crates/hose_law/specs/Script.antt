@@ -1,13 +1,12 @@
 -- Scripts of lines and their replies.
-use Rattle.std.specs.Prelude.{◌≡◌, ℕ, ◌+◌, List, [], ◌∷◌, All}
+use Rattle.std.specs.Prelude.{◌≡◌, ℕ, ◌+◌, List, [], ◌∷◌, All, ⊤}
 use Rattle.hose_graph.specs.declared.entry.Entry.{Entry}
 use Rattle.hose_graph.specs.declared.command.Command.{Command}
 use Rattle.hose_graph.specs.declared.command.Reply.{Reply}
-use Rattle.hose_graph.specs.declared.command.Reply.TheVariants.{Memory, Bad, Long}
+use Rattle.hose_graph.specs.declared.command.Reply.TheVariants.{Disk, Memory, Bad, Long}
 use Rattle.hose_graph.specs.Network.{Network}
 use Rattle.hose_law.specs.Answer.{IsStep}
 use Rattle.hose_law.specs.Lines.{AreSteps}
-use Rattle.hose_law.specs.ReplyKind.{IsDiskKind, IsMemoryKind, failures_of, kind_of}
 use Rattle.hose_law.specs.Quotes.{Holding, Holdings, with_held}
 
 -- A line as it was read: a customer's command, or what stands in its place. A bad line is told by
@@ -49,11 +48,13 @@ IsScript network epoch = AreSteps (IsLineStep network epoch)
 
 -- the reply is for want of memory
 abbrev pub IsForMemory : Reply → Type 0
-IsForMemory reply = IsMemoryKind (kind_of reply)
+IsForMemory Memory = ⊤
+IsForMemory reply = ⊥
 
 -- the reply is for a failure of the disk
 abbrev pub IsForDisk : Reply → Type 0
-IsForDisk reply = IsDiskKind (kind_of reply)
+IsForDisk (Disk at) = ⊤
+IsForDisk reply = ⊥
 
 -- no reply is for want of memory
 abbrev pub WithoutMemory : List Reply → Type 0
@@ -65,7 +66,8 @@ WithoutDisk replies = All (λ reply. ¬ IsForDisk reply) replies
 
 -- how many failures of the disk a reply tells: 1 or 0
 abbrev pub one_if_disk : Reply → ℕ
-one_if_disk reply = failures_of (kind_of reply)
+one_if_disk (Disk at) = 1
+one_if_disk reply = 0
 
 -- how many of the replies are for a failure of the disk
 abbrev pub disks_in : List Reply → ℕ

@@ -7,6 +7,7 @@ pub mod History
 pub mod Live
 pub mod Once
 pub mod Plan
+pub mod ReplyKind
 pub mod Route
 pub mod Service
 pub mod Tracks

@@ -7,7 +7,7 @@ use mathlib.Core.List.{IsPrefix}
 use Rattle.hose_graph.specs.Network.{Network}
 use Rattle.hose_graph.specs.declared.entry.Entry.{Entry}
 use Rattle.hose_law.specs.Book.{Book}
-use Rattle.hose_law.specs.History.{IsSound, IsSoundAt, IsSoundFrom, book_after, next_book, opening_book}
+use Rattle.hose_law.specs.History.{IsSound, IsSoundAt, book_after, next_book, opening_book, AreFrom}
 use Rattle.hose_disk.specs.declared.disk.Disk.{Ghosts}
 use Rattle.hose_journal.specs.declared.layout.TheConstants.{DIGEST_BYTES}
 use Rattle.hose_journal.specs.Entries.{Item, entered, entries_format, entries_in, front_of, sealed}
@@ -66,7 +66,7 @@ begins_list digest bytes entries had size begun (gate ∷ rest) some (inr is) =
 
 -- ---- sound entries
 
-sound_at : (network : Network) (book : Book) (entries : List Entry) (place : ℕ) (entry : Entry) → IsSoundFrom network book entries → slice_get entries place ≡ Some entry → IsSoundAt network (book_after book (take place entries)) entry
+sound_at : (network : Network) (book : Book) (entries : List Entry) (place : ℕ) (entry : Entry) → AreFrom IsSoundAt network book 0 entries → slice_get entries place ≡ Some entry → IsSoundAt network (book_after book (take place entries)) entry
 sound_at network book [] place entry sound there = absurd (cc there)
 sound_at network book (first ∷ entries) zero entry sound there =
     let same : first ≡ entry = cc there in subst (λ (e : Entry). IsSoundAt network book e) same sound.0

@@ -15,15 +15,13 @@ use Rattle.hose_graph.specs.declared.entry.Entry.{Entry}
 use Rattle.hose_graph.specs.declared.entry.Entry.TheVariants.{Admit, Release}
 use Rattle.hose_graph.specs.declared.command.Reply.{Reply}
 use Rattle.hose_graph.specs.declared.command.Reply.TheVariants as reply
-use Rattle.hose_law.specs.Answer.{IsAdmitAnswer, IsAfterAnswer, IsAnswer, IsOperatorAnswer, IsPlannedAnswer, IsReleaseAnswer, IsStepOf, IsStepOfKind, IsTakeAnswer, IsTakingAnswer}
+use Rattle.hose_law.specs.Answer.{IsAdmitAnswer, IsAfterAnswer, IsAnswer, IsOperatorAnswer, IsPlannedAnswer, IsReleaseAnswer, IsStepOf, IsTakeAnswer, IsTakingAnswer}
 use Rattle.hose_law.specs.Book.{Book}
 use Rattle.hose_law.specs.Decision.{HasFirstFit, HaveEqualGrounds, IsPlanned}
 use Rattle.hose_law.specs.History.{book_of}
 use Rattle.hose_law.specs.Plan.{plan_cost}
 use Rattle.hose_law.specs.steps.Plan.{AreNodes}
 use Rattle.hose_law.specs.Quotes.{Holding, HeldQuote, at_number, free_number, with_number}
-use Rattle.hose_law.specs.ReplyKind.{ReplyKind, kind_of}
-use Rattle.hose_law.specs.ReplyKind.ReplyKind.{ByTheBook, ForDisk, ForMemory, ForNoCommand}
 use Rattle.hose_law.specs.Room.{first_links, room_of, safe_links}
 use Rattle.hose_law.specs.steps.Service.{service_entry}
 use Rattle.hose_book.specs.declared.books.Committed.{Committed}
@@ -32,7 +30,7 @@ use Rattle.hose_core.specs.steps.Bound.{admission_command}
 use Rattle.hose_core.specs.steps.Holding.{AreHeld, IsMadeAt, IsQuoteOf}
 use Rattle.hose_core.specs.steps.Planning.{AdmitsAtOnce, EntersPlan, HasTold, IsNotPlanned, IsPlannedFor}
 use Rattle.hose_core.specs.steps.Serving.{service_command}
-use Rattle.hose_core.specs.steps.Stepping.{HasStepped, HaveAnswered, StepsAtEach, TellsPlan, committed_for, committed_of}
+use Rattle.hose_core.specs.steps.Stepping.{HasStepped, HaveAnswered, StepsAtEach, TellsPlan, committed_of}
 use Rattle.hose_core.specs.declared.admitting.Admission.{Admission}
 use Rattle.hose_core.specs.declared.quotes.Quote.{Quote}
 use Rattle.hose_plan.specs.steps.Planning.{allowed_links}
@@ -59,13 +57,9 @@ module _ (network : Network) (history : List Entry) (customer : List ℕ) (held 
   -- a step whose entry was committed is an answer
   answered : (answer : Reply) (entry : Entry) (next : List Entry) (after : Holding) → committed_of answer ≡ Done → IsStepOf network 0 history customer held asked answer (Some entry) next after
       → IsAnswer network 0 history customer held asked answer (Some entry) after
-  answered answer entry next after done step = at (kind_of answer) done step
-    where
-      at : (kind : ReplyKind) → committed_for kind ≡ Done → IsStepOfKind network 0 history customer held asked kind answer (Some entry) next after → IsAnswer network 0 history customer held asked answer (Some entry) after
-      at ByTheBook done is = is.0
-      at (ForDisk epoch) done is = absurd (cc done)
-      at ForMemory done is = absurd (cc is.1)
-      at ForNoCommand done is = absurd is
+  answered (reply.Disk at) entry next after done step = absurd (cc done)
+  answered reply.Memory entry next after done step = absurd (cc step.1)
+  answered answer entry next after done step = step.0
 
 -- ---- a release
 

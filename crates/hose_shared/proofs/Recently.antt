@@ -6,8 +6,7 @@ use Rattle.hose_law.specs.Book.{Book, load_of}
 use Rattle.hose_law.specs.History.{book_of}
 use Rattle.hose_law.specs.Quotes.{HeldQuote}
 use Rattle.hose_law.specs.Service.{is_out}
-use Rattle.hose_law.specs.Tracks.{Tracks}
-use Rattle.hose_law.specs.steps.Tracks.{IsNamedSince}
+use Rattle.hose_law.specs.steps.Tracks.{IsNamedSince, Tracks}
 use Rattle.hose_law.proofs.Tracked.{loads_stay, service_stays}
 use Rattle.hose_book.specs.Ledger.{HasBookOf, Ledger}
 use Rattle.hose_core.specs.steps.Holding.{HasGroundsSince, IsQuoteOf}

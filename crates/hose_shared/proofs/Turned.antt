@@ -11,7 +11,7 @@ use Rattle.hose_law.specs.Answer.{IsStepOf, with_entry}
 use Rattle.hose_law.specs.Book.{Book}
 use Rattle.hose_law.specs.History.{IsDecidedAt, book_of}
 use Rattle.hose_law.specs.Quotes.{Holding}
-use Rattle.hose_law.specs.Tracks.{Tracks}
+use Rattle.hose_law.specs.steps.Tracks.{Tracks}
 use Rattle.hose_law.proofs.Cheapest.{canonical_cheapest}
 use Rattle.hose_book.specs.steps.Commit.{IsMet}
 use Rattle.hose_book.specs.steps.GoingOn.{GoesOn, entry_more}

@@ -3,7 +3,7 @@ ghost use Rattle.std.specs.Prelude.{◌≡◌, ◌⊎◌, ◌+◌, ◌-◌, ◌+
 ghost use mathlib.Core.List.{IsPrefix};
 ghost use Rattle.hose_graph.specs.Network.{IsNetwork};
 ghost use Rattle.hose_graph.specs.declared.entry.Entry.{Entry};
-ghost use Rattle.hose_law.specs.Tracks.{Tracks};
+ghost use Rattle.hose_law.specs.steps.Tracks.{Tracks};
 ghost use Rattle.hose_book.specs.Ledger.{HasBookOf};
 ghost use Rattle.hose_turn.specs.Faults.{end_of_count};
 ghost use Rattle.hose_turn.specs.steps.Known.{first_known, HasJoined};

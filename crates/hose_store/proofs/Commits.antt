@@ -6,7 +6,7 @@ use Rattle.hose_law.specs.Book.{Book}
 use Rattle.hose_law.specs.History.{book_of, opening_book, next_book, IsSound, IsSoundAt}
 use Rattle.hose_law.specs.steps.History.{IsSoundWith}
 use Rattle.hose_law.proofs.Scripts.{book_after_push}
-use Rattle.hose_law.specs.Tracks.{Tracks}
+use Rattle.hose_law.specs.steps.Tracks.{Tracks}
 use Rattle.hose_book.specs.steps.Ledger.{TracksOn, next_ledger}
 use Rattle.hose_book.specs.declared.books.Committed.{Committed}
 use Rattle.hose_book.specs.declared.books.Committed.TheVariants.{Done, Disk}

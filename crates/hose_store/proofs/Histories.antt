@@ -4,7 +4,7 @@ use Rattle.sha2.specs.Sha256.{sha256}
 use Rattle.hose_graph.specs.Network.{Network}
 use Rattle.hose_graph.specs.declared.entry.Entry.{Entry}
 use Rattle.hose_law.specs.Book.{Book}
-use Rattle.hose_law.specs.History.{book_of, opening_book, next_book, IsSound, IsSoundAt, IsSoundFrom}
+use Rattle.hose_law.specs.History.{book_of, opening_book, next_book, IsSound, IsSoundAt, AreFrom}
 use Rattle.hose_graph.specs.Limits.{most_epoch}
 use Rattle.hose_law.specs.steps.History.{IsSoundWith}
 use Rattle.hose_law.proofs.Epochs.{epoch_after}
@@ -31,7 +31,7 @@ few_entries network book history entry same sound =
     omega (arith, sound_epoch network book entry sound, ap (λ (b : Book). b.epoch) same, epoch_after (opening_book 0) history)
 
 -- entries that are sound one after another are no more than there are epochs
-few_sound : (network : Network) (book : Book) (entries : List Entry) → book.epoch ≤ most_epoch → IsSoundFrom network book entries → book.epoch + length entries ≤ most_epoch
+few_sound : (network : Network) (book : Book) (entries : List Entry) → book.epoch ≤ most_epoch → AreFrom IsSoundAt network book 0 entries → book.epoch + length entries ≤ most_epoch
 few_sound network book [] low sound = omega (arith, low)
 few_sound network book (entry ∷ entries) low sound =
     let next : (next_book book entry).epoch ≡ book.epoch + 1 = next_epoch book entry in
@@ -47,17 +47,17 @@ sound_with network history entry sound at = sound_push network (opening_book 0) 
 
 -- ---- entries that are sound one after another
 
-pub taken_sound : (network : Network) (before items : List Entry) → IsSoundFrom network (book_of 0 before) items → AreAllowed (IsSoundAfter network) before items
+pub taken_sound : (network : Network) (before items : List Entry) → AreFrom IsSoundAt network (book_of 0 before) 0 items → AreAllowed (IsSoundAfter network) before items
 taken_sound network before [] sound = tt
 taken_sound network before (item ∷ items) sound =
-    let next = subst (λ (book : Book). IsSoundFrom network book items) (sym (book_after_push (opening_book 0) before item)) sound.1 in
+    let next = subst (λ (book : Book). AreFrom IsSoundAt network book 0 items) (sym (book_after_push (opening_book 0) before item)) sound.1 in
     (sound.0, taken_sound network (before ++ item ∷ []) items next)
 
-sound_taken : (network : Network) (before items : List Entry) → AreAllowed (IsSoundAfter network) before items → IsSoundFrom network (book_of 0 before) items
+sound_taken : (network : Network) (before items : List Entry) → AreAllowed (IsSoundAfter network) before items → AreFrom IsSoundAt network (book_of 0 before) 0 items
 sound_taken network before [] taken = tt
 sound_taken network before (item ∷ items) taken =
     let next = sound_taken network (before ++ item ∷ []) items taken.1 in
-    (taken.0, subst (λ (book : Book). IsSoundFrom network book items) (book_after_push (opening_book 0) before item) next)
+    (taken.0, subst (λ (book : Book). AreFrom IsSoundAt network book 0 items) (book_after_push (opening_book 0) before item) next)
 
 -- they are a sound history
 pub sound_items : (network : Network) (items : List Entry) → AreAllowed (IsSoundAfter network) [] items → IsSound network 0 items

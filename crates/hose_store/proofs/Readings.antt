@@ -8,7 +8,7 @@ use Rattle.hose_graph.specs.declared.entry.Entry.{Entry}
 use Rattle.hose_law.specs.Book.{Book}
 use Rattle.hose_law.specs.History.{opening_book, next_book, IsSoundAt}
 use Rattle.hose_law.proofs.Scripts.{book_after_push}
-use Rattle.hose_law.specs.Tracks.{Tracks}
+use Rattle.hose_law.specs.steps.Tracks.{Tracks}
 use Rattle.hose_book.specs.Ledger.{HasBookOf, Ledger}
 use Rattle.hose_book.specs.steps.Ledger.{TracksOn, opening_ledger}
 use Rattle.hose_disk.specs.Disk.{object_frame}

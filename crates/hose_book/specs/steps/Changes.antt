@@ -1,6 +1,7 @@
 -- The changes that a book keeps: which links recent entries touched.
 use Rattle.std.specs.Prelude.{◌≡◌, ℕ, ◌+◌, ◌<◌, ◌≤◌, List, [], ◌++◌, All, AllPairs, length, if◌then◌else◌, nat_lt}
-use Rattle.hose_law.specs.Tracks.{Change, Recent, changes_of}
+use Rattle.hose_law.specs.Recent.{Change, Recent}
+use Rattle.hose_law.specs.steps.Tracks.{changes_of}
 use Rattle.hose_book.specs.steps.Limits.{most_changes}
 
 -- a change comes at no earlier epoch than those before it

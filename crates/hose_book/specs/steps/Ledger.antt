@@ -9,8 +9,8 @@ use Rattle.hose_law.specs.Walk.{capacity_of}
 use Rattle.hose_law.specs.steps.Plan.{AreNodes}
 use Rattle.hose_graph.specs.declared.entry.Entry.{Entry}
 use Rattle.hose_law.specs.Book.{Book, load_of}
-use Rattle.hose_law.specs.History.{next_book, opening_book, touched_links}
-use Rattle.hose_law.specs.Tracks.{Tracks}
+use Rattle.hose_law.specs.History.{next_book, opening_book}
+use Rattle.hose_law.specs.steps.Tracks.{Tracks, touched_links}
 use Rattle.hose_book.specs.steps.Changes.{opening_recent, with_changes}
 use Rattle.hose_tree.specs.steps.Amounts.{AreOnLinks}
 use Rattle.hose_book.specs.Ledger.{HasBookOf, Ledger}

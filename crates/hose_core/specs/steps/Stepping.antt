@@ -15,8 +15,8 @@ use Rattle.hose_law.specs.Decision.{HaveEqualGrounds, IsAllowed}
 use Rattle.hose_law.specs.History.{IsDecidedAt, book_of, next_book}
 use Rattle.hose_law.specs.steps.History.{IsSoundWith}
 use Rattle.hose_law.specs.Quotes.{Holding, Holdings, nothing_held, with_held}
-use Rattle.hose_law.specs.ReplyKind.{ReplyKind, kind_of}
-use Rattle.hose_law.specs.ReplyKind.ReplyKind.{ByTheBook, ForDisk, ForMemory, ForNoCommand}
+use Rattle.hose_law.specs.steps.ReplyKind.{ReplyKind, kind_of}
+use Rattle.hose_law.specs.steps.ReplyKind.ReplyKind.{ByTheBook, ForDisk, ForMemory, ForNoCommand}
 use Rattle.hose_law.specs.Room.{room_of}
 use Rattle.hose_book.specs.steps.Commit.{IsMet, history_after}
 use Rattle.hose_book.specs.Ledger.{HasBookOf, Ledger}

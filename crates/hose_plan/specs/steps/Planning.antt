@@ -11,7 +11,7 @@ use Rattle.hose_law.specs.Cheapest.{IsCheapest}
 use Rattle.hose_law.specs.Decision.{AreGrounds, CanBeReserved, HaveEqualGrounds, IsPlannedOver, IsRefused}
 use Rattle.hose_law.specs.Plan.{plan_cost}
 use Rattle.hose_law.specs.Room.{Room, first_links, free_rates, half_rate, room_of, safe_links}
-use Rattle.hose_law.specs.Tracks.{Change}
+use Rattle.hose_law.specs.Recent.{Change}
 use Rattle.hose_law.specs.steps.Tracks.{IsNamedSince}
 use Rattle.hose_plan.specs.steps.Rooting.{IsPlanOver}
 

@@ -2,7 +2,7 @@
 use Rattle.std.specs.Prelude.{◌≡◌, List}
 use Rattle.hose_graph.specs.declared.entry.Entry.{Entry}
 use Rattle.hose_law.specs.History.{IsDecidedAt}
-use Rattle.hose_law.specs.Tracks.{Tracks}
+use Rattle.hose_law.specs.steps.Tracks.{Tracks}
 use Rattle.hose_book.specs.steps.GoingOn.{GoesOn}
 use Rattle.hose_book.specs.Ledger.{HasBookOf}
 use Rattle.hose_disk.specs.declared.disk.Disk.{Ghosts}

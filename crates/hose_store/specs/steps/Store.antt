@@ -4,7 +4,7 @@ use Rattle.hose_graph.specs.Network.{Network}
 use Rattle.hose_graph.specs.declared.entry.Entry.{Entry}
 use Rattle.hose_law.specs.History.{book_of, IsSound}
 use Rattle.hose_law.specs.steps.History.{IsSoundWith}
-use Rattle.hose_law.specs.Tracks.{Tracks}
+use Rattle.hose_law.specs.steps.Tracks.{Tracks}
 use Rattle.hose_book.specs.Ledger.{HasBookOf, Ledger}
 use Rattle.hose_disk.specs.declared.disk.Disk.{Ghosts}
 use Rattle.hose_journal.specs.steps.Journal.{Account, Stands}

@@ -8,7 +8,7 @@ use Rattle.hose_law.specs.History.{IsSoundAt, next_book}
 use Rattle.hose_law.proofs.Entries.{rising_next, NoneOversold, entry_keeps}
 use Rattle.hose_law.specs.steps.Live.{HasRisingIds}
 use Rattle.hose_graph.specs.Ascending.{firsts}
-use Rattle.hose_law.specs.Tracks.{Recent}
+use Rattle.hose_law.specs.Recent.{Recent}
 use Rattle.hose_book.specs.steps.Changes.{AreUpTo}
 use Rattle.hose_book.specs.Ledger.{Ledger}
 use Rattle.hose_book.specs.steps.Ledger.{AreKeptLoads, IsKept}

@@ -3,7 +3,7 @@ use Rattle.std.proofs.lemmas.List.{length-replicate, get_or-replicate}
 use Rattle.std.proofs.lemmas.List.Elements.{All-nil}
 use Rattle.hose_graph.specs.declared.entry.Vpn.{Vpn}
 use Rattle.hose_law.specs.steps.Live.{HasRisingIds}
-use Rattle.hose_law.specs.Tracks.{Change, Recent}
+use Rattle.hose_law.specs.Recent.{Change, Recent}
 use Rattle.hose_book.specs.steps.Changes.{AreUpTo}
 use Rattle.hose_book.proofs.Ids.{none_rise}
 use Rattle.hose_book.specs.steps.Ledger.{IsKept}

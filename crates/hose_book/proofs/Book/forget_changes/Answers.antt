@@ -1,5 +1,5 @@
 use Rattle.std.proofs.Common.{◌∙◌, sym, ap, subst}
-use Rattle.hose_law.specs.Tracks.{Tracks}
+use Rattle.hose_law.specs.steps.Tracks.{Tracks}
 use Rattle.hose_book.specs.steps.Changes.{opening_recent}
 use Rattle.hose_book.specs.Ledger.{Ledger}
 use Rattle.hose_book.proofs.Tracking.{tracks_none}

@@ -1,6 +1,6 @@
 use Rattle.std.proofs.Common.{leb, leb-true, leb-false, arith, rules}
 use Rattle.std.proofs.lemmas.List.Sorted.{IsPartitionPoint-from_clause, IsPartitionedBy-leb}
-use Rattle.hose_law.specs.Tracks.{Change}
+use Rattle.hose_law.specs.Recent.{Change}
 use Rattle.hose_book.proofs.Tracking.{rise_in_order, up_to_front}
 use Rattle.hose_book.proofs.recent.first_since.Goals as goal
 

@@ -1,7 +1,7 @@
 use Rattle.std.proofs.Common.{arith, subst, sym, ap, List, ℕ, ◌+◌, ◌∙◌, ◌++◌}
 use Rattle.std.proofs.lemmas.List.{take_all}
 use Rattle.hose_graph.specs.Ascending.{firsts}
-use Rattle.hose_law.specs.Tracks.{changes_of}
+use Rattle.hose_law.specs.steps.Tracks.{changes_of}
 use Rattle.hose_book.specs.steps.Changes.{AreInOrder, AscendByLinks}
 use Rattle.hose_book.proofs.Tracking.{ascend_next, in_order_next}
 use Rattle.hose_book.proofs.recent.push_changes.Goals as goal

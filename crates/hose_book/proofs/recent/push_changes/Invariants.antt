@@ -1,6 +1,6 @@
 use Rattle.std.proofs.Common.{◌≡◌, ◌+◌, ◌++◌, take, vec_capacity}
 use Rattle.hose_graph.specs.Ascending.{firsts}
-use Rattle.hose_law.specs.Tracks.{changes_of}
+use Rattle.hose_law.specs.steps.Tracks.{changes_of}
 use Rattle.hose_book.proofs.recent.push_changes.Given as goal
 
 abbrev pub invariant-loop-link : goal.invariant-loop-link

@@ -2,7 +2,7 @@ use Rattle.std.proofs.Common.{◌<◌, ◌∙◌, ap, arith, refl, subst, sym}
 use Rattle.hose_graph.specs.declared.command.Reply.TheVariants.{Already, Spent}
 use Rattle.hose_graph.specs.steps.Naming.{NamesPlaces}
 use Rattle.hose_graph.specs.Limits.{most_epoch}
-use Rattle.hose_law.specs.ReplyKind.{kind_of}
+use Rattle.hose_law.specs.steps.ReplyKind.{kind_of}
 use Rattle.hose_law.specs.Service.{is_out}
 use Rattle.hose_book.specs.Ledger.{Ledger}
 use Rattle.hose_book.proofs.Judging.{other_truth, same_truth}

@@ -3,7 +3,7 @@ use Rattle.hose_graph.specs.steps.Naming.{NamesPlaces}
 use Rattle.hose_graph.specs.Network.{Network}
 use Rattle.hose_graph.specs.declared.command.Command.TheVariants.{Take}
 use Rattle.hose_law.specs.History.{book_of}
-use Rattle.hose_law.specs.Tracks.{Tracks}
+use Rattle.hose_law.specs.steps.Tracks.{Tracks}
 use Rattle.hose_core.specs.steps.Holding.{IsMadeAt}
 use Rattle.hose_turn.specs.steps.Held.{holder}
 use Rattle.hose_shared.proofs.Entries.{quote_in_turn, take_turn}

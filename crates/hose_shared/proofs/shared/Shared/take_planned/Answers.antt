@@ -5,7 +5,7 @@ use Rattle.hose_graph.specs.declared.command.Command.TheVariants.{Admit}
 use Rattle.hose_graph.specs.declared.command.Reply.TheVariants.{Memory}
 use Rattle.hose_law.specs.History.{book_of}
 use Rattle.hose_law.specs.Quotes.{HeldQuote, none_held}
-use Rattle.hose_law.specs.Tracks.{Tracks}
+use Rattle.hose_law.specs.steps.Tracks.{Tracks}
 use Rattle.hose_core.specs.steps.Bound.{admission_command}
 use Rattle.hose_core.specs.steps.Holding.{IsMadeAt}
 use Rattle.hose_core.specs.steps.Planning.{AdmitsAtOnce}

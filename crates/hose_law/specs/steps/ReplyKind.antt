@@ -1,5 +1,5 @@
 -- What a reply is for: the one place that lists all replies where none is asked for by itself.
-use Rattle.std.specs.Prelude.{ℕ, ⊤}
+use Rattle.std.specs.Prelude.{ℕ}
 use Rattle.hose_graph.specs.declared.command.Reply.{Reply}
 use Rattle.hose_graph.specs.declared.command.Reply.TheVariants.{Welcome, Admitted, Quoted, Refused, Stale, Released, NoVpn, NoQuote, TooMany, Shown, Vpns, Newest, LinkState, Down, Up, Already, Denied, Full, Spent, Disk, Memory, Bad, Long, Bye}
 
@@ -37,24 +37,3 @@ kind_of Memory = ForMemory
 kind_of (Bad word) = ForNoCommand
 kind_of Long = ForNoCommand
 kind_of Bye = ForNoCommand
-
--- the kind is that of want of memory
-abbrev pub IsMemoryKind : ReplyKind → Type 0
-IsMemoryKind ByTheBook = ⊥
-IsMemoryKind (ForDisk at) = ⊥
-IsMemoryKind ForMemory = ⊤
-IsMemoryKind ForNoCommand = ⊥
-
--- the kind is that of a failure of the disk
-abbrev pub IsDiskKind : ReplyKind → Type 0
-IsDiskKind ByTheBook = ⊥
-IsDiskKind (ForDisk at) = ⊤
-IsDiskKind ForMemory = ⊥
-IsDiskKind ForNoCommand = ⊥
-
--- how many failures of the disk a reply of this kind tells: 1 or 0
-abbrev pub failures_of : ReplyKind → ℕ
-failures_of ByTheBook = 0
-failures_of (ForDisk at) = 1
-failures_of ForMemory = 0
-failures_of ForNoCommand = 0
