@@ -4,7 +4,8 @@ ghost use Rattle.hose_graph.specs.steps.Naming.{NamesPlaces};
 use cases_common::{CaseText, Trouble, network};
 use hose_graph::{Reply, Topology};
 use hose_io::MemSink;
-use hose_proto::{put_reply, read_command, read_reply};
+use hose_proto::{put_reply, read_command};
+use hose_replies::read_reply;
 use hose_words::{number, split};
 use std::alloc::{AllocError, Global};
 

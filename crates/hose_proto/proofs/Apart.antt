@@ -1,6 +1,6 @@
 -- Items of which no two have one key.
-use Rattle.std.proofs.Common.{◌≡◌, ◌≢◌, ◌∙◌, List, [], ◌∷◌, ◌++◌, length, get_or, sym, ap, arith, length-append}
-use Rattle.std.specs.List.{AllPairs, Any}
+use Rattle.std.proofs.Common.{◌≡◌, ◌≢◌, ◌∙◌, List, [], ◌∷◌, ◌++◌, length, get_or, sym, ap, subst, arith, length-append}
+use Rattle.std.specs.List.{All, AllPairs, Any}
 use Rattle.std.proofs.Math.ListN.{get_or-append}
 use Rattle.std.proofs.Math.Seq.{get_or-append_seam}
 use Rattle.std.proofs.lemmas.List.{get_or_default}
@@ -23,3 +23,7 @@ module _ {A K : Type 0} (key : A → K) where
   pub own_key_front : (xs ys : List A) → AllPairs (λ one other. key one ≢ key other) (xs ++ ys) → AllPairs (λ one other. key one ≢ key other) xs
   own_key_front xs ys own i j d order below same =
       own i j d order (omega (arith, below, length-append xs ys)) (ap key (get_or-append xs ys d i (omega arith)) ∙ same ∙ sym (ap key (get_or-append xs ys d j below)))
+
+-- what holds of all holds of the last
+pub All-last : {X : Type 0} (P : X → Type 0) (xs : List X) (x : X) → All P (xs ++ x ∷ []) → P x
+All-last P xs x all = subst P (get_or-append_seam xs x [] x) (all (length xs) x (omega (arith, length-append xs (x ∷ []))))

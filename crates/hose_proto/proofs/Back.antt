@@ -14,9 +14,8 @@ use Rattle.hose_words.specs.Form.{Fits64}
 use Rattle.hose_graph.specs.Network.{Network, IsNetwork, name_of}
 use Rattle.hose_proto.specs.EndWords.{named_rate}
 use Rattle.hose_proto.specs.Places.{end_word}
-use Rattle.hose_proto.specs.steps.Fields.{IsEndOf}
-use Rattle.hose_proto.specs.Fields.{pair_word}
-use Rattle.hose_proto.proofs.Colons.{named_cut, no_colon, no_colon_decimal}
+use Rattle.hose_proto.specs.steps.Places.{IsEndOf}
+use Rattle.hose_proto.proofs.Colons.{named_cut, no_colon}
 
 -- ---- a list round its first element that passes
 
@@ -71,12 +70,6 @@ parts_back back front x n free is small =
     let first = ap back (front_is is_colon front 58 (decimal n) none refl) ∙ is in
     let second = ap number_spelled (rest_is is_colon front 58 (decimal n) none refl) ∙ number_back n small in
     ap (parts_spelled back) (named_cut front n) ∙ (λ i. (first i, second i))
-
-abbrev pub pair_spelled : List ℕ → ℕ × ℕ
-pair_spelled word = parts_spelled number_spelled word
-
-pub pair_back : (pair : ℕ × ℕ) → Fits64 pair.0 → Fits64 pair.1 → pair_spelled (pair_word pair) ≡ pair
-pair_back pair small small' = parts_back number_spelled (decimal pair.0) pair.0 pair.1 (no_colon_decimal pair.0 small) (number_back pair.0 small) small'
 
 abbrev pub node_named : Network → List ℕ → ℕ
 node_named network word = position_or_len (λ name. bytes_eq name word) network.nodes

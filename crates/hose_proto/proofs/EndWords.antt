@@ -11,10 +11,9 @@ use Rattle.hose_graph.specs.Network.{Network, IsNetwork, IsNodeOf, name_of}
 use Rattle.hose_proto.specs.EndWords.{AreNewEndWords, IsEndWord, name_in, named_rate}
 use Rattle.hose_proto.specs.steps.EndWords.{IsNewEndWord}
 use Rattle.hose_proto.specs.Places.{end_word}
-use Rattle.hose_proto.proofs.Apart.{own_key_front, own_key_more, own_key_new}
+use Rattle.hose_proto.proofs.Apart.{own_key_front, own_key_more, own_key_new, All-last}
 use Rattle.hose_proto.proofs.Back.{front_is, is_colon, no_colon_passes}
 use Rattle.hose_proto.proofs.Colons.{named_cut, no_colon}
-use Rattle.hose_proto.proofs.Rising.{All-last}
 
 -- ---- what stands round the colon
 

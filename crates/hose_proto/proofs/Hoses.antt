@@ -16,7 +16,6 @@ use Rattle.hose_graph.specs.declared.limits.TheConstants.{LEAST_ENDS}
 use Rattle.hose_graph.proofs.Ordered.{pairs_unique}
 use Rattle.hose_proto.specs.Command.{AreNewEnds}
 use Rattle.hose_proto.specs.Places.{IsHoseOf}
-use Rattle.hose_proto.specs.steps.Fields.{AreEnds}
 
 -- endpoints in order are at distinct nodes
 pub distinct_in_order : (ends : List (ℕ × ℕ)) → IsAscending ends → HasDistinctNodes ends
@@ -71,15 +70,6 @@ ends_of_hose network ends hose moved is =
       distinct = distinct_moved hose ends back (distinct_in_order hose is.is_hose.ascending);
       nodes = All-permutation (λ (end : ℕ × ℕ). IsNodeOf network end.0) hose ends back is.nodes;
     }
-
--- endpoints in order make a hose too
-pub new_in_order : (network : Network) (ends : List (ℕ × ℕ)) → AreEnds network ends → AreNewEnds network ends
-new_in_order network ends are = record {
-  few = are.few;
-  within = λ k d below. (are.in_order.each k d below).is_end;
-  distinct = distinct_in_order ends are.in_order.ascending;
-  nodes = λ k d below. (are.in_order.each k d below).is_node;
-}
 
 -- two lists in order that have the same endpoints are one
 pub same_hose : (ends hose : List (ℕ × ℕ)) → IsPermutation ends hose → IsAscending ends → IsAscending hose → ends ≡ hose

@@ -3,15 +3,10 @@ pub mod Back
 pub mod Colons
 pub mod EndWords
 pub mod Faults
-pub mod FieldLemmas
 pub mod Hoses
 pub mod ItemByItem
-pub mod Items
-pub mod Lines
-pub mod ListsUntil
+pub mod ListItems
 pub mod NodeNames
 pub mod OneCommand
-pub mod ReplyLemmas
-pub mod Rising
 pub mod Spacing
 pub mod Words

@@ -16,7 +16,7 @@ use Rattle.hose_proto.specs.declared.verb.Verb.{Verb}
 use Rattle.hose_proto.specs.declared.verb.Verb.TheVariants as verb
 use Rattle.hose_proto.proofs.Back.{end_spelled, ends_back}
 use Rattle.hose_proto.proofs.Hoses.{ends_of_hose, one_hose}
-use Rattle.hose_proto.proofs.Items.{new_ends_closed}
+use Rattle.hose_proto.proofs.ListItems.{new_ends_closed}
 use Rattle.hose_proto.proofs.Words.{links_apart, verbs_apart}
 
 -- ---- what is read of words

@@ -8,7 +8,7 @@ use Rattle.hose_io.specs.declared.sink.Sink.{Ghosts}
 use Rattle.hose_io.proofs.Gathering.{IsAdded-next}
 use Rattle.hose_graph.specs.Network.{Network}
 use Rattle.hose_graph.specs.declared.topology.Link.{Link}
-use Rattle.hose_proto.specs.Fields.{words_of_link}
+use Rattle.hose_proto.specs.ReplyWords.{words_of_link}
 use Rattle.hose_proto.specs.ReplyText.{link_text, spaced}
 
 spaced-link : (network : Network) (link : Option Link) → spaced (words_of_link network link) ≡ link_text network link

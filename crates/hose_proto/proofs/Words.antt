@@ -11,17 +11,6 @@ use Rattle.hose_words.proofs.Keywords.{choice_of}
 use Rattle.hose_graph.specs.Network.{Network, IsNetwork, IsLinkOf}
 use Rattle.hose_proto.specs.steps.Choices.{IsWordTable, rows_of}
 use Rattle.hose_proto.specs.Command.{verb_word}
-use Rattle.hose_proto.specs.Fields.{missing_word}
-use Rattle.hose_proto.specs.steps.Fields.{service_word}
-use Rattle.hose_proto.specs.ReplyLines.{head_word}
-use Rattle.hose_proto.specs.declared.head.Head.{Head}
-use Rattle.hose_proto.specs.declared.head.Head.TheVariants as head
-use Rattle.hose_proto.specs.declared.head.Missing.{Missing}
-use Rattle.hose_proto.specs.declared.head.Missing.TheVariants as missing
-use Rattle.hose_proto.specs.declared.head.Service.{Service}
-use Rattle.hose_proto.specs.declared.head.Service.TheVariants as service
-use Rattle.hose_proto.specs.declared.head.TheConstants.{MISSING, SERVICES}
-use Rattle.hose_proto.specs.declared.reply_reader.TheConstants.{HEADS}
 use Rattle.hose_proto.specs.declared.verb.Verb.{Verb}
 use Rattle.hose_proto.specs.declared.verb.Verb.TheVariants as verb
 use Rattle.hose_proto.specs.declared.verb.TheConstants.{VERBS}
@@ -66,49 +55,7 @@ pub no_choice : {A : Type 0} (word_of : A → List ℕ) (table : List (A × Bor 
 no_choice word_of table word are none one same =
     are.each one (λ k row below here. All-map (λ it. it.1 ≢ word) (λ it. (it.0, it.1.now)) table none k row below (are.words k row below ∙ ap word_of here ∙ sym same))
 
--- ---- the words of replies and of commands
-
--- the first word of a reply that a word is
-abbrev pub head_of : List ℕ → Head
-head_of word = choice_of head_word (map (λ row. row.0) HEADS) head.Welcome word
-
-pub head_of-word : (one : Head) → head_of (head_word one) ≡ one
-head_of-word head.Welcome = refl
-head_of-word other = refl
-
-pub heads_apart : AreApart Each head_word
-heads_apart = apart_by head_of (λ one _. head_of-word one)
-
-pub heads_told : IsWordTable head_word (map (λ row. (row.0, row.1.now)) HEADS)
-heads_told = is_table head_word (map (λ row. (row.0, row.1.now)) HEADS) head.Welcome refl head_of-word (λ P all. all 0 head.Welcome (omega arith))
-
--- the word after `no` that a word is
-abbrev pub missing_of : List ℕ → Missing
-missing_of word = choice_of missing_word (map (λ row. row.0) MISSING) missing.Vpn word
-
-pub missing_of-word : (one : Missing) → missing_of (missing_word one) ≡ one
-missing_of-word missing.Vpn = refl
-missing_of-word missing.Quote = refl
-
-pub missing_apart : AreApart Each missing_word
-missing_apart = apart_by missing_of (λ one _. missing_of-word one)
-
-pub missing_told : IsWordTable missing_word (map (λ row. (row.0, row.1.now)) MISSING)
-missing_told = is_table missing_word (map (λ row. (row.0, row.1.now)) MISSING) missing.Vpn refl missing_of-word (λ P all. all 0 missing.Vpn (omega arith))
-
--- the word after a link's load that a word is
-abbrev pub service_of : List ℕ → Service
-service_of word = choice_of service_word (map (λ row. row.0) SERVICES) service.Out word
-
-service_of-word : (one : Service) → service_of (service_word one) ≡ one
-service_of-word service.Out = refl
-service_of-word service.At = refl
-
-pub services_apart : AreApart Each service_word
-services_apart = apart_by service_of (λ one _. service_of-word one)
-
-pub services_told : IsWordTable service_word (map (λ row. (row.0, row.1.now)) SERVICES)
-services_told = is_table service_word (map (λ row. (row.0, row.1.now)) SERVICES) service.Out refl service_of-word (λ P all. all 0 service.Out (omega arith))
+-- ---- the words of commands
 
 -- the first word of a command that a word is
 abbrev pub verb_of : List ℕ → Verb

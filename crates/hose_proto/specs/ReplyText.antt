@@ -6,7 +6,7 @@ use Rattle.hose_graph.specs.Hose.{Endpoint, node_of, rate_of}
 use Rattle.hose_graph.specs.Network.{Network, name_of}
 use Rattle.hose_graph.specs.declared.topology.Link.{Link}
 use Rattle.hose_graph.specs.declared.command.Reply.{Reply}
-use Rattle.hose_proto.specs.ReplyLines.{reply_words}
+use Rattle.hose_proto.specs.ReplyWords.{reply_words}
 
 -- a link and its amount
 abbrev pub pair_text : ReservedLink → List ℕ

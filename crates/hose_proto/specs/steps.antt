@@ -1,6 +1,5 @@
 -- Steps of proofs: what no clause of the top calls names.
 pub mod Choices
 pub mod EndWords
-pub mod Fields
+pub mod Places
 pub mod Reading
-pub mod ReplyLines

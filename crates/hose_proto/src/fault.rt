@@ -15,7 +15,8 @@ pub enum ReadFault {
     Memory,
 }
 
-pub(crate) type Read<T> = Result<T, ReadFault>;
+/// What was read of a line, or why it was not.
+pub type Read<T> = Result<T, ReadFault>;
 
 impl<T: Drop> From<AllocFailed<T>> for ReadFault {
     ghost from_gives = { λ _ fault. fault ≡ Memory };

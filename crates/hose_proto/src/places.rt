@@ -9,7 +9,7 @@ ghost use Rattle.hose_graph.specs.Network.{IsNetwork, IsLinkOf};
 ghost use Rattle.hose_graph.specs.declared.limits.TheConstants.{MOST_RATE};
 ghost use Rattle.hose_proto.specs.EndWords.{IsEndWord, name_in, named_rate};
 ghost use Rattle.hose_proto.specs.Places.{end_word};
-ghost use Rattle.hose_proto.specs.steps.Fields.{IsEndOf};
+ghost use Rattle.hose_proto.specs.steps.Places.{IsEndOf};
 
 use hose_graph::{Endpoint, MOST_RATE, Name, Topology};
 use hose_words::{Cursor, WrongWord, number};
@@ -30,8 +30,8 @@ pub fn read_name(words: &mut Cursor<'_>) -> Result<Name, WrongWord>
     Ok(name)
 }
 
-// The link whose number the next word tells.
-pub(crate) fn read_link_number(top: &Topology, words: &mut Cursor<'_>) -> Result<u32, WrongWord>
+/// The link whose number the next word tells.
+pub fn read_link_number(top: &Topology, words: &mut Cursor<'_>) -> Result<u32, WrongWord>
     ensures ok { IfOk result (λ link. Took words.old words.new (decimal link)) }
     ensures is_link { IfOk result (IsLinkOf top.now) }
     ensures wrong { IfErr result
@@ -47,8 +47,8 @@ pub(crate) fn read_link_number(top: &Topology, words: &mut Cursor<'_>) -> Result
     Ok(link)
 }
 
-// The link whose number a word tells.
-pub(crate) fn link_number(top: &Topology, word: &[u8]) -> Option<u32>
+/// The link whose number a word tells.
+pub fn link_number(top: &Topology, word: &[u8]) -> Option<u32>
     ensures told { IfSome result (λ link. word.now ≡ decimal link) }
     ensures is_link { IfSome result (IsLinkOf top.now) }
     ensures none { IfNone result ((link : ℕ)
@@ -65,8 +65,8 @@ pub(crate) fn link_number(top: &Topology, word: &[u8]) -> Option<u32>
     }
 }
 
-// The number that a word tells.
-pub(crate) fn number_told(word: &[u8]) -> Option<u64>
+/// The number that a word tells.
+pub fn number_told(word: &[u8]) -> Option<u64>
     ensures told { IfSome result (λ value. (word.now ≡ decimal value) × Fits64 value) }
     ensures only { (value : ℕ) → word.now ≡ decimal value → Fits64 value → result ≡ Some value }
 {
@@ -110,8 +110,8 @@ pub fn name_before_colon(word: &[u8]) -> &[u8]
     }
 }
 
-// What stands before a word's first colon, and what stands after it.
-pub(crate) fn parts(word: &[u8]) -> Option<(&[u8], &[u8])>
+/// What stands before a word's first colon, and what stands after it.
+pub fn parts(word: &[u8]) -> Option<(&[u8], &[u8])>
     ensures spelled { IfSome result (λ parts. word.now ≡ parts.0.now ++ 58 ∷ parts.1.now) }
     ensures first { IfSome result (λ parts. ¬ Contains parts.0.now 58) }
     ensures none { IfNone result (¬ Contains word.now 58) }

@@ -7,11 +7,9 @@ ghost use Rattle.hose_io.specs.steps.Writing.{IsPut};
 ghost use Rattle.hose_graph.specs.Hose.{node_of};
 ghost use Rattle.hose_graph.specs.Network.{Network, IsLinkOf, IsNodeOf};
 ghost use Rattle.hose_graph.specs.declared.command.Reply.TheVariants.{LinkState, Refused, Shown, Stale, Vpns};
-ghost use Rattle.hose_proto.specs.Fields.{a_number, a_service, no_more, pair_word, words_told};
-ghost use Rattle.hose_proto.specs.steps.ReplyLines.{IsOfKind, IsReply};
+ghost use Rattle.hose_proto.specs.ReplyWords.{pair_word, service_words};
 ghost use Rattle.hose_proto.specs.ReplyText.{line_of, node_text, reply_text, spaced};
 ghost use Rattle.hose_graph.specs.steps.Naming.{NamesPlaces};
-ghost use Rattle.hose_words.specs.Words.{words_of};
 
 use crate::pieces::{add_ends, add_link, add_node, add_pairs};
 use hose_graph::{Amounts, Hose, NodeList, Reply, Topology, VpnList};
@@ -24,13 +22,7 @@ pub fn put_reply<S: Sink>(sink: &mut S, top: &Topology, reply: &Reply) -> Result
     ensures put { IsPut S.Sink sink.old sink.new (line_of (reply_text top.now reply.now)) result }
     ensures one_piece { length (line_of (reply_text top.now reply.now)) ≤ GATHER_LIMIT
         → OnOk result (S.pieces sink.new ≡ one_more (S.pieces sink.old)) }
-
-    // The words of the text tell this reply again.
-    ensures read_again { IsOfKind top.now reply.now
-        → IsReply top.now (words_of (reply_text top.now reply.now)) reply.now }
 {
-    // The call tells the proof what holds of each network: that its names are words.
-    let _nodes = top.nodes();
     let mut gather = Gather::new();
     add_reply(&mut gather, sink, top, reply);
     gather.add(sink, b"\n");
@@ -215,8 +207,8 @@ fn add_state<S: Sink>(
 
 // Adds whether a link is out of service, and an epoch.
 fn add_service<S: Sink>(gather: &mut Gather, sink: &mut S, out: bool, at: u64)
-    ensures { (network : Network) → IsAdded S.Sink gather.old sink.old gather.new sink.new
-        (spaced (words_told network (a_service (a_number no_more)) (out, (at, tt)))) }
+    ensures { IsAdded S.Sink gather.old sink.old gather.new sink.new
+        (spaced (service_words out at)) }
 {
     if out {
         add_last(gather, sink, b" out at ", at);

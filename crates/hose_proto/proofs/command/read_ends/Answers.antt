@@ -1,7 +1,7 @@
 use Rattle.std.proofs.Common.{subst}
 use Rattle.std.specs.List.Sorted.{IsPermutation}
 use Rattle.hose_proto.proofs.Hoses.{hose_made}
-use Rattle.hose_proto.proofs.Items.{new_ends_go_on}
+use Rattle.hose_proto.proofs.ListItems.{new_ends_go_on}
 use Rattle.hose_proto.proofs.command.read_ends.Goals as goal
 
 pub read_items-requires-clause-goes_on : goal.read_items-requires-clause-goes_on

@@ -1,6 +1,6 @@
 use Rattle.std.proofs.Common.{[], ◌∷◌, ◌++◌, codes, decimal, map}
 use Rattle.hose_io.proofs.Gathering.{IsAdded-next}
-use Rattle.hose_proto.specs.Fields.{pair_word}
+use Rattle.hose_proto.specs.ReplyWords.{pair_word}
 use Rattle.hose_proto.specs.ReplyText.{spaced}
 use Rattle.hose_proto.proofs.Spacing.{added_after, added_words, added_list}
 use Rattle.hose_proto.proofs.reply_text.add_priced.Goals as goal

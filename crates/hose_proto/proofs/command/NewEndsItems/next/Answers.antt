@@ -1,5 +1,5 @@
 use Rattle.std.proofs.Common.{◌∙◌, ℕ, Any, ◌≡◌, refl, sym, subst}
-use Rattle.hose_proto.proofs.Items.{ends_spelled}
+use Rattle.hose_proto.proofs.ListItems.{ends_spelled}
 use Rattle.hose_proto.proofs.command.NewEndsItems.next.Goals as goal
 
 pub returns-then-has_node : goal.returns-then-has_node

@@ -1,0 +1,7 @@
+use Rattle.std.proofs.Common.{refl}
+use Rattle.hose_replies.specs.declared.head.Head.TheVariants as head
+use Rattle.hose_replies.proofs.ReplyLemmas.{told_after}
+use Rattle.hose_replies.proofs.lines.read_stale.Goals as goal
+
+pub returns-clause-ok : goal.returns-clause-ok
+returns-clause-ok c = let read = c.in_ok-seen in told_after head.Stale (read.seen, (read.now, tt)) read.ensures.ok refl

@@ -1,0 +1,4 @@
+-- Steps of proofs: what no clause of the top calls names.
+pub mod Fields
+pub mod Reading
+pub mod ReplyLines
