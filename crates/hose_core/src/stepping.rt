@@ -5,8 +5,8 @@ ghost use Rattle.hose_graph.specs.declared.command.Command.{Command};
 ghost use Rattle.hose_graph.specs.declared.limits.TheConstants.{MOST_QUOTES};
 ghost use Rattle.hose_law.specs.Quotes.{free_number};
 ghost use Rattle.hose_book.specs.steps.Commit.{IsMet};
-ghost use Rattle.hose_core.specs.steps.Holding.{IsMadeAt, quotes_of};
-ghost use Rattle.hose_core.specs.steps.Stepping.{HaveAnswered, HoldsNothing, Steps, committed_of};
+ghost use Rattle.hose_core.specs.steps.Holding.{AreAllKept, IsMadeAt, quotes_of};
+ghost use Rattle.hose_core.specs.steps.Stepping.{HaveAnswered, HoldsNothing, IsSameOrNext, Steps, committed_of};
 
 use crate::admitting::{Admission, admit_with_rows};
 use crate::by_customer::QuotesByCustomer;
@@ -23,6 +23,7 @@ use hose_graph::{Command, Hose, Name, Reply};
 use hose_paths::{RowMaker, RowTable};
 use std::alloc::Global;
 use std::marker::Model;
+use std::mem::swap;
 
 /// A book that takes entries, with the quotes that each customer holds.
 ///
@@ -36,8 +37,8 @@ pub struct Core<K: Books + Drop> {
 }
 
 impl<K: Books + Drop> Model for Core<K> {
-    ghost use Rattle.std.specs.Prelude.{◌≡◌, ℕ, IfSome, List};
-    ghost use Rattle.hose_core.specs.steps.Holding.{AreKept, State, quotes_in};
+    ghost use Rattle.std.specs.Prelude.{◌≡◌, IfSome};
+    ghost use Rattle.hose_core.specs.steps.Holding.{AreAllKept, State};
 
     ghost Value = { State K };
 
@@ -46,7 +47,7 @@ impl<K: Books + Drop> Model for Core<K> {
     // What is held was decided on this network, at a book that this one came from. What rows are
     // kept are of this network, so that no plan has to compare it with theirs.
     ghost invariant = { λ core. let ledger = K.ledger core.books in
-        ((customer : List ℕ) → AreKept ledger (quotes_in core.quotes customer))
+        AreAllKept ledger core.quotes
         × IfSome core.table (λ table. table.network ≡ ledger.network) };
 }
 
@@ -105,6 +106,33 @@ impl<K: Books + Drop> Core<K> {
         ensures names { NamesPlaces (K.ledger self.old.books).network result }
     {
         dispatch(self, alloc, customer, command, rows)
+    }
+
+    /// The reply to a command of a customer who holds these quotes, in place of those that the core
+    /// keeps, as in a session whose quotes are its own.
+    pub fn step_for<R: RowMaker>(
+        &mut self,
+        alloc: Global,
+        customer: &Name,
+        quotes: &mut QuotesByCustomer,
+        command: Command,
+        rows: &mut R,
+    ) -> Reply
+        requires asks { AsksOf (K.ledger self.old.books).network command }
+        requires kept { AreAllKept (K.ledger self.old.books) quotes.old }
+        ensures step { Steps K.Books (record { books = self.old.books; quotes = quotes.old })
+            (record { books = self.new.books; quotes = quotes.new }) customer.now command result }
+        ensures network { (K.ledger self.new.books).network ≡ (K.ledger self.old.books).network }
+        ensures met { IsMet (K.frame self.old.books) (committed_of result)
+            (K.frame self.new.books) }
+        ensures names { NamesPlaces (K.ledger self.old.books).network result }
+        ensures kept { AreAllKept (K.ledger self.new.books) quotes.new }
+        ensures goes { IsSameOrNext (K.ledger self.old.books) (K.ledger self.new.books) }
+    {
+        swap(&mut self.quotes, quotes);
+        let reply = dispatch(self, alloc, customer, command, rows);
+        swap(&mut self.quotes, quotes);
+        reply
     }
 
     // Holds a quote under a number, and tells it.

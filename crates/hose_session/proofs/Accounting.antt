@@ -18,7 +18,7 @@ use Rattle.hose_session.specs.Accounts.{AccountFor, AreServedAlong, none_served,
 use Rattle.hose_session.specs.steps.Accounts.{ComeTo}
 use Rattle.hose_session.specs.Session.{IsSession}
 use Rattle.hose_session.specs.steps.Session.{ServesSession}
-use Rattle.hose_session.specs.SessionLines.{SaysAfter}
+use Rattle.hose_greeting.specs.SessionLines.{SaysAfter}
 use Rattle.hose_talk.specs.Talk.{Telling, TellsOf}
 use Rattle.hose_law.specs.Transcript.{SessionLine}
 use Rattle.hose_session.specs.declared.ending.SessionEnd.{SessionEnd}

@@ -18,7 +18,7 @@ use Rattle.hose_turn.specs.Known.{Known}
 use Rattle.hose_session.specs.Session.{AnswersUpTo, IsSession}
 use Rattle.hose_session.specs.steps.Session.{IsGreeted, ServesAlong}
 use Rattle.hose_talk.specs.Talk.{Telling, TellsOf}
-use Rattle.hose_session.specs.SessionLines.{SaysAfter, SaysFirst, greeting_grammar}
+use Rattle.hose_greeting.specs.SessionLines.{SaysAfter, SaysFirst, greeting_grammar}
 use Rattle.hose_session.specs.declared.ending.SessionEnd.{SessionEnd}
 use Rattle.hose_session.specs.declared.ending.SessionEnd.TheVariants as session_end
 use Rattle.hose_session.proofs.Conversing.{BeginSo, IsGreets, begins_so}

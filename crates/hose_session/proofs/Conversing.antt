@@ -27,10 +27,11 @@ use Rattle.hose_shared.specs.steps.Along.{HasEntryAt}
 use Rattle.hose_shared.specs.steps.Sharing.{IsSamePass}
 use Rattle.hose_turn.specs.Known.{Known}
 use Rattle.hose_session.specs.steps.Ending.{end_after, over_at}
-use Rattle.hose_session.specs.steps.Exchanges.{AnswersAt, ComesAlong, GoesAlong, IsAt, IsExchange, IsPhaseAt, SaysAt, ShownSays}
+use Rattle.hose_session.specs.steps.Exchanges.{AnswersAt, ComesAlong, GoesAlong, IsAt, IsExchange, IsPhaseAt, SaysAt}
+use Rattle.hose_greeting.specs.steps.Shown.{ShownSays}
 use Rattle.hose_session.specs.Session.{AnswersUpTo, IsServing, IsSession, IsWaiting, MayGoOn, WasLeft, WasRefused}
 use Rattle.hose_session.specs.steps.Session.{ServesSession}
-use Rattle.hose_session.specs.SessionLines.{SaysAfter}
+use Rattle.hose_greeting.specs.SessionLines.{SaysAfter}
 use Rattle.hose_session.specs.declared.client.Client.{Client}
 use Rattle.hose_session.specs.declared.client.Phase.{Phase}
 use Rattle.hose_session.specs.declared.client.Phase.TheVariants as phase

@@ -1,19 +1,14 @@
 -- Exchanges along a pass.
-use Rattle.std.proofs.Common.{◌≡◌, inl, inr, ℕ, ◌+◌, ◌<◌, ◌≤◌, List, [], length, None, Some, refl, sym, ap, subst, arith, append-nil, Bor, ◌∙◌}
+use Rattle.std.proofs.Common.{◌≡◌, inl, inr, ℕ, ◌+◌, ◌<◌, ◌≤◌, List, [], length, None, Some, refl, sym, ap, subst, arith, append-nil, ◌∙◌}
 use Rattle.std.proofs.lemmas.List.Elements.{All-nil}
-use Rattle.hose_words.specs.steps.Lines.{Shows}
-use Rattle.hose_words.specs.declared.lines.TheConstants.{LINE_LIMIT}
 use Rattle.hose_words.specs.declared.lines.Line.{Line}
-use Rattle.hose_words.specs.declared.lines.Line.TheVariants.{Text}
 use Rattle.hose_graph.specs.steps.Naming.{NamesPlaces}
 use Rattle.hose_graph.specs.Network.{Network}
 use Rattle.hose_graph.specs.declared.command.Command.{Command}
 use Rattle.hose_graph.specs.declared.command.Reply.{Reply}
-use Rattle.hose_graph.specs.declared.command.Reply.TheVariants.{Welcome, Memory, Bad, Long, Bye}
+use Rattle.hose_graph.specs.declared.command.Reply.TheVariants.{Welcome, Disk, Memory, Bad, Long, Bye}
 use Rattle.hose_book.specs.declared.books.Committed.TheVariants.{Disk as Failing}
 use Rattle.hose_law.specs.Quotes.{Holding, none_held}
-use Rattle.hose_law.specs.ReplyKind.{ReplyKind, failures_of, kind_of}
-use Rattle.hose_law.specs.ReplyKind.ReplyKind.{ByTheBook, ForDisk, ForMemory, ForNoCommand}
 use Rattle.hose_law.specs.Script.{one_if_disk}
 use Rattle.hose_law.specs.Transcript.{IsPlainReply, IsSessionStep, SessionLine, Stage}
 use Rattle.hose_law.specs.Transcript.SessionLine.{Greets, Asks, IsBad, IsLong, Leaves, Unread}
@@ -21,31 +16,23 @@ use Rattle.hose_law.specs.Transcript.Stage.{Left, Serving, Waiting}
 use Rattle.hose_law.specs.Transcript.Stage.{Refused as StageRefused}
 use Rattle.hose_law.proofs.Fronts.{prefix_length}
 use Rattle.hose_core.specs.steps.Holding.{AreHeld}
-use Rattle.hose_core.specs.steps.Stepping.{committed_for, committed_of}
+use Rattle.hose_core.specs.steps.Stepping.{committed_of}
 use Rattle.hose_shared.specs.steps.Along.{HasEntryAt, StepsAlong}
 use Rattle.hose_shared.specs.steps.Providing.{Customer, Provides}
 use Rattle.hose_shared.specs.steps.Sharing.{HasSeenMore, IsSamePass}
 use Rattle.hose_turn.specs.Known.{Known}
-use Rattle.hose_session.specs.steps.Exchanges.{AnswersAt, IsAt, IsExchange, IsPhaseAt, ServesClientOn, ShownSays}
-use Rattle.hose_session.specs.SessionLines.{SaysFirst, SaysLater}
+use Rattle.hose_session.specs.steps.Exchanges.{AnswersAt, IsAt, IsExchange, IsPhaseAt, ServesClientOn}
+use Rattle.hose_greeting.specs.steps.Shown.{ShownSays}
+use Rattle.hose_greeting.specs.SessionLines.{SaysFirst, SaysLater}
 use Rattle.hose_session.specs.declared.client.Client.{Client}
 use Rattle.hose_session.specs.declared.client.Phase.{Phase}
 use Rattle.hose_session.specs.declared.client.Phase.TheVariants as phase
 use Rattle.hose_session.specs.declared.client.Progress.{Progress}
 
--- what is known of a line that is shown holds of its bytes
-pub text_is : (Is : List ℕ → Type 0) (line : Line) (text : Bor (List ℕ)) → line ≡ Text text → Is text.now → (bytes : List ℕ) → Shows line bytes → (length bytes ≤ LINE_LIMIT) × Is bytes
-text_is Is line text same is bytes shows = let here = subst (λ (l : Line). Shows l bytes) same shows in (here.0, subst Is here.1 is)
-
 -- a failure of the disk is told only where the pass has met more faults
 told_faults : (old new : ℕ) (reply : Reply) → (committed_of reply ≡ Failing → old < new) → old ≤ new → old + one_if_disk reply ≤ new
-told_faults old new reply failed more = at (kind_of reply) failed
-  where
-    at : (kind : ReplyKind) → (committed_for kind ≡ Failing → old < new) → old + failures_of kind ≤ new
-    at ByTheBook failed = omega (arith, more)
-    at (ForDisk epoch) failed = omega (arith, failed refl)
-    at ForMemory failed = omega (arith, more)
-    at ForNoCommand failed = omega (arith, more)
+told_faults old new (Disk epoch) failed more = omega (arith, failed refl)
+told_faults old new reply failed more = omega (arith, more)
 
 module _ (network : Network) (old new : Known) (customer : List ℕ) (held : Holding) (command : Command) (answer : Reply) (along : StepsAlong network customer held command answer old new) where
   within : along.next ≤ length new.seen

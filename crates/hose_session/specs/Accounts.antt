@@ -9,7 +9,7 @@ use Rattle.hose_law.specs.Script.{disks_in}
 use Rattle.hose_turn.specs.Known.{Known}
 use Rattle.hose_talk.specs.Talk.{TellsOf}
 use Rattle.hose_session.specs.Session.{IsSession}
-use Rattle.hose_session.specs.SessionLines.{SaysAfter}
+use Rattle.hose_greeting.specs.SessionLines.{SaysAfter}
 use Rattle.hose_session.specs.declared.ending.SessionEnd.{SessionEnd}
 use Rattle.hose_session.specs.declared.ending.SessionEnd.TheVariants.{TooLong}
 

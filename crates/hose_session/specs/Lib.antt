@@ -1,4 +1,3 @@
 pub mod Accounts
 pub mod Session
-pub mod SessionLines
 pub mod steps

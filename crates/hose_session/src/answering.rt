@@ -10,10 +10,10 @@ ghost use Rattle.hose_session.specs.steps.Ending.{over_at};
 ghost use Rattle.hose_session.specs.steps.Exchanges.{AnswersAt, IsAt, ServesClientOn};
 
 use crate::client::{Client, Phase, Progress};
-use crate::reading::{greeting_of, is_bye};
 use hose_core::dispatch;
 use hose_disk::Disk;
 use hose_graph::{Command, Reply};
+use hose_greeting::{greeting_of, is_bye};
 use hose_paths::RowMaker;
 use hose_pool::Gate;
 use hose_proto::{ReadFault, read_command};

@@ -16,7 +16,6 @@
 mod answering;
 mod client;
 mod ending;
-mod reading;
 mod session;
 
 pub use answering::Session;

@@ -98,7 +98,7 @@ impl<'a, W: Wait, D: Disk, B: Begun<D>, G: Gate, R: RowMaker> Answers
     ghost use Rattle.hose_proto.specs.ReplyText.{line_of, reply_text};
     ghost use Rattle.hose_turn.specs.Known.{Known};
     ghost use Rattle.hose_session.specs.steps.Exchanges.{CanBeServed, ComesAlong, is_over};
-    ghost use Rattle.hose_session.specs.SessionLines.{SaysAfter};
+    ghost use Rattle.hose_greeting.specs.SessionLines.{SaysAfter};
 
     ghost said = { SessionLine };
 

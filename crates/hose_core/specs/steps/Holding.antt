@@ -95,6 +95,10 @@ abbrev pub quotes_in : AllQuotes → List ℕ → List (Option Quote)
 quotes_in all customer =
     unwrap_or (lookup (is_at (slice_cmp nat_cmp customer)) all) none_held
 
+-- what each customer holds was made before
+abbrev pub AreAllKept : Ledger → AllQuotes → Type 0
+AreAllKept ledger all = (customer : List ℕ) → AreKept ledger (quotes_in all customer)
+
 -- a customer's quotes are these now, and those of the others are as before
 abbrev pub HoldsNow : AllQuotes → List ℕ → List (Option Quote) → AllQuotes → Type 0
 HoldsNow old customer quotes new = (name : List ℕ)

@@ -1,21 +1,20 @@
 -- Exchanges: a line of a session and its reply, one after another.
-use Rattle.std.specs.Prelude.{◌≡◌, ℕ, ◌+◌, ◌≤◌, All, Bool, true, List, ◌++◌, length, Option, None, Some, Result, Ok, Err}
-use Rattle.hose_words.specs.steps.Lines.{Shows}
+use Rattle.std.specs.Prelude.{◌≡◌, ℕ, ◌+◌, ◌≤◌, All, Bool, true, List, ◌++◌, length, Option, None, Some}
 use Rattle.hose_words.specs.declared.lines.Line.{Line}
 use Rattle.hose_graph.specs.Network.{Network}
 use Rattle.hose_graph.specs.declared.command.Reply.{Reply}
 use Rattle.hose_graph.specs.declared.entry.Entry.{Entry}
 use Rattle.hose_law.specs.Quotes.{Holding}
 use Rattle.hose_law.specs.Script.{disks_in, one_if_disk}
-use Rattle.hose_law.specs.Transcript.{IsPlainReply, IsSessionStep, IsTranscript, SessionLine, Stage, session_state}
-use Rattle.hose_law.specs.Transcript.SessionLine.{Greets}
+use Rattle.hose_law.specs.Transcript.{IsSessionStep, IsTranscript, SessionLine, Stage, session_state}
 use Rattle.hose_law.specs.Transcript.Stage.{Left, Refused, Serving, Waiting}
 use Rattle.hose_core.specs.steps.Holding.{AreHeld}
 use Rattle.hose_shared.specs.steps.Along.{HasEntryAt}
 use Rattle.hose_shared.specs.steps.Sharing.{IsPassOf, IsSamePass, SharedBook}
 use Rattle.hose_turn.specs.Known.{Known}
 use Rattle.hose_session.specs.steps.Ending.{over_at}
-use Rattle.hose_session.specs.SessionLines.{SaysFirst, SaysLater}
+use Rattle.hose_greeting.specs.SessionLines.{SaysFirst, SaysLater}
+use Rattle.hose_greeting.specs.steps.Shown.{ShownSays}
 use Rattle.hose_session.specs.declared.client.Client.{Client}
 use Rattle.hose_session.specs.declared.client.Phase.{Phase}
 use Rattle.hose_session.specs.declared.client.Phase.TheVariants as phase
@@ -41,16 +40,6 @@ pub record ServesClientOn (network : Network) (old new : Known) (client client' 
       (Serving client.name left)
   pub holds : AreHeld network 0 new.seen left client'.quotes
   pub name : client'.name ≡ client.name
-
--- whatever bytes a line shows say this
-abbrev pub ShownSays : (List ℕ → SessionLine → Type 0) → Line → SessionLine → Type 0
-ShownSays Is line said = (bytes : List ℕ) → Shows line bytes → Is bytes said
-
--- a first line is a greeting, or is refused with this reply
-abbrev pub IsGreetedBy : Line → Result (List ℕ) Reply → Type 0
-IsGreetedBy line (Ok name) = ShownSays SaysFirst line (Greets name)
-IsGreetedBy line (Err reply) = (said : SessionLine) × ShownSays SaysFirst line said
-    × IsPlainReply said reply
 
 -- ---- how far a session is
 

@@ -16,7 +16,7 @@ use Rattle.hose_law.specs.Transcript.SessionLine.{Greets}
 use Rattle.hose_shared.specs.steps.Along.{HasEntryAt}
 use Rattle.hose_shared.specs.steps.Sharing.{IsSamePass}
 use Rattle.hose_turn.specs.Known.{Known}
-use Rattle.hose_session.specs.SessionLines.{SaysAfter, SaysFirst}
+use Rattle.hose_greeting.specs.SessionLines.{SaysAfter, SaysFirst}
 use Rattle.hose_session.specs.declared.ending.SessionEnd.{SessionEnd}
 use Rattle.hose_session.specs.Session.{IsSession}
 

@@ -1,7 +1,7 @@
 use Rattle.std.proofs.Common.{subst}
 use Rattle.hose_core.proofs.HeldQuotes.{none_are_held}
 use Rattle.hose_shared.proofs.Passes.{more_same}
-use Rattle.hose_session.specs.steps.Exchanges.{IsGreetedBy}
+use Rattle.hose_greeting.specs.steps.Shown.{IsGreetedBy}
 use Rattle.hose_session.proofs.Exchanging.{greeted_at, greeted_exchange, refused_at, refused_exchange}
 use Rattle.hose_session.proofs.answering.Session.greet.Goals as goal
 

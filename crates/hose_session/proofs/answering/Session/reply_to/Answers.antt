@@ -9,10 +9,11 @@ use Rattle.hose_law.specs.Transcript.{Stage}
 use Rattle.hose_law.specs.Transcript.SessionLine.{Asks, IsBad, IsLong, Unread}
 use Rattle.hose_proto.specs.Command.{IsCommand, TakesMemory, command_grammar, verb_word}
 use Rattle.hose_shared.proofs.Passes.{more_same}
-use Rattle.hose_session.specs.SessionLines.{IsBye}
+use Rattle.hose_greeting.specs.SessionLines.{IsBye}
 use Rattle.hose_session.specs.steps.Exchanges.{AnswersAt, IsPhaseAt}
 use Rattle.hose_session.specs.declared.client.Phase.{Phase}
-use Rattle.hose_session.proofs.Exchanging.{answers_client, bad_exchange, bye_exchange, left_at, long_exchange, memory_exchange, served_at, text_is}
+use Rattle.hose_session.proofs.Exchanging.{answers_client, bad_exchange, bye_exchange, left_at, long_exchange, memory_exchange, served_at}
+use Rattle.hose_greeting.proofs.Shown.{text_is}
 use Rattle.hose_session.proofs.answering.Session.reply_to.Goals as goal
 
 pub returns-in-Waiting-clause-answers : goal.returns-in-Waiting-clause-answers

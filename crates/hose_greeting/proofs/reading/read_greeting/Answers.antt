@@ -3,8 +3,8 @@ use Rattle.std.proofs.lemmas.Result.{err_from_is_err_and}
 use Rattle.hose_words.specs.steps.Cursor.{IsWrong}
 use Rattle.hose_words.specs.Words.{words_of}
 use Rattle.hose_words.proofs.Forms.{wrong_at_start, wrong_later}
-use Rattle.hose_session.specs.SessionLines.{greeting_form}
-use Rattle.hose_session.proofs.reading.read_greeting.Goals as goal
+use Rattle.hose_greeting.specs.SessionLines.{greeting_form}
+use Rattle.hose_greeting.proofs.reading.read_greeting.Goals as goal
 
 pub returns-in_err-finish-clause-bad : goal.returns-in_err-finish-clause-bad
 returns-in_err-finish-clause-bad c =

@@ -2,8 +2,8 @@
 ghost use Rattle.std.specs.Prelude.{◌↔◌, [], IfErr, IfOk, IsTrue};
 ghost use Rattle.hose_words.specs.Grammar.{IsFirstNotAllowed};
 ghost use Rattle.hose_words.specs.Words.{words_of};
-ghost use Rattle.hose_session.specs.SessionLines.{IsBye, IsGreeting, greeting_grammar};
-ghost use Rattle.hose_session.specs.steps.Exchanges.{IsGreetedBy};
+ghost use Rattle.hose_greeting.specs.SessionLines.{IsBye, IsGreeting, greeting_grammar};
+ghost use Rattle.hose_greeting.specs.steps.Shown.{IsGreetedBy};
 
 use hose_graph::{Name, Reply};
 use hose_proto::read_name;

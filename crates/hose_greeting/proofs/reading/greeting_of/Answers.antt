@@ -2,9 +2,9 @@ use Rattle.std.proofs.Common.{[], refl}
 use Rattle.hose_words.specs.Grammar.{IsFirstNotAllowed}
 use Rattle.hose_words.specs.Words.{words_of}
 use Rattle.hose_law.specs.Transcript.SessionLine.{IsBad}
-use Rattle.hose_session.specs.SessionLines.{greeting_grammar}
-use Rattle.hose_session.proofs.Exchanging.{text_is}
-use Rattle.hose_session.proofs.reading.greeting_of.Goals as goal
+use Rattle.hose_greeting.specs.SessionLines.{greeting_grammar}
+use Rattle.hose_greeting.proofs.Shown.{text_is}
+use Rattle.hose_greeting.proofs.reading.greeting_of.Goals as goal
 
 pub returns-in-Err : goal.returns-in-Err
 returns-in-Err c = (

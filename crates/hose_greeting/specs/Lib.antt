@@ -1,0 +1,2 @@
+pub mod SessionLines
+pub mod steps
