@@ -1,0 +1,204 @@
+// Who numbers the lines of many connections.
+ghost use Rattle.std.specs.Prelude.{◌≡◌, ℕ, List, Option, ⊤};
+ghost use Rattle.cases_host.specs.Numbers.{Numbering, is_new_at, is_over_at, stage_at, text_of};
+
+use hose_host::HostAnswers;
+use hose_io::{Failed, Sink, write_all};
+use hose_words::Line;
+use itoa::Buffer;
+use std::alloc::{AllocError, Global};
+use std::marker::Model;
+
+/// How many places it knows.
+const PLACES: usize = 8;
+
+/// What is known of who is at a place.
+#[derive(Clone, Copy, Debug, PartialEq, Eq)]
+pub enum Stage {
+    New,
+    Known,
+    Over,
+}
+
+/// The text of a reply, where there was memory for it.
+#[derive(Drop)]
+pub struct Numbered {
+    text: Option<Vec<u8>>,
+}
+
+impl Model for Numbered {
+    ghost use Rattle.std.specs.Prelude.{ℕ, List, Option, option_map};
+
+    ghost Value = { Option (List ℕ) };
+
+    ghost view = { λ reply. option_map (λ text. text.items) reply.text };
+}
+
+/// It answers each line by its number, the place and the door, a `+` at a connection's first line,
+/// and the line. After `bye` a connection is over, after `end` all are. At the first eight places
+/// alone it knows who is new there.
+#[derive(Drop)]
+pub struct Counter {
+    alloc: Global,
+    count: u64,
+    stages: Vec<Stage>,
+    ended: bool,
+}
+
+impl Model for Counter {
+    ghost use Rattle.cases_host.specs.Numbers.{Numbering};
+
+    ghost Value = { Numbering };
+
+    ghost view = { λ counter. record {
+      count = counter.count;
+      stages = counter.stages.items;
+      ended = counter.ended;
+    } };
+}
+
+impl Counter {
+    pub fn new(alloc: Global) -> Result<Counter, AllocError> {
+        let mut stages = Vec::new(alloc);
+        for _ in 0..PLACES {
+            stages.push(Stage::Known)?;
+        }
+        Ok(Counter {
+            alloc,
+            count: 0,
+            stages,
+            ended: false,
+        })
+    }
+
+    // What is known of who is at a place.
+    fn stage(&self, place: usize) -> Stage
+        ensures { result ≡ stage_at self.now.stages place }
+    {
+        match self.stages.get(place) {
+            Some(stage) => *stage,
+            None => Stage::Known,
+        }
+    }
+}
+
+impl HostAnswers for Counter {
+    type Reply = Numbered;
+
+    ghost use Rattle.std.specs.Prelude.{ℕ, List, ⊤};
+    ghost use Rattle.cases_host.specs.Numbers.{is_new_at, is_over_at, stage_at, text_of};
+
+    ghost said = { ⊤ };
+
+    ghost subject = { ⊤ };
+
+    ghost about = { λ _. tt };
+
+    ghost says = { λ _ _ _ _ _. ⊤ };
+
+    ghost text = { λ _ reply. text_of reply };
+
+    ghost origin = { ⊤ };
+
+    ghost comes = { λ _ _ _. ⊤ };
+
+    ghost fits = { λ _. ⊤ };
+
+    ghost can_put = { λ _ _. ⊤ };
+
+    ghost is_new = { λ counter place. is_new_at (stage_at counter.stages place) };
+
+    ghost over = { λ counter place. is_over_at (stage_at counter.stages place) };
+
+    ghost ends = { λ counter. counter.ended };
+
+    ghost count = { λ counter. counter.count };
+
+    fn begin(&mut self, _door: usize, place: usize) -> Result<(), AllocError> {
+        if place >= self.stages.len() {
+            return Err(AllocError);
+        }
+        self.stages[place] = Stage::New;
+        Ok(())
+    }
+
+    fn leave(&mut self, place: usize) {
+        if place < self.stages.len() {
+            self.stages[place] = Stage::Known;
+        }
+    }
+
+    fn answer(&mut self, place: usize, door: usize, line: Line<'_>) -> Numbered {
+        let is_first = self.stage(place) == Stage::New;
+        self.count = self.count.saturating_add(1);
+        let stage = if is_bye(line) {
+            Stage::Over
+        } else {
+            Stage::Known
+        };
+        if place < self.stages.len() {
+            self.stages[place] = stage;
+        }
+        self.ended = is_end(line);
+        Numbered {
+            text: number_line(self.alloc, self.count, place, door, is_first, line).ok(),
+        }
+    }
+
+    fn put<O: Sink>(&self, output: &mut O, reply: &Numbered) -> Result<(), Failed> {
+        match &reply.text {
+            Some(text) => write_all(output, text),
+            None => write_all(output, b"no memory\n"),
+        }
+    }
+
+    fn counted(&self) -> u64 {
+        self.count
+    }
+
+    fn is_over(&self, place: usize) -> bool {
+        self.stage(place) == Stage::Over
+    }
+
+    fn is_ending(&self) -> bool {
+        self.ended
+    }
+}
+
+fn is_bye(line: Line<'_>) -> bool {
+    match line {
+        Line::Text(bytes) => bytes == b"bye".as_slice(),
+        Line::Long => false,
+    }
+}
+
+fn is_end(line: Line<'_>) -> bool {
+    match line {
+        Line::Text(bytes) => bytes == b"end".as_slice(),
+        Line::Long => false,
+    }
+}
+
+fn number_line(
+    alloc: Global,
+    number: u64,
+    place: usize,
+    door: usize,
+    is_first: bool,
+    line: Line<'_>,
+) -> Result<Vec<u8>, AllocError> {
+    let mut buffer = Buffer::new();
+    let mut text = Vec::new(alloc);
+    text.extend_from_slice(buffer.format(number).as_bytes())?;
+    text.extend_from_slice(b" at ")?;
+    text.extend_from_slice(buffer.format(place).as_bytes())?;
+    text.extend_from_slice(b" by ")?;
+    text.extend_from_slice(buffer.format(door).as_bytes())?;
+    text.extend_from_slice(if is_first { b"+: " } else { b" : " })?;
+    text.extend_from_slice(match line {
+        Line::Text(bytes) => bytes,
+        Line::Long => b"(long)",
+    })?;
+    text.extend_from_slice(b"\n")?;
+    Ok(text)
+}

@@ -1,0 +1,206 @@
+// How a host ends.
+ghost use Rattle.std.specs.Bool.{MatchBool};
+ghost use Rattle.std.specs.Prelude.{◌≡◌, ◌≢◌, ◌↔◌, ◌<◌, ◌≤◌, ◌+◌, ℕ, List, [], ◌∷◌, ◌++◌, true, false, drop, length, max, IfSome, IsTrue, MatchOption};
+ghost use Rattle.hose_net.specs.Story.{IsHosted};
+ghost use Rattle.hose_host.specs.steps.Keeping.{Keeps, KeepsAll, at, hall, terms_of};
+ghost use Rattle.hose_host.specs.steps.Seats.{AllFinished, Anyhow, AtRest, Calm, Finished, FinishedBelow, Freed, FreedBelow, Gone, GrowsByLost, IsSaid, Keeping, Quiet, Resting};
+
+use crate::hosting::greater;
+use crate::sending::{free_all, leave, let_go, send};
+use crate::serving::take_kept;
+use crate::{HostAnswers, Places, Seat};
+use hose_net::{Connections, Ready};
+
+/// How many times at most the network is asked at the end who takes more of what is to be sent.
+pub const LAST_ROUNDS: usize = 1_000_000;
+
+// Answers all whole lines that were got, at all places, unless no line is answered any more.
+pub fn finish_all<N: Connections, A: HostAnswers>(
+    network: &mut N,
+    answers: &mut A,
+    seats: &mut Vec<Seat>,
+    free: &mut Vec<usize>,
+    heard: u64,
+)
+    requires { A.fits answers.old }
+    ensures keeps { KeepsAll N.did A.HostAnswers Resting (AllFinished (A.ends answers.new))
+        (hall network.old answers.old seats.old.items heard)
+        (hall network.new answers.new seats.new.items heard) }
+    ensures fits { A.fits answers.new }
+{
+    for place in 0..seats.len() {
+        finish_at(network, answers, seats, free, heard, place);
+    }
+}
+
+// Answers all whole lines that were got at a place.
+fn finish_at<N: Connections, A: HostAnswers>(
+    network: &mut N,
+    answers: &mut A,
+    seats: &mut Vec<Seat>,
+    free: &mut Vec<usize>,
+    heard: u64,
+    place: usize,
+)
+    requires { A.fits answers.old }
+    ensures keeps { KeepsAll N.did A.HostAnswers (FinishedBelow (A.ends answers.old) place)
+        (FinishedBelow (A.ends answers.new) (place + 1))
+        (hall network.old answers.old seats.old.items heard)
+        (hall network.new answers.new seats.new.items heard) }
+    ensures same { length seats.new.items ≡ length seats.old.items }
+    ensures fits { A.fits answers.new }
+{
+    let Some(seat) = seats.get_mut(place) else {
+        return;
+    };
+    if finish_seat(network, answers, heard, place, seat) {
+        let _ = free.push(place);
+    }
+}
+
+// Answers all whole lines that a connection gave, and says whether it was let go.
+fn finish_seat<N: Connections, A: HostAnswers>(
+    network: &mut N,
+    answers: &mut A,
+    heard: u64,
+    place: usize,
+    seat: &mut Seat,
+) -> bool
+    requires { A.fits answers.old }
+    ensures keeps { Keeps N.did A.HostAnswers (AtRest heard seat.old.kept)
+        (Finished (A.ends answers.new) heard) place heard
+        (at network.old answers.old seat.old seat.old.kept)
+        (at network.new answers.new seat.new seat.new.kept) }
+    ensures ends { A.ends answers.new ≡ false → A.ends answers.old ≡ false }
+    ensures fits { A.fits answers.new }
+{
+    if seat.is_lost() {
+        return false;
+    }
+    take_kept(network, answers, heard, place, seat, usize::MAX, usize::MAX);
+    send(network, answers, place, seat);
+    if is_finished(answers, seat) {
+        return false;
+    }
+    seat.lose();
+    leave(network, answers, place, seat);
+    true
+}
+
+// Whether a connection is not given up, and no lines of it are left or none is answered any more.
+fn is_finished<A: HostAnswers>(answers: &A, seat: &Seat) -> bool
+    ensures { result ≡ true → (seat.now.lost ≡ false)
+        × (A.ends answers.now ≡ false → seat.now.kept ≡ []) }
+{
+    !seat.is_lost() && (answers.is_ending() || !seat.has_kept())
+}
+
+// Sends what is to be sent to those who take it, while the network tells who does.
+pub fn write_out<N: Connections, A: HostAnswers>(
+    network: &mut N,
+    answers: &mut A,
+    places: &mut Places,
+)
+    requires { A.fits answers.old }
+    ensures keeps { KeepsAll N.did A.HostAnswers (AllFinished true) (AllFinished true)
+        (hall network.old answers.old places.old.seats.items places.old.heard)
+        (hall network.new answers.new places.new.seats.items places.new.heard) }
+    ensures ends { A.ends answers.new ≡ A.ends answers.old }
+    ensures fits { A.fits answers.new }
+{
+    network.end_soon();
+    let mut out = 0;
+    for _ in 0..LAST_ROUNDS {
+        out = len_out(&places.seats, out);
+        if out == places.seats.len() {
+            return;
+        }
+        if !write_round(network, answers, places) {
+            return;
+        }
+    }
+}
+
+// From this place on, how far to go to the first to whom something is to be sent.
+fn len_out(seats: &[Seat], from: usize) -> usize {
+    for place in from..seats.len() {
+        if !seats[place].is_out() {
+            return place;
+        }
+    }
+    seats.len()
+}
+
+// Sends what is to be sent to who takes more, or says that the network tells to stop.
+fn write_round<N: Connections, A: HostAnswers>(
+    network: &mut N,
+    answers: &mut A,
+    places: &mut Places,
+) -> bool
+    requires { A.fits answers.old }
+    ensures keeps { KeepsAll N.did A.HostAnswers (AllFinished true) (AllFinished true)
+        (hall network.old answers.old places.old.seats.items places.old.heard)
+        (hall network.new answers.new places.new.seats.items places.new.heard) }
+    ensures ends { A.ends answers.new ≡ A.ends answers.old }
+    ensures fits { A.fits answers.new }
+{
+    match network.next() {
+        Ready::Stop => false,
+        Ready::Door(_) => true,
+        Ready::Place(place) => {
+            write_at(network, answers, &mut places.seats, &mut places.free, place);
+            true
+        }
+        Ready::Heard(upto) => {
+            places.heard = greater(places.heard, upto);
+            let heard = places.heard;
+            free_all(network, answers, &mut places.seats, &mut places.free, heard);
+            true
+        }
+    }
+}
+
+// Sends what is to be sent at a place.
+fn write_at<N: Connections, A: HostAnswers>(
+    network: &mut N,
+    answers: &mut A,
+    seats: &mut Vec<Seat>,
+    free: &mut Vec<usize>,
+    place: usize,
+)
+    requires { A.fits answers.old }
+    ensures keeps { (heard : ℕ) → KeepsAll N.did A.HostAnswers (AllFinished true) (AllFinished true)
+        (hall network.old answers.old seats.old.items heard)
+        (hall network.new answers.new seats.new.items heard) }
+    ensures ends { A.ends answers.new ≡ A.ends answers.old }
+    ensures fits { A.fits answers.new }
+{
+    let Some(seat) = seats.get_mut(place) else {
+        return;
+    };
+    if write_seat(network, answers, place, seat) {
+        let _ = free.push(place);
+    }
+}
+
+// Sends what is to be sent to a connection, and says whether it was let go.
+fn write_seat<N: Connections, A: HostAnswers>(
+    network: &mut N,
+    answers: &mut A,
+    place: usize,
+    seat: &mut Seat,
+) -> bool
+    requires { A.fits answers.old }
+    ensures keeps { (heard : ℕ) → Keeps N.did A.HostAnswers (Finished true heard)
+        (Finished true heard) place heard
+        (at network.old answers.old seat.old seat.old.kept)
+        (at network.new answers.new seat.new seat.new.kept) }
+    ensures ends { A.ends answers.new ≡ A.ends answers.old }
+    ensures fits { A.fits answers.new }
+{
+    if seat.is_lost() {
+        return false;
+    }
+    send(network, answers, place, seat);
+    let_go(network, answers, place, seat)
+}

@@ -1,0 +1,95 @@
+-- What the stories of a host come to: no reply goes out too early, who came by a door bound to a
+-- name says what is that name's, and the lines of a connection are one session.
+use Rattle.std.proofs.Common.{⊎_elim, ◌≡◌, ◌∙◌, ℕ, ◌<◌, ◌≤◌, arith, Bool, true, false, cond, eqb, List, [], ◌∷◌, ◌++◌, All, length, length-append, sym, ap, subst, rules}
+use Rattle.std.proofs.lemmas.Bool.{cases_eq}
+use Rattle.std.specs.List.{fold}
+use Rattle.std.specs.Prelude.{get_or, ⊤}
+use Rattle.std.proofs.lemmas.List.Elements.{All-head, All-nil, All-push, All-tail}
+use Rattle.hose_net.specs.Happening.{Came, Got, Happening, Heard, Left, Refused, Sent}
+use Rattle.hose_net.specs.Story.{Answers, Exchange, Happens, Hosts, IsHosted, Life, Step, Terms, began, waited, happened, answered, exchanges, heard_in, is_empty, life, lives, newcomer, nobody, texts_of}
+use Rattle.hose_net.proofs.Stories.{exchanges-happens, exchanges-push, life-answers, life-other_answers, life-push, served_now}
+
+module _ {L R : Type 0} (text : R → List ℕ) (heard : ℕ) where
+  early : (free waiting before after : List (Exchange L R)) (x : Exchange L R) → free ++ waiting ≡ before ++ x ∷ after → All (λ (e : Exchange L R). e.needs ≤ heard) free → length (texts_of text before) < length (texts_of text free) → x.needs ≤ heard
+  early [] waiting before after x is allowed less = absurd (omega (arith, less))
+  early (f ∷ free) waiting [] after x is allowed less =
+      let head : f ≡ x = search (rules, is) in
+      subst (λ (e : Exchange L R). e.needs ≤ heard) head (All-head (λ (e : Exchange L R). e.needs ≤ heard) f free allowed)
+  early (f ∷ free) waiting (b ∷ before) after x is allowed less =
+      let head : f ≡ b = search (rules, is) in
+      let tail : free ++ waiting ≡ before ++ x ∷ after = search (rules, is) in
+      early free waiting before after x tail (All-tail (λ (e : Exchange L R). e.needs ≤ heard) f free allowed)
+      (omega (arith, less, ap (λ (e : Exchange L R). length (text e.reply)) head, length-append (text b.reply) (texts_of text before), length-append (text f.reply) (texts_of text free)))
+
+module _ {L R : Type 0} (P : Exchange L R → Type 0) (place : ℕ) where
+  cond_own : (b : Bool) (x y : Life L R) → All P x.own → All P y.own → All P (cond b x y).own
+  cond_own true x y first second = first
+  cond_own false x y first second = second
+
+  own_on : (start : Life L R) (story : List (Step L R)) → All P start.own → All P (exchanges story) → All P (fold (lives place) start story).own
+  own_on start [] begun all = begun
+  own_on start (Happens (Came door at) ∷ story) begun all = own_on (lives place start (Happens (Came door at))) story (cond_own (eqb at place) (newcomer door) start (All-nil P) begun) all
+  own_on start (Happens (Got at bytes) ∷ story) begun all = own_on (lives place start (Happens (Got at bytes))) story (cond_own (eqb at place) (record start { given = start.given ++ bytes }) start begun begun) all
+  own_on start (Happens (Sent at bytes) ∷ story) begun all = own_on (lives place start (Happens (Sent at bytes))) story (cond_own (eqb at place) (record start { sent = start.sent ++ bytes; refused = false }) start begun begun) all
+  own_on start (Happens (Refused at) ∷ story) begun all = own_on (lives place start (Happens (Refused at))) story (cond_own (eqb at place) (record start { refused = true }) start begun begun) all
+  own_on start (Happens (Left at) ∷ story) begun all = own_on (lives place start (Happens (Left at))) story (cond_own (eqb at place) (record start { here = false }) start begun begun) all
+  own_on start (Happens (Heard upto) ∷ story) begun all = own_on start story begun all
+  own_on start (Answers exchange ∷ story) begun all = own_on (lives place start (Answers exchange)) story (cond_own (eqb exchange.place place) (record start { own = start.own ++ exchange ∷ [] }) start (All-push P start.own exchange begun (All-head P exchange (exchanges story) all)) begun) (All-tail P exchange (exchanges story) all)
+
+-- the first of these exchanges is the first of its connection, and no other is
+abbrev pub IsSession : {L R : Type 0} → List (Exchange L R) → Type 0
+IsSession [] = ⊤
+IsSession (x ∷ rest) = (x.first ≡ true) × All (λ later. later.first ≡ false) rest
+
+module _ {L R : Type 0} where
+  session_push : (own : List (Exchange L R)) (x : Exchange L R) → x.first ≡ is_empty own → IsSession own → IsSession (own ++ x ∷ [])
+  session_push [] x is session = (is, All-nil (λ (later : Exchange L R). later.first ≡ false))
+  session_push (y ∷ rest) x is session = (session.0, All-push (λ (later : Exchange L R). later.first ≡ false) rest x session.1 is)
+
+  cond_session : (b : Bool) (x y : Life L R) → IsSession x.own → IsSession y.own → IsSession (cond b x y).own
+  cond_session true x y first second = first
+  cond_session false x y first second = second
+
+  session_happens : (place : ℕ) (life : Life L R) (happening : Happening) → IsSession life.own → IsSession (lives place life (Happens happening)).own
+  session_happens place life (Came door at) session = cond_session (eqb at place) (newcomer door) life tt session
+  session_happens place life (Got at bytes) session = cond_session (eqb at place) (record life { given = life.given ++ bytes }) life session session
+  session_happens place life (Sent at bytes) session = cond_session (eqb at place) (record life { sent = life.sent ++ bytes; refused = false }) life session session
+  session_happens place life (Refused at) session = cond_session (eqb at place) (record life { refused = true }) life session session
+  session_happens place life (Left at) session = cond_session (eqb at place) (record life { here = false }) life session session
+  session_happens place life (Heard upto) session = session
+
+module _ {N L R : Type 0} (terms : Terms N L R) (first : N) where
+  -- of the exchanges of a connection the first alone is told as such
+  pub law_first : (story : List (Step L R)) (now : N) → Hosts terms first story now → (place : ℕ) → IsSession (life place story).own
+  law_first _ _ began place = tt
+  law_first _ _ (waited before did) place = law_first _ _ before place
+  law_first _ _ (happened {story} happening free before did served) place = subst (λ (l : Life L R). IsSession l.own) (sym (life-push place story (Happens happening))) (session_happens place (life place story) happening (law_first _ _ before place))
+  law_first _ _ (answered {story} exchange before is_first says served) place = ⊎_elim
+      (λ same. subst (λ (p : ℕ). IsSession (life p (story ++ Answers exchange ∷ [])).own) (sym same) (subst (λ (l : Life L R). IsSession l.own) (sym (life-answers exchange story)) (session_push (life exchange.place story).own exchange is_first (law_first _ _ before exchange.place))))
+      (λ apart. subst (λ (l : Life L R). IsSession l.own) (sym (life-other_answers place story exchange apart)) (law_first _ _ before place))
+      (cases_eq place exchange.place)
+
+  -- nothing of a reply is sent before all that stood when it was given was heard to be had
+  pub law_waits : (story : List (Step L R)) (now : N) → Hosts terms first story now → (place : ℕ) (before after : List (Exchange L R)) (exchange : Exchange L R) → (life place story).own ≡ before ++ exchange ∷ after → length (texts_of terms.text before) < length (life place story).sent → exchange.needs ≤ heard_in story
+  law_waits story now hosts place before after exchange is less =
+      let served = served_now terms first story now hosts place in
+      early terms.text (heard_in story) served.free served.waiting before after exchange (sym served.split ∙ is) served.allowed
+      (omega (arith, less, ap length served.sent, length-append (life place story).sent served.unsent))
+
+  -- if what a line says that came by a door is always such, then so is each exchange
+  pub all_such : (Such : ℕ → L → Type 0) → ((is_first : Bool) (door : ℕ) (line : List ℕ) (said : L) → terms.says is_first door line said → Such door said) → (story : List (Step L R)) (now : N) → Hosts terms first story now → All (λ (x : Exchange L R). Such x.door x.said) (exchanges story)
+  all_such Such is _ _ began = All-nil (λ (x : Exchange L R). Such x.door x.said)
+  all_such Such is _ _ (waited before did) = all_such Such is _ _ before
+  all_such Such is _ _ (happened {story} happening free before did served) = subst (All (λ (x : Exchange L R). Such x.door x.said)) (sym (exchanges-happens story happening)) (all_such Such is _ _ before)
+  all_such Such is _ _ (answered {story} exchange before is_first says served) = subst (All (λ (x : Exchange L R). Such x.door x.said)) (sym (exchanges-push story exchange)) (All-push (λ (x : Exchange L R). Such x.door x.said) (exchanges story) exchange (all_such Such is _ _ before) (is exchange.first exchange.door exchange.line exchange.said says))
+
+  -- and so is each exchange of a connection, by the door by which it came
+  pub law_door : (Such : ℕ → L → Type 0) → ((is_first : Bool) (door : ℕ) (line : List ℕ) (said : L) → terms.says is_first door line said → Such door said) → (story : List (Step L R)) (now : N) → Hosts terms first story now → (place : ℕ) → All (λ (x : Exchange L R). Such (life place story).door x.said) (life place story).own
+  law_door Such is story now hosts place =
+      let served = served_now terms first story now hosts place in
+      let own = own_on (λ (x : Exchange L R). Such x.door x.said) place nobody story (All-nil (λ (x : Exchange L R). Such x.door x.said)) (all_such Such is story now hosts) in
+      λ i d below. subst (λ (door : ℕ). Such door (get_or (life place story).own i d).said) (served.lines i d below).0 (own i d below)
+
+  -- the same story, which comes to something weaker
+  pub hosted_on : (comes ends : List (Exchange L R) → Type 0) (ended : Bool) → ((xs : List (Exchange L R)) → comes xs → ends xs) → (last : N) → IsHosted terms comes ended first last → IsHosted terms ends ended first last
+  hosted_on comes ends ended to last hosted = record { story = hosted.story; hosts = hosted.hosts; comes_to = to (exchanges hosted.story) hosted.comes_to; settled = hosted.settled }

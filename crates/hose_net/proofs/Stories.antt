@@ -1,0 +1,102 @@
+-- Stories, one step on.
+use Rattle.std.proofs.Common.{◌≡◌, ◌≢◌, ◌∙◌, ℕ, ◌≤◌, arith, max, Bool, true, false, cond, List, [], ◌∷◌, ◌++◌, refl, sym, ap, subst, ⊎_elim}
+use Rattle.std.proofs.lemmas.Bool.{cases_eq, eq-eqb, ne_eqb}
+use Rattle.std.proofs.lemmas.List.Elements.{All-nil, All-weaker}
+use Rattle.std.proofs.lemmas.List.Sums.{fold-append}
+use Rattle.hose_net.specs.Happening.{Came, Got, Happening, Heard, Left, Refused, Sent}
+use Rattle.hose_net.specs.Story.{Answers, Exchange, Happens, AllServed, Hosts, IsByDoor, IsServed, Life, Step, Terms, began, waited, happened, answered, exchanges, heard_in, hears, life, lives, newcomer, nobody}
+
+-- something happened at a place
+abbrev pub IsAt : ℕ → Happening → Type 0
+IsAt place (Came door at) = place ≡ at
+IsAt place (Got at bytes) = place ≡ at
+IsAt place (Sent at bytes) = place ≡ at
+IsAt place (Refused at) = place ≡ at
+IsAt place (Left at) = place ≡ at
+IsAt place (Heard upto) = ⊥
+
+module _ {L R : Type 0} where
+  pub life-push : (place : ℕ) (story : List (Step L R)) (step : Step L R) → life place (story ++ step ∷ []) ≡ lives place (life place story) step
+  life-push place story step = fold-append (lives place) nobody story (step ∷ [])
+
+  pub exchanges-push : (story : List (Step L R)) (exchange : Exchange L R) → exchanges (story ++ Answers exchange ∷ []) ≡ exchanges story ++ exchange ∷ []
+  exchanges-push [] exchange = refl
+  exchanges-push (Happens happening ∷ story) exchange = exchanges-push story exchange
+  exchanges-push (Answers first ∷ story) exchange = ap (λ more. first ∷ more) (exchanges-push story exchange)
+
+  pub exchanges-happens : (story : List (Step L R)) (happening : Happening) → exchanges (story ++ Happens happening ∷ []) ≡ exchanges story
+  exchanges-happens [] happening = refl
+  exchanges-happens (Happens first ∷ story) happening = exchanges-happens story happening
+  exchanges-happens (Answers first ∷ story) happening = ap (λ more. first ∷ more) (exchanges-happens story happening)
+
+  -- a step at one place leaves the others as they were, and what was heard
+  pub life-other : (other place : ℕ) (story : List (Step L R)) (happening : Happening) → IsAt place happening → other ≢ place → life other (story ++ Happens happening ∷ []) ≡ life other story
+  life-other other place story (Came door at) here apart = life-push other story _ ∙ ap (λ (b : Bool). cond b (newcomer door) (life other story)) (ne_eqb at other (λ same. apart (sym same ∙ sym here)))
+  life-other other place story (Got at bytes) here apart = life-push other story _ ∙ ap (λ (b : Bool). cond b (record (life other story) { given = (life other story).given ++ bytes }) (life other story)) (ne_eqb at other (λ same. apart (sym same ∙ sym here)))
+  life-other other place story (Sent at bytes) here apart = life-push other story _ ∙ ap (λ (b : Bool). cond b (record (life other story) { sent = (life other story).sent ++ bytes; refused = false }) (life other story)) (ne_eqb at other (λ same. apart (sym same ∙ sym here)))
+  life-other other place story (Refused at) here apart = life-push other story _ ∙ ap (λ (b : Bool). cond b (record (life other story) { refused = true }) (life other story)) (ne_eqb at other (λ same. apart (sym same ∙ sym here)))
+  life-other other place story (Left at) here apart = life-push other story _ ∙ ap (λ (b : Bool). cond b (record (life other story) { here = false }) (life other story)) (ne_eqb at other (λ same. apart (sym same ∙ sym here)))
+  life-other other place story (Heard upto) here apart = absurd here
+
+  pub life-other_answers : (other : ℕ) (story : List (Step L R)) (exchange : Exchange L R) → other ≢ exchange.place → life other (story ++ Answers exchange ∷ []) ≡ life other story
+  life-other_answers other story exchange apart = life-push other story _ ∙ ap (λ (b : Bool). cond b (record (life other story) { own = (life other story).own ++ exchange ∷ [] }) (life other story)) (ne_eqb exchange.place other (λ same. apart (sym same)))
+
+  pub life-heard : (place upto : ℕ) (story : List (Step L R)) → life place (story ++ Happens (Heard upto) ∷ []) ≡ life place story
+  life-heard place upto story = life-push place story _
+
+  pub heard-push : (story : List (Step L R)) (step : Step L R) → heard_in (story ++ step ∷ []) ≡ hears (heard_in story) step
+  heard-push story step = fold-append hears 0 story (step ∷ [])
+
+  pub heard-same : (place : ℕ) (story : List (Step L R)) (happening : Happening) → IsAt place happening → heard_in (story ++ Happens happening ∷ []) ≡ heard_in story
+  heard-same place story (Came door at) here = heard-push story _
+  heard-same place story (Got at bytes) here = heard-push story _
+  heard-same place story (Sent at bytes) here = heard-push story _
+  heard-same place story (Refused at) here = heard-push story _
+  heard-same place story (Left at) here = heard-push story _
+  heard-same place story (Heard upto) here = absurd here
+
+  -- at its own place
+  pub life-came : (door place : ℕ) (story : List (Step L R)) → life place (story ++ Happens (Came door place) ∷ []) ≡ newcomer door
+  life-came door place story = life-push place story _ ∙ ap (λ (b : Bool). cond b (newcomer door) (life place story)) (eq-eqb place place refl)
+
+  pub life-got : (place : ℕ) (bytes : List ℕ) (story : List (Step L R)) → life place (story ++ Happens (Got place bytes) ∷ []) ≡ record (life place story) { given = (life place story).given ++ bytes }
+  life-got place bytes story = life-push place story _ ∙ ap (λ (b : Bool). cond b (record (life place story) { given = (life place story).given ++ bytes }) (life place story)) (eq-eqb place place refl)
+
+  pub life-sent : (place : ℕ) (bytes : List ℕ) (story : List (Step L R)) → life place (story ++ Happens (Sent place bytes) ∷ []) ≡ record (life place story) { sent = (life place story).sent ++ bytes; refused = false }
+  life-sent place bytes story = life-push place story _ ∙ ap (λ (b : Bool). cond b (record (life place story) { sent = (life place story).sent ++ bytes; refused = false }) (life place story)) (eq-eqb place place refl)
+
+  pub life-refused : (place : ℕ) (story : List (Step L R)) → life place (story ++ Happens (Refused place) ∷ []) ≡ record (life place story) { refused = true }
+  life-refused place story = life-push place story _ ∙ ap (λ (b : Bool). cond b (record (life place story) { refused = true }) (life place story)) (eq-eqb place place refl)
+
+  pub life-left : (place : ℕ) (story : List (Step L R)) → life place (story ++ Happens (Left place) ∷ []) ≡ record (life place story) { here = false }
+  life-left place story = life-push place story _ ∙ ap (λ (b : Bool). cond b (record (life place story) { here = false }) (life place story)) (eq-eqb place place refl)
+
+  pub life-answers : (exchange : Exchange L R) (story : List (Step L R)) → life exchange.place (story ++ Answers exchange ∷ []) ≡ record (life exchange.place story) { own = (life exchange.place story).own ++ exchange ∷ [] }
+  life-answers exchange story = life-push exchange.place story _ ∙ ap (λ (b : Bool). cond b (record (life exchange.place story) { own = (life exchange.place story).own ++ exchange ∷ [] }) (life exchange.place story)) (eq-eqb exchange.place exchange.place refl)
+
+module _ {N L R : Type 0} (terms : Terms N L R) where
+  -- each connection is served, where one is and the others were
+  pub served_too : (place : ℕ) (story later : List (Step L R)) → ((other : ℕ) → other ≢ place → life other later ≡ life other story) → heard_in later ≡ heard_in story → AllServed terms story → IsServed terms.text (heard_in later) (life place later) → AllServed terms later
+  served_too place story later others heard before here other = ⊎_elim
+      (λ is. subst (λ (at : ℕ). IsServed terms.text (heard_in later) (life at later)) (sym is) here)
+      (λ apart. subst (λ (h : ℕ). IsServed terms.text h (life other later)) (sym heard) (subst (IsServed terms.text (heard_in story)) (sym (others other apart)) (before other)))
+      (cases_eq other place)
+
+  served_first : IsServed {L = L} terms.text 0 nobody
+  served_first = record { rest = []; given = refl; lines = All-nil (IsByDoor 0); free = []; waiting = []; split = refl; allowed = All-nil (λ (x : Exchange L R). x.needs ≤ 0); unsent = []; sent = refl }
+
+  -- at the end of a story each connection is served
+  pub served_now : (first : N) (story : List (Step L R)) (now : N) → Hosts terms first story now → AllServed terms story
+  served_now _ _ _ began place = served_first
+  served_now _ _ _ (waited before did) place = served_now _ _ _ before place
+  served_now _ _ _ (happened happening free before did served) place = served place
+  served_now _ _ _ (answered exchange before is_first says served) place = served place
+
+  -- more was heard
+  pub served_more : (heard more : ℕ) (life : Life L R) → heard ≤ more → IsServed terms.text heard life → IsServed terms.text more life
+  served_more heard more life less served = record { rest = served.rest; given = served.given; lines = served.lines; free = served.free; waiting = served.waiting; split = served.split; allowed = All-weaker (λ (x : Exchange L R). x.needs ≤ heard) (λ (x : Exchange L R). x.needs ≤ more) (λ x within. omega (arith, within, less)) served.free served.allowed; unsent = served.unsent; sent = served.sent }
+
+  pub served_heard : (upto : ℕ) (story : List (Step L R)) → AllServed terms story → AllServed terms (story ++ Happens (Heard upto) ∷ [])
+  served_heard upto story before place =
+      subst (λ (h : ℕ). IsServed terms.text h (life place (story ++ Happens (Heard upto) ∷ []))) (sym (heard-push story (Happens (Heard upto))))
+      (subst (IsServed terms.text (max (heard_in story) upto)) (sym (life-heard place upto story)) (served_more (heard_in story) (max (heard_in story) upto) (life place story) (omega arith) (before place)))

@@ -1,0 +1,4 @@
+pub mod Happening
+pub mod MemTrace
+pub mod Story
+pub mod Told

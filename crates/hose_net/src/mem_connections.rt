@@ -1,0 +1,209 @@
+// Connections in memory, which a script drives and which keep all that happened.
+ghost use Rattle.std.specs.Prelude.{◌≡◌, ◌<◌, ◌≤◌, List, [], ◌∷◌, ◌++◌, true, length, take, IfOk, MatchResult};
+ghost use Rattle.std.specs.Bool.{MatchBool};
+ghost use Rattle.hose_net.specs.Happening.{Came, Got, Left, Sent};
+ghost use Rattle.hose_net.specs.MemTrace.{Trace, happening_of};
+ghost use Rattle.hose_net.specs.Told.{told_by};
+
+use crate::{Connections, Pause, Ready};
+use std::alloc::Global;
+use std::collections::VecDeque;
+use std::marker::Model;
+
+/// What a script has come next.
+#[derive(Drop)]
+pub enum Act {
+    /// Someone comes to this door.
+    Comes(usize),
+    /// The connection at a place gives these bytes, of which those are lost for which a reader has
+    /// no room.
+    Gives(usize, Vec<u8>),
+    /// The connection at a place takes no bytes from now on.
+    Stalls(usize),
+    /// The connection at a place takes bytes again.
+    Takes(usize),
+    /// The connection at a place ends.
+    Ends(usize),
+    /// A standby is heard to have so much.
+    Hears(u64),
+}
+
+/// What happened, by its door, its place and its bytes.
+#[derive(Drop)]
+pub enum Happened {
+    Came(usize, usize),
+    Got(usize, Vec<u8>),
+    Sent(usize, Vec<u8>),
+    Refused(usize),
+    Left(usize),
+    Heard(u64),
+}
+
+/// Connections in memory, which a script drives. A write takes `room` bytes at most; after the last
+/// act it tells to stop. Where no memory was left to keep what happened, it tells nothing of it.
+#[derive(Drop)]
+pub struct MemConnections {
+    alloc: Global,
+    acts: VecDeque<Act>,
+    act: Option<Act>,
+    again: VecDeque<usize>,
+    stalled: Vec<usize>,
+    room: usize,
+    happened: Vec<Happened>,
+    whole: bool,
+}
+
+impl Model for MemConnections {
+    ghost use Rattle.std.specs.Prelude.{map};
+    ghost use Rattle.hose_net.specs.MemTrace.{Trace, happening_of};
+
+    ghost Value = { Trace };
+
+    ghost view = { λ network. record {
+      trace = map happening_of network.happened.items;
+      whole = network.whole;
+    } };
+}
+
+impl MemConnections {
+    /// Connections at which these acts come.
+    pub fn new(alloc: Global, acts: VecDeque<Act>, room: usize) -> MemConnections
+        ensures { result ≡ record { trace = []; whole = true } }
+    {
+        MemConnections {
+            alloc,
+            acts,
+            act: None,
+            again: VecDeque::new(alloc),
+            stalled: Vec::new(alloc),
+            room,
+            happened: Vec::new(alloc),
+            whole: true,
+        }
+    }
+
+    /// What happened.
+    pub fn happened(&self) -> &[Happened] {
+        &self.happened
+    }
+
+    // What the act makes ready.
+    fn ready(&mut self) -> Ready
+        ensures same { self.new ≡ self.old }
+        ensures unheard { told_by result ≡ [] }
+    {
+        match &self.act {
+            Some(Act::Comes(door)) => Ready::Door(*door),
+            Some(Act::Gives(place, _)) | Some(Act::Ends(place)) => Ready::Place(*place),
+            Some(Act::Stalls(place)) => {
+                let place = *place;
+                let _ = self.stalled.push(place);
+                Ready::Place(place)
+            }
+            Some(Act::Takes(place)) => {
+                let place = *place;
+                self.stalled.retain(|at| *at != place);
+                Ready::Place(place)
+            }
+            _ => Ready::Stop,
+        }
+    }
+
+    // Keeps what happened.
+    fn keep(&mut self, happened: Happened)
+        ensures { self.new.whole ≡ true → (self.old.whole ≡ true)
+            × (self.new.trace ≡ self.old.trace ++ happening_of happened ∷ []) }
+    {
+        if self.happened.push(happened).is_err() {
+            self.whole = false;
+        }
+    }
+
+    fn keep_got(&mut self, place: usize, bytes: &[u8])
+        ensures { self.new.whole ≡ true → (self.old.whole ≡ true)
+            × (self.new.trace ≡ self.old.trace ++ Got place bytes.now ∷ []) }
+    {
+        match Vec::from_slice(self.alloc, bytes) {
+            Ok(bytes) => self.keep(Happened::Got(place, bytes)),
+            Err(_) => self.whole = false,
+        }
+    }
+
+    fn keep_sent(&mut self, place: usize, bytes: &[u8])
+        ensures { self.new.whole ≡ true → (self.old.whole ≡ true)
+            × (self.new.trace ≡ self.old.trace ++ Sent place bytes.now ∷ []) }
+    {
+        match Vec::from_slice(self.alloc, bytes) {
+            Ok(bytes) => self.keep(Happened::Sent(place, bytes)),
+            Err(_) => self.whole = false,
+        }
+    }
+}
+
+impl Connections for MemConnections {
+    ghost use Rattle.std.specs.Prelude.{◌≡◌, ◌++◌, true};
+
+    ghost did = { λ old happenings new. new.whole ≡ true
+        → (old.whole ≡ true) × (new.trace ≡ old.trace ++ happenings) };
+
+    fn next(&mut self) -> Ready {
+        if let Some(place) = self.again.pop_front() {
+            return Ready::Place(place);
+        }
+        self.act = self.acts.pop_front();
+        if let Some(Act::Hears(upto)) = self.act {
+            self.keep(Happened::Heard(upto));
+            return Ready::Heard(upto);
+        }
+        self.ready()
+    }
+
+    fn accept(&mut self, door: usize, place: usize) -> bool {
+        let Some(Act::Comes(_)) = self.act else {
+            return false;
+        };
+        self.act = None;
+        self.keep(Happened::Came(door, place));
+        true
+    }
+
+    fn put_off(&mut self, _door: usize) {}
+
+    fn ask_again(&mut self, place: usize) {
+        if self.again.push_back(place).is_err() {
+            self.whole = false;
+        }
+    }
+
+    fn read(&mut self, place: usize, into: &mut [u8]) -> Result<usize, Pause> {
+        match self.act.take() {
+            Some(Act::Gives(at, bytes)) => {
+                if at != place {
+                    return Err(Pause::NotNow);
+                }
+                let count = bytes.len().min(into.len());
+                into[..count].copy_from_slice(&bytes[..count]);
+                self.keep_got(place, &into[..count]);
+                Ok(count)
+            }
+            Some(Act::Ends(_)) => Err(Pause::Over),
+            _ => Err(Pause::NotNow),
+        }
+    }
+
+    fn write(&mut self, place: usize, bytes: &[u8]) -> Result<usize, Pause> {
+        let count = bytes.len().min(self.room);
+        if count == 0 || self.stalled.contains(&place) {
+            self.keep(Happened::Refused(place));
+            return Err(Pause::NotNow);
+        }
+        self.keep_sent(place, &bytes[..count]);
+        Ok(count)
+    }
+
+    fn end_soon(&mut self) {}
+
+    fn close(&mut self, place: usize) {
+        self.keep(Happened::Left(place));
+    }
+}
