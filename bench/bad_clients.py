@@ -13,13 +13,19 @@ a library that gcc makes of bench/edge.c makes two seconds of just these. It als
 for want of descriptors and as the network fails, for a while and for longer; and a server has too
 few descriptors indeed. Who comes after the last connection is refused, and at another address.
 
+With --host the first part is tried on `hosed host`, which ends by its operator alone, and never
+does a last line without a line feed. A host at a port that is taken ends with status 9; one that
+has descriptors for few customers at a time, or whose accepts fail, serves all of many. A path where
+a socket lies that nobody serves is taken over; one that is served, and a file, are left alone, and
+so is at the end what another program put at a host's path.
+
 With --front the first part is tried on `tools/front.py` over the PROGRAM, whose sessions go on for
 as long as a customer wants: the status at a port that is taken is 23, and a front that has
 descriptors for few customers at a time serves all of many.
 
 Prints what each was answered; or the first difference, and ends with status 1.
 
-usage: bench/bad_clients.py [--front] [PROGRAM]
+usage: bench/bad_clients.py [--host | --front] [PROGRAM]
 The PROGRAM (./hosed) is seen from the top of the repository.
 """
 
@@ -33,7 +39,8 @@ import sys
 import tempfile
 import time
 
-from histories import HANGS, TRIES, Differs, client, same, start, start_front, told_of_front
+from histories import HANGS, TRIES, WAYS, Differs, client, same, start, start_front, start_host
+from histories import told_of_front, told_of_host, way_of
 from usage import tell_usage
 
 HOST = "127.0.0.1"
@@ -126,13 +133,13 @@ def without_place(reply):
     return b"welcome\n" + rest if first.startswith(b"welcome at ") else reply
 
 
-def serve_all(port, behaved):
+def serve_all(port, behaved, told=TOLD):
     with connect(port):  # and never says a word
         reader, taken = never_read(port)
         with reader:
             print(f"one who never reads: {taken:,} bytes were taken")
             behaved.come()
-            for name, text, reply in TOLD:
+            for name, text, reply in told:
                 same(without_place(say(port, text)), reply, name)
                 print(f"{name}: {reply!r}")
                 behaved.come()
@@ -299,9 +306,107 @@ def change(program, work):
     are_refused(changed)
 
 
+# ---- A host.
+
+# What a host answers otherwise: a line without a line feed is none.
+TOLD_OF_HOST = [(name, text, b"" if name == "no line feed" else reply)
+                for name, text, reply in TOLD]
+
+
+def host_alone(program, work):
+    """One customer is the only one of a host."""
+    journal = os.path.join(work, "alone")
+    host, port = start_host(program, STAR, journal)
+    told = say(port, b"hello acme\nadmit a:3 b:4 c:5\nshow 1\nbye\n").decode()
+    same(told, ALONE, "one who is alone")
+    same(told_of_host(host, program, STAR, journal), (0, BOOK_OF_ONE), "the book of one")
+    print("one who is alone was served")
+
+
+def serve_many(program, journal, name, **how):
+    """More customers than descriptors, or accepts that fail: all are served."""
+    host, port = start_host(program, STAR, journal, **how)
+    peers = [connect(port) for _ in range(MANY)]
+    for peer in peers:
+        peer.sendall(b"hello acme\nbye\n")
+    for peer in peers:
+        with peer:
+            same(read_all(peer), b"welcome at 0\nbye\n", "one of many")
+    same(told_of_host(host, program, STAR, journal)[0], 0, "the status")
+    print(f"{name}, {MANY} customers at once: all were served")
+
+
+def is_refused_at(path):
+    with socket.socket(socket.AF_UNIX) as peer:
+        return peer.connect_ex(path) != 0
+
+
+def no_host(program, work, path, what):
+    """A host that has this path for a door ends with status 9."""
+    words = [program, "host", "--quiet", STAR, os.path.join(work, "none"), path]
+    done = subprocess.run(words, stdout=subprocess.PIPE, text=True, timeout=HANGS)
+    same((done.returncode, done.stdout.split()[:1]), (9, ["door"]), what)
+
+
+def meet_at_paths(program, work):
+    """What lies at a path of a host."""
+    path, journal = os.path.join(work, "door"), os.path.join(work, "paths")
+    left = socket.socket(socket.AF_UNIX)
+    left.bind(path)
+    left.close()  # its file stays
+    host, _ = start_host(program, STAR, journal, doors=[path])
+    same(is_refused_at(path), False, "a socket that nobody served")
+    no_host(program, work, path, "a socket that is served")
+    same(is_refused_at(path), False, "a socket that is served")
+    os.remove(path)
+    with socket.socket(socket.AF_UNIX) as other:
+        other.bind(path)
+        other.listen()
+        same(told_of_host(host, program, STAR, journal)[0], 0, "the status")
+        same(os.path.exists(path), True, "what another program put at the path")
+    os.remove(path)
+    with open(path, "w", encoding="ascii") as file:
+        file.write("kept")
+    no_host(program, work, path, "a file")
+    with open(path, encoding="ascii") as file:
+        same(file.read(), "kept", "a file")
+    os.remove(path)
+    print("sockets of the file system: taken over, left alone, taken away")
+
+
+def serve_at_host(program, work):
+    host_alone(program, work)
+    journal, other = os.path.join(work, "journal"), os.path.join(work, "other")
+    host, port = start_host(program, STAR, journal)
+    words = [program, "host", "--quiet", STAR, other, str(port)]
+    second = subprocess.run(words, stdout=subprocess.PIPE, text=True, timeout=HANGS)
+    customers = Behaved(port)
+    try:
+        same((second.returncode, second.stdout.split()[:1]), (9, ["door"]), "a port that is taken")
+        serve_all(port, customers, TOLD_OF_HOST)
+        status, audit = told_of_host(host, program, STAR, journal)
+        same(status, 0, "the status")
+        same(audit.splitlines()[0], f"epoch {customers.epoch}", "the audit")
+        same(audit.splitlines()[-1], "live 0 cost 0", "the audit")
+    finally:
+        host.kill()
+    serve_many(program, os.path.join(work, "few"), f"{FEW} descriptors", files=limited)
+    library = Changed(program, work).library
+    for error in PASSING:
+        name = errno.errorcode[error]
+        environment = {**os.environ, "LD_PRELOAD": library, "EDGE_ACCEPT": f"{error}:2"}
+        serve_many(program, os.path.join(work, name), f"two accepts that fail by {name}",
+                   environment=environment)
+    meet_at_paths(program, work)
+
+
 # ---- A front.
 
-FEW, MANY = 24, 40  # descriptors of a front, and customers at once
+FEW, MANY = 24, 40  # descriptors of a front or a host, and customers at once
+
+
+def limited():
+    resource.setrlimit(resource.RLIMIT_NOFILE, (FEW, FEW))
 
 
 def front_alone(program, work):
@@ -316,11 +421,8 @@ def front_alone(program, work):
 
 def few_descriptors(program, work):
     """More customers than descriptors: others wait for the end of the first."""
-    def limit():
-        resource.setrlimit(resource.RLIMIT_NOFILE, (FEW, FEW))
-
     journal = os.path.join(work, "few")
-    front, port = start_front(program, STAR, journal, files=limit)
+    front, port = start_front(program, STAR, journal, files=limited)
     peers = [connect(port) for _ in range(MANY)]
     for peer in peers:
         peer.sendall(b"hello acme\nbye\n")
@@ -352,12 +454,12 @@ def serve_at_front(program, work):
 
 
 def main():
-    words = [word for word in sys.argv[1:] if word != "--front"]
+    way, words = way_of(sys.argv[1:])
     program = os.path.abspath(words[0] if words else "./hosed")
-    if "--front" in sys.argv:
+    if way:
         with tempfile.TemporaryDirectory() as work:
             try:
-                serve_at_front(program, work)
+                (serve_at_host if way is WAYS["--host"] else serve_at_front)(program, work)
             except (Differs, OSError, *client.FAULTS) as difference:
                 sys.exit(f"bad clients: {difference}")
         return

@@ -1,5 +1,5 @@
 #!/usr/bin/env python3
-"""Judges concurrent random sessions of `hosed serve`, or of `tools/front.py`, from outside.
+"""Judges concurrent random sessions of `hosed serve`, a host or `tools/front.py` from outside.
 
 Each run serves some customers at once over a random network of up to 9 nodes. Its history is read
 off the replies: each epoch is that of one admission, release or change of a link's service, which
@@ -8,12 +8,12 @@ reply that tells that epoch, the places of a session may not go back, and the au
 of the last book. Prints how many runs, sessions and replies of each kind there were; or the first
 difference, and ends with status 1.
 
-With --front the sessions are those of a front over the PROGRAM. There a quote is its customer's,
-and not its session's. So the lines of all sessions of a customer are put into one order that
-explains the numbers of quotes, in which no line comes before one that was answered before it was
-said.
+With --host the sessions are those of a host. With --front they are those of a front over the
+PROGRAM. There a quote is its customer's, and not its session's. So the lines of all sessions of a
+customer are put into one order that explains the numbers of quotes, in which no line comes before
+one that was answered before it was said.
 
-usage: bench/histories.py [--front] [PROGRAM [RUNS [SEED]]]
+usage: bench/histories.py [--host | --front] [PROGRAM [RUNS [SEED]]]
 The PROGRAM (./hosed) is seen from the top of the repository.
 """
 
@@ -484,6 +484,39 @@ def start_front(program, topology, journal, *options, files=None):
     raise Differs("no port could be opened")
 
 
+def start_host(program, topology, journal, doors=(), files=None, environment=None):
+    """A host that is ready, and its port. Its operator's door is beside the journal."""
+    operator = ["--operator", f"{journal}.operator"]
+    for _ in range(TRIES):
+        with socket.socket() as probe:
+            probe.bind(("127.0.0.1", 0))
+            port = probe.getsockname()[1]
+        words = [program, "host", "--quiet", *operator, topology, journal, str(port), *doors]
+        host = subprocess.Popen(words, stdout=subprocess.PIPE, text=True, preexec_fn=files,
+                                env=environment)
+        first = host.stdout.readline()
+        if not first.startswith("door"):
+            same(first, "ready\n", "the first line")
+            return host, port
+        host.wait(HANGS)
+    raise Differs("no port could be opened")
+
+
+def told_of_host(host, _program, _topology, journal):
+    """Ends a host by its operator, and gives its status and the audit that it wrote."""
+    with socket.socket(socket.AF_UNIX) as operator:
+        operator.settimeout(HANGS)
+        operator.connect(f"{journal}.operator")
+        operator.sendall(b"hello operator\nend\n")
+        while operator.recv(4096):
+            pass
+    audit = host.stdout.read()
+    status = host.wait(HANGS)
+    host.stdout.close()
+    same(os.path.exists(f"{journal}.operator"), False, "whether the operator's door is left")
+    return status, audit
+
+
 def audit_of(program, topology, journal):
     words = [program, "audit", topology, journal]
     return subprocess.run(words, stdout=subprocess.PIPE, text=True, check=True).stdout
@@ -497,13 +530,31 @@ def told_of_front(front, program, topology, journal):
     return status, audit_of(program, topology, journal)
 
 
-def serve(program, work, seed, kinds, is_front):
+class Way(NamedTuple):
+    """How customers are served who come as long as they like."""
+    name: str
+    start: object  # of a program, a topology and a journal: what serves, and its port
+    ended: object  # of what serves and these: its status and the audit
+    orders: object  # the lines of all sessions, as those whose quotes are the same
+
+
+WAYS = {"--front": Way("a front", start_front, told_of_front, by_customer),
+        "--host": Way("a host", start_host, told_of_host, by_session)}
+
+
+def way_of(words):
+    """How customers are served, if not by `hosed serve`; and the other words."""
+    way = next((WAYS[word] for word in words if word in WAYS), None)
+    return way, [word for word in words if word not in WAYS]
+
+
+def serve(program, work, seed, kinds, way):
     draw = random.Random(seed)
     network = random_network(draw, COMPARED)
     topology, journal = os.path.join(work, f"{seed}.txt"), os.path.join(work, f"{seed}.journal")
     write_topology(network, topology)
-    if is_front:
-        server, port = start_front(program, topology, journal)
+    if way:
+        server, port = way.start(program, topology, journal)
     else:
         server, port = start(program, topology, journal, SESSIONS)
     sessions = [Session(port, network, f"{seed} {number}") for number in range(SESSIONS)]
@@ -513,18 +564,17 @@ def serve(program, work, seed, kinds, is_front):
         session.join()
         if session.fault:
             raise Differs(f"a session failed: {session.fault}")
-    if is_front:
-        status, audit = told_of_front(server, program, topology, journal)
+    if way:
+        status, audit = way.ended(server, program, topology, journal)
     else:
         audit, status = server.stdout.read(), server.wait(HANGS)
     same(status, 0, "the status")
-    orders = by_customer(sessions) if is_front else by_session(sessions)
+    orders = way.orders(sessions) if way else by_session(sessions)
     judge(network, orders, audit.splitlines(), kinds)
 
 
 def main():
-    is_front = "--front" in sys.argv
-    words = [word for word in sys.argv[1:] if word != "--front"]
+    way, words = way_of(sys.argv[1:])
     program = os.path.abspath(words[0] if words else "./hosed")
     runs = int(words[1]) if len(words) > 1 else 100
     seed = words[2] if len(words) > 2 else "1"
@@ -532,10 +582,10 @@ def main():
     with tempfile.TemporaryDirectory() as work:
         for number in range(runs):
             try:
-                serve(program, work, f"{seed}-{number}", kinds, is_front)
+                serve(program, work, f"{seed}-{number}", kinds, way)
             except Differs as difference:
                 sys.exit(f"run {number} of seed {seed}: {difference}")
-    by = "a front" if is_front else f"{WORKERS} workers"
+    by = way.name if way else f"{WORKERS} workers"
     print(f"{runs} runs of {SESSIONS} sessions with {by} agree")
     for kind, count in sorted(kinds.items()):
         print(f"{count:8} {kind}")

@@ -10,10 +10,11 @@ within a line, and some that break off; the audit must have the orders of all. A
 that says less or more, or that is silent for a minute is a failure: then the input up to there is
 printed, and it ends with status 1.
 
+With --host there are sessions alone, with a host, which never does a last line without a line feed.
 With --front there are sessions alone, with `tools/front.py` over the PROGRAM, where a quote is its
 customer's and not its session's.
 
-usage: bench/hostile.py [--front] [PROGRAM [LINES [SESSIONS [SEED]]]]
+usage: bench/hostile.py [--host | --front] [PROGRAM [LINES [SESSIONS [SEED]]]]
 The PROGRAM (./hosed) is seen from the top of the repository; LINES (1,000,000), SESSIONS (10,000).
 """
 
@@ -29,7 +30,7 @@ from collections import Counter, defaultdict
 
 from compare_planner import FORCED, WEIGHTS, Server, audit_lines, random_command, random_network
 from compare_planner import topology_lines
-from histories import Differs, same, start_front, told_of_front
+from histories import WAYS, Differs, same, way_of
 from usage import tell_usage
 
 LINES_OF_A_RUN = 2_000
@@ -73,6 +74,7 @@ class Desk(Server):
         self.quotes = defaultdict(dict)
         self.customer_of = {}
         self.shares_quotes = False  # whether a quote is its customer's, and not its session's
+        self.needs_ends = False  # whether a last line without a line feed is never done
         self.nodes = {name.encode(): number for number, name in enumerate(network.nodes)}
 
     def hose_of(self, words, before):
@@ -140,7 +142,7 @@ class Desk(Server):
     def session(self, text, session):
         """The replies to all that a session says, of which the last line may have no line feed."""
         lines = text.split(b"\n")
-        lines = lines if lines[-1] else lines[:-1]
+        lines = lines if lines[-1] and not self.needs_ends else lines[:-1]
         if not lines:
             return []
         words = [word for word in lines[0].split(b" ") if word]
@@ -323,16 +325,16 @@ def session_text(draw, good):
     return text[:draw.randint(0, len(text))] if draw.random() < 0.2 else text
 
 
-def run_sessions(program, draw, count, kinds, is_front):
+def run_sessions(program, draw, count, kinds, way):
     """One server of so many sessions, one after another."""
     network = random_network(draw, FORCED)
     desk, good = Desk(network), Server(network)
-    desk.shares_quotes = is_front
+    desk.shares_quotes, desk.needs_ends = way is WAYS["--front"], way is WAYS["--host"]
     with tempfile.TemporaryDirectory() as work:
         files = [os.path.join(work, name) for name in ("topology", "journal")]
         with open(files[0], "w", encoding="ascii") as file:
             file.write("\n".join(topology_lines(network)) + "\n")
-        served = start_front(program, *files) if is_front else start(program, *files, count)
+        served = way.start(program, *files) if way else start(program, *files, count)
         process, port = served
         try:
             for number in range(count):
@@ -347,8 +349,8 @@ def run_sessions(program, draw, count, kinds, is_front):
                     continue
                 same(replies, desk.session(text, f"session {number}"), f"to {text[:400]!r}")
                 kinds.update(first_word(reply) for reply in replies)
-            if is_front:
-                status, told = told_of_front(process, program, *files)
+            if way:
+                status, told = way.ended(process, program, *files)
             else:
                 told, status = process.communicate(timeout=HANGS)[0], process.returncode
             same(told.splitlines(), desk.audit(), "the book of a server")
@@ -362,22 +364,21 @@ def parts(count, most):
 
 
 def main():
-    is_front = "--front" in sys.argv
-    words = [word for word in sys.argv[1:] if word != "--front"]
+    way, words = way_of(sys.argv[1:])
     program = os.path.abspath(words[0] if words else "./hosed")
     given = words[1:4]
     lines, sessions, seed = map(int, given + ["1000000", "10000", "1"][len(given):])
     said, served = Counter(), Counter()
     try:
-        for number, count in enumerate(parts(0 if is_front else lines, LINES_OF_A_RUN)):
+        for number, count in enumerate(parts(0 if way else lines, LINES_OF_A_RUN)):
             run_lines(program, random.Random(f"{seed} lines {number}"), count, said)
         for number, count in enumerate(parts(sessions, MOST_CONNECTIONS)):
             draw = random.Random(f"{seed} sessions {number}")
-            run_sessions(program, draw, count, served, is_front)
+            run_sessions(program, draw, count, served, way)
     except (Differs, OSError, subprocess.TimeoutExpired) as difference:
         sys.exit(f"hostile: {difference}")
     told = [(f"{sessions} sessions", served)]
-    if not is_front:
+    if not way:
         told.insert(0, (f"{lines} lines", said))
     for name, kinds in told:
         counts = ", ".join(f"{count} {kind}" for kind, count in sorted(kinds.items()))

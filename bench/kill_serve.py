@@ -1,5 +1,5 @@
 #!/usr/bin/env python3
-"""Kills a live `hosed serve` at random moments, while customers are served.
+"""Kills a live `hosed serve`, or a host with --host, at random moments, while customers are served.
 
 Each time an audit of the journal then has to show each order whose reply was read: an admission is
 live, as it was told, unless its customer's release of it was sent; a release that was told is not.
@@ -7,7 +7,7 @@ There are no more entries than were told and one for each customer who waited fo
 how many were killed and how many replies were read; or the first difference, and ends with status
 1. A killed process leaves what the system has taken: this says nothing of a machine that stops.
 
-usage: bench/kill_serve.py [PROGRAM [KILLS [SEED]]]
+usage: bench/kill_serve.py [--host] [PROGRAM [KILLS [SEED]]]
 The PROGRAM (./hosed) is seen from the top of the repository.
 """
 
@@ -19,7 +19,7 @@ import tempfile
 import time
 
 from compare_planner import COMPARED, random_network
-from histories import SESSIONS, Differs, Session, client, same, start, write_topology
+from histories import SESSIONS, Differs, Session, client, same, start, way_of, write_topology
 from usage import tell_usage
 
 LONGEST = 0.12  # seconds until a server is killed, from its first line
@@ -63,14 +63,17 @@ def judge(sessions, audit):
     return told
 
 
-def kill(program, work, seed):
+def kill(program, way, work, seed):
     draw = random.Random(seed)
     topology, journal = os.path.join(work, "topology"), os.path.join(work, "journal")
     if os.path.exists(journal):
         os.remove(journal)
     network = random_network(draw, COMPARED)
     write_topology(network, topology)
-    server, port = start(program, topology, journal, 10_000)
+    if way:
+        server, port = way.start(program, topology, journal)
+    else:
+        server, port = start(program, topology, journal, 10_000)
     sessions = [Session(port, network, f"{seed} {number}") for number in range(SESSIONS)]
     for session in sessions:
         session.start()
@@ -87,14 +90,15 @@ def kill(program, work, seed):
 
 
 def main():
-    program = os.path.abspath(sys.argv[1] if len(sys.argv) > 1 else "./hosed")
-    kills = int(sys.argv[2]) if len(sys.argv) > 2 else 100
-    seed = sys.argv[3] if len(sys.argv) > 3 else "1"
+    way, words = way_of(sys.argv[1:])
+    program = os.path.abspath(words[0] if words else "./hosed")
+    kills = int(words[1]) if len(words) > 1 else 100
+    seed = words[2] if len(words) > 2 else "1"
     told = 0
     with tempfile.TemporaryDirectory() as work:
         for number in range(kills):
             try:
-                told += kill(program, work, f"{seed}-{number}")
+                told += kill(program, way, work, f"{seed}-{number}")
             except Differs as difference:
                 sys.exit(f"kill {number} of seed {seed}: {difference}")
     if not told:
