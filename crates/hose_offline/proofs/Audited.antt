@@ -13,15 +13,17 @@ use Rattle.hose_law.specs.History.{EntryKind, book_of}
 use Rattle.hose_audit.specs.Audit.{audit_text}
 use Rattle.hose_book.specs.Ledger.{Ledger}
 use Rattle.hose_disk.specs.Cabinet.{object_of}
+use Rattle.hose_disk.specs.declared.cabinet.Cabinet.{Ghosts as CabinetGhosts}
 use Rattle.hose_store.specs.Recovery.{IsHistoryOf}
 use Rattle.hose_store.specs.steps.Store.{KeptStore}
 use Rattle.hose_offline.specs.AuditOutcome.{AuditOutcome, EndsNamed, EndsRefused, IsAudited, JournalIs, NamedOutcome, NamesOutcome, Purpose, to_audit}
 use Rattle.hose_offline.specs.steps.AuditOutcome.{AuditsJournal}
 use Rattle.hose_offline.specs.Auditing.{HasAudited, IsNotRead, IsTextServable, PricedNames, ReadsTopology, named_text}
+use Rattle.hose_offline.specs.CabinetText.{OnlyTextsRead}
 use Rattle.hose_offline.specs.Ending.{EndsTold, NoneFailed, IsOut}
 use Rattle.hose_offline.specs.Fault.{last_line, status_of}
-use Rattle.hose_offline.specs.steps.Journal.{ClosesJournal, OpensJournal}
-use Rattle.hose_offline.specs.OnDisk.{CabinetFailed, JournalIsTold}
+use Rattle.hose_offline.specs.steps.Journal.{ClosesJournal, OpensJournal, TouchesOnly}
+use Rattle.hose_offline.specs.OnDisk.{CabinetFailed, JournalIsTold, OthersStay}
 use Rattle.hose_offline.specs.Parts.{Parts, Tellings}
 use Rattle.hose_offline.specs.Run.{IsRefusedText}
 use Rattle.hose_offline.specs.ServingOnDisk.{IsNotServed, first_of}
@@ -61,6 +63,10 @@ too_long_8 another is = absurd (omega (arith, is))
 
 -- ---- a command that names a topology and a journal
 
+-- once a text was read, and then a journal used, the disks of other names are as they were
+others_read : {C E : Type 0} (cabinet : CabinetGhosts C E) (name : List ℕ) (old mid new : C) → OnlyTextsRead cabinet old mid → TouchesOnly cabinet name mid new → OthersStay cabinet name old new
+others_read {E = E} cabinet name old mid new only alone = λ other apart. alone.others other apart ∙ ap (λ (held : List ℕ → Option E). held other) only.disks
+
 -- Nothing was read but a text, of which these bytes were taken: no topology was read of it, or no
 -- store was opened.
 pub record ReadsNothing {I O C E : Type 0} (tells : Tellings I O C E) (names : PricedNames) (before after : Parts I O C) (why : Fault) : Type 0 where
@@ -72,6 +78,7 @@ pub record ReadsNothing {I O C E : Type 0} (tells : Tellings I O C E) (names : P
   pub not_read : IsNotRead tells names before after left why
   pub absent : IsTrue (tells.cabinet.frame before.cabinet).tells → IsSome (tells.cabinet.text before.cabinet names.topology) → (tells.cabinet.frame after.cabinet).absent ≡ (tells.cabinet.frame before.cabinet).absent
   pub not_there : IsTrue (tells.cabinet.frame before.cabinet).tells → tells.cabinet.text before.cabinet names.topology ≡ None → why ≡ Cabinet
+  pub others : OthersStay tells.cabinet names.journal before.cabinet after.cabinet
 
 module _ {I O C E : Type 0} (tells : Tellings I O C E) (names : PricedNames) (before after : Parts I O C) where
   -- ---- nothing was read
@@ -86,9 +93,10 @@ module _ {I O C E : Type 0} (tells : Tellings I O C E) (names : PricedNames) (be
     not_read = inl (reads.text, reads.only_texts.disks);
     absent = reads.absent;
     not_there = λ told none. cc (reads.not_there told none);
+    others = λ other apart. ap (λ (held : List ℕ → Option E). held other) reads.only_texts.disks;
   }
 
-  pub no_store : (read : C) (network : Network) (why : Fault) → ReadsTopology tells.cabinet before.cabinet read names.prices names.topology (Ok network) → (tells.cabinet.frame after.cabinet).absent ≡ (tells.cabinet.frame read).absent
+  pub no_store : (read : C) (network : Network) (why : Fault) → ReadsTopology tells.cabinet before.cabinet read names.prices names.topology (Ok network) → TouchesOnly tells.cabinet names.journal read after.cabinet
       → IsNotServed tells.cabinet tells.disk names.journal read after.cabinet network (Err why) → ReadsNothing tells names before after why
   no_store read network why reads same not = record {
     taken = reads.taken;
@@ -97,8 +105,9 @@ module _ {I O C E : Type 0} (tells : Tellings I O C E) (names : PricedNames) (be
     limit = reads.limit;
     too_long = ((λ is. absurd (not_too_long tells.cabinet tells.disk names.journal read after.cabinet network why not is)), λ more. absurd (cc (reads.too_long.1 more)));
     not_read = inr (record { network = network; text = reads.text.2; is = not_served_before tells.cabinet tells.disk before.cabinet read after.cabinet reads.only_texts reads.text.1 names.journal network why not });
-    absent = λ told some. same ∙ reads.absent told some;
+    absent = λ told some. same.absent ∙ reads.absent told some;
     not_there = λ told none. absurd (cc (reads.not_there told none));
+    others = others_read tells.cabinet names.journal before.cabinet read after.cabinet reads.only_texts same;
   }
 
   module _ (purpose : Purpose) where
@@ -126,6 +135,7 @@ module _ {I O C E : Type 0} (tells : Tellings I O C E) (names : PricedNames) (be
         refused = λ refused. rw is (refused_by why refused reads.not_read);
         not_there = λ told none. is ∙ ap status_of (reads.not_there told none);
         absent = reads.absent;
+        others = reads.others;
         refused_journal = λ servable told held. rw is (journal_by why servable held reads.not_read reads.too_long.0);
       };
       complete = λ servable told held. rw is (complete_by why servable told held reads.not_read reads.too_long.0);
@@ -171,13 +181,14 @@ module _ {I O C E : Type 0} (tells : Tellings I O C E) (names : PricedNames) (be
         journal_by another servable held (inr served) long = absurd served.is
 
     -- ---- a topology was read, and this was told of its network
-    module _ (read : C) (network : Network) (status : ℕ) (reads : ReadsTopology tells.cabinet before.cabinet read names.prices names.topology (Ok network)) (same : (tells.cabinet.frame after.cabinet).absent ≡ (tells.cabinet.frame read).absent) where
+    module _ (read : C) (network : Network) (status : ℕ) (reads : ReadsTopology tells.cabinet before.cabinet read names.prices names.topology (Ok network)) (same : TouchesOnly tells.cabinet names.journal read after.cabinet) where
       pub names_read : purpose.IsFulfilled status network → (Told network (λ bytes. (history : List Entry) → ¬ IsHistoryOf network history bytes) → Failing → (status ≡ 5) ⊎ (status ≡ 7)) → NamesOutcome tells names before after purpose reads.left status
       names_read tells_so refuses = record {
         ends = inl (record { network = network; text = reads.text.2; is = tells_so });
         refused = λ refused. absurd (no_network_read (notation_of names.topology) names.prices _ _ network refused reads.text.2);
         not_there = λ told none. absurd (cc (reads.not_there told none));
-        absent = λ told some. same ∙ reads.absent told some;
+        absent = λ told some. same.absent ∙ reads.absent told some;
+        others = others_read tells.cabinet names.journal before.cabinet read after.cabinet reads.only_texts same;
         refused_journal = λ servable told held. refuses (of_read (notation_of names.topology) names.prices _ _ reads.taken network _ reads.gives reads.text.2 told) held;
       }
 
@@ -227,7 +238,7 @@ module _ {I O C E : Type 0} (tells : Tellings I O C E) (names : PricedNames) (be
       left = has_before tells.cabinet tells.disk before.cabinet read after.cabinet reads.only_texts names.journal _ has.left;
     }
 
-    pub is_audited : (status : ℕ) → AuditsJournal tells names.journal (record before { cabinet = read }) after status network → (tells.cabinet.frame after.cabinet).absent ≡ (tells.cabinet.frame read).absent → after.input ≡ before.input → AuditOutcome tells names before after status
+    pub is_audited : (status : ℕ) → AuditsJournal tells names.journal (record before { cabinet = read }) after status network → TouchesOnly tells.cabinet names.journal read after.cabinet → after.input ≡ before.input → AuditOutcome tells names before after status
     is_audited status (inr (why, is, not, out)) same input = named_not_read tells names before after _ why status (no_store tells names before after read network why reads same not) is out tt input
     is_audited status (inl (history, closing, after_read, ends)) same input =
         named_read tells names before after _ read network status reads same input (history, closing, has, ends)

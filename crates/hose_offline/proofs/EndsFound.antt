@@ -9,7 +9,7 @@ use Rattle.hose_graph.specs.Network.{IsNetwork, Network, name_of}
 use Rattle.hose_proto.specs.Command.{AreEndsOf, AreNewEnds}
 use Rattle.hose_proto.specs.EndWords.{AreEndWords, IsEndWord, IsFirstUnknown, NamesNode, name_in, named_rate}
 use Rattle.hose_proto.specs.Places.{end_word}
-use Rattle.hose_proto.specs.steps.Fields.{IsEndOf}
+use Rattle.hose_proto.specs.steps.Places.{IsEndOf}
 use Rattle.hose_proto.proofs.EndWords.{name_of_end, names_its_node}
 use Rattle.hose_proto.proofs.Hoses.{hose_made, makes_hose}
 use Rattle.hose_offline.specs.steps.ProveOutcome.{AreEndsInOrder}

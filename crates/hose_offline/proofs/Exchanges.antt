@@ -1,6 +1,7 @@
 -- Lines of a script, one after another, and what they lead to.
 use Rattle.std.proofs.Common.{◌≡◌, ◌⊎◌, inl, inr, ⊎_elim, ℕ, zero, suc, ◌+◌, ◌-◌, ◌^◌, ◌≤◌, List, [], ◌∷◌, ◌++◌, None, Some, Option, refl, sym, ◌∙◌, ap, subst, arith, length, append-nil}
-use Rattle.std.specs.Prelude.{IfSome, slice_get}
+use Rattle.std.specs.Prelude.{IfSome, slice_get, take}
+use Rattle.std.proofs.Math.Seq.{take-append_seam}
 use mathlib.Core.List.{IsPrefix}
 use Rattle.hose_words.specs.Grammar.{IsFirstNotAllowed}
 use Rattle.hose_words.specs.Words.{words_of}
@@ -10,18 +11,17 @@ use Rattle.hose_words.specs.declared.lines.Line.TheVariants as line
 use Rattle.hose_graph.specs.declared.entry.Entry.{Entry}
 use Rattle.hose_graph.specs.declared.command.Command.{Command}
 use Rattle.hose_graph.specs.declared.command.Reply.{Reply}
+use Rattle.hose_graph.specs.declared.command.Reply.TheVariants.{Disk}
 use Rattle.hose_graph.specs.Network.{Network}
 use Rattle.hose_law.specs.Book.{Book}
 use Rattle.hose_law.specs.History.{EntryKind, book_of, IsDecided, IsDecidedAt, IsSound, IsSoundAt}
 use Rattle.hose_law.specs.steps.History.{IsSoundWith}
 use Rattle.hose_law.specs.Answer.{IsStepOf}
-use Rattle.hose_law.specs.Quotes.{Holding, nothing_held, with_held}
+use Rattle.hose_law.specs.Quotes.{Holding, Holdings, nothing_held, with_held}
 use Rattle.hose_law.proofs.Fronts.{prefix_push}
 use Rattle.hose_law.proofs.Lines.{steps_many, steps_push}
 use Rattle.hose_law.proofs.Scripts.{decided_end, decided_push, disks_push}
-use Rattle.hose_law.specs.ReplyKind.{ReplyKind, failures_of, kind_of}
-use Rattle.hose_law.specs.ReplyKind.ReplyKind.{ByTheBook, ForDisk, ForMemory, ForNoCommand}
-use Rattle.hose_law.specs.Script.{ReadLine, IsLineStep, one_if_disk, IsFixedReply, ScriptState, script_state}
+use Rattle.hose_law.specs.Script.{ReadLine, IsLineStep, IsScript, one_if_disk, IsFixedReply, ScriptState, script_state}
 use Rattle.hose_law.specs.Script.ReadLine.{Asks, IsBad, IsLong, Unread}
 use Rattle.hose_offline.specs.ScriptLine.{IsAsking, WantsMemory, script_grammar}
 use Rattle.hose_io.specs.Frame.{Frame, Rose, Stays}
@@ -32,7 +32,7 @@ use Rattle.hose_book.specs.declared.books.Committed.{Committed}
 use Rattle.hose_book.specs.declared.books.Committed.TheVariants.{Done, Disk as Failing}
 use Rattle.hose_book.specs.declared.books.Books.{Ghosts as BooksGhosts}
 use Rattle.hose_core.specs.steps.Holding.{State}
-use Rattle.hose_core.specs.steps.Stepping.{FitsHistory, Goes, committed_for, committed_of, history_with}
+use Rattle.hose_core.specs.steps.Stepping.{FitsHistory, Goes, committed_of, history_with}
 use Rattle.hose_offline.specs.Talking.{IsAskedBy, Says, TellsDisks}
 use Rattle.hose_offline.specs.steps.Talking.{AnswersLine, HasAnsweredLines, SaysRead}
 
@@ -62,13 +62,8 @@ told_one before after rose = ⊎_elim (λ more. inl (omega (arith, more))) (λ m
 
 -- what the commit of an entry left of a frame
 kept : (before after : Frame) (reply : Reply) → IsMet before (committed_of reply) after → Stays before after × TellsOne before reply after
-kept before after reply met = at (kind_of reply) met
-  where
-    at : (kind : ReplyKind) → IsMet before (committed_for kind) after → Stays before after × ((before.faults + failures_of kind ≤ after.faults) ⊎ (2 ^ 64 - 1 ≤ after.faults))
-    at ByTheBook met = (Stays-same met, told_none before after met)
-    at (ForDisk epoch) met = (met.0, told_one before after met.1)
-    at ForMemory met = (Stays-same met, told_none before after met)
-    at ForNoCommand met = (Stays-same met, told_none before after met)
+kept before after (Disk epoch) met = (met.0, told_one before after met.1)
+kept before after reply met = (Stays-same met, told_none before after met)
 
 -- one reply more
 disks_more : (before : ℕ) (middle after : Frame) (replies : List Reply) (reply : Reply) → TellsDisks before replies middle.faults → Stays middle after → TellsOne middle reply after
@@ -116,9 +111,17 @@ still_there [] more place x is = absurd (cc is)
 still_there (first ∷ xs) more zero x is = is
 still_there (first ∷ xs) more (suc place) x is = still_there xs more place x is
 
+-- the front before what is there stays
+front_stays : {X : Type 0} (xs more : List X) (place : ℕ) (x : X) → slice_get xs place ≡ Some x → take place (xs ++ more) ≡ take place xs
+front_stays [] more place x is = absurd (cc is)
+front_stays (first ∷ xs) more zero x is = refl
+front_stays (first ∷ xs) more (suc place) x is =
+    let rest = front_stays xs more place x is in
+    λ i. first ∷ rest i
+
 -- what lines ask for more of them ask for
-asked_more : (lines : List ReadLine) (replies : List Reply) (line : ReadLine) (reply : Reply) (network : Network) (book : Book) (entry : Entry) → IsAskedBy lines replies network book entry → IsAskedBy (lines ++ line ∷ []) (replies ++ reply ∷ []) network book entry
-asked_more lines replies line reply network book entry is = record {
+asked_more : (since : List Entry) (lines : List ReadLine) (replies : List Reply) (line : ReadLine) (reply : Reply) (network : Network) (book : Book) (entry : Entry) → IsAskedBy since lines replies network book entry → IsAskedBy since (lines ++ line ∷ []) (replies ++ reply ∷ []) network book entry
+asked_more since lines replies line reply network book entry is = record {
   decided = is.decided;
   place = is.place;
   customer = is.customer;
@@ -129,16 +132,19 @@ asked_more lines replies line reply network book entry is = record {
   history = is.history;
   is_book = is.is_book;
   held = is.held;
+  before = subst (λ (front : List Reply). IsScript network 0 (take is.place (lines ++ line ∷ [])) front (script_state since nothing_held) (script_state is.history is.held)) (sym (front_stays replies (reply ∷ []) is.place _ is.answer))
+      (subst (λ (front : List ReadLine). IsScript network 0 front (take is.place replies) (script_state since nothing_held) (script_state is.history is.held)) (sym (front_stays lines (line ∷ []) is.place _ is.line)) is.before);
   next = is.next;
   after = is.after;
   step = is.step;
 }
 
 -- what the last line asks for
-asked_last : (lines : List ReadLine) (replies : List Reply) (customer : List ℕ) (command : Command) (reply : Reply) (network : Network) (history next : List Entry) (held after : Holding) (entry : Option Entry) → length lines ≡ length replies
-    → IfSome entry (IsDecidedAt network (book_of 0 history)) → IsStepOf network 0 history customer held command reply entry next after → IfSome entry (IsAskedBy (lines ++ Asks customer command ∷ []) (replies ++ reply ∷ []) network (book_of 0 history))
-asked_last lines replies customer command reply network history next held after None many decided step = tt
-asked_last lines replies customer command reply network history next held after (Some entry) many decided step = record {
+asked_last : (since : List Entry) (lines : List ReadLine) (replies : List Reply) (customer : List ℕ) (command : Command) (reply : Reply) (network : Network) (history next : List Entry) (held : Holdings) (after : Holding) (entry : Option Entry) → length lines ≡ length replies
+    → IsScript network 0 lines replies (script_state since nothing_held) (script_state history held)
+    → IfSome entry (IsDecidedAt network (book_of 0 history)) → IsStepOf network 0 history customer (held customer) command reply entry next after → IfSome entry (IsAskedBy since (lines ++ Asks customer command ∷ []) (replies ++ reply ∷ []) network (book_of 0 history))
+asked_last since lines replies customer command reply network history next held after None many before decided step = tt
+asked_last since lines replies customer command reply network history next held after (Some entry) many before decided step = record {
   decided = decided;
   place = length lines;
   customer = customer;
@@ -149,6 +155,9 @@ asked_last lines replies customer command reply network history next held after 
   history = history;
   is_book = refl;
   held = held;
+  before = subst (λ (front : List Reply). IsScript network 0 (take (length lines) (lines ++ Asks customer command ∷ [])) front (script_state since nothing_held) (script_state history held))
+      (sym (ap (λ (place : ℕ). take place (replies ++ reply ∷ [])) many ∙ take-append_seam replies (reply ∷ [])))
+      (subst (λ (front : List ReadLine). IsScript network 0 front replies (script_state since nothing_held) (script_state history held)) (sym (take-append_seam lines (Asks customer command ∷ []))) before);
   next = next;
   after = after;
   step = step;
@@ -160,10 +169,10 @@ module _ {K R : Type 0} (books : BooksGhosts K R) (since : List Entry) (first ol
 
   -- what a line more may ask for
   abbrev Asked : ReadLine → Reply → EntryKind
-  Asked line reply = IsAskedBy (lines ++ line ∷ []) (replies ++ reply ∷ [])
+  Asked line reply = IsAskedBy since (lines ++ line ∷ []) (replies ++ reply ∷ [])
 
   longer : (line : ReadLine) (reply : Reply) → GoesOn books (Asked line reply) network since first.books was.answered.history old.books
-  longer line reply = goes_weaker books (IsAskedBy lines replies) (Asked line reply) network since first.books (asked_more lines replies line reply network) was.answered.goes_on
+  longer line reply = goes_weaker books (IsAskedBy since lines replies) (Asked line reply) network since first.books (asked_more since lines replies line reply network) was.answered.goes_on
 
   -- a command was answered by a step
   command_more : (customer : List ℕ) (command : Command) (reply : Reply) → AnswersLine books old new (Asks customer command) reply → HasAnsweredLines books since first new (lines ++ Asks customer command ∷ []) (replies ++ reply ∷ [])
@@ -177,7 +186,7 @@ module _ {K R : Type 0} (books : BooksGhosts K R) (since : List Entry) (first ol
       let sound = subst (λ (n : Network). IsSoundWith n (book_of 0 history) entry) was.network on.stepped.sound in
       let decided = subst (λ (n : Network). IfSome entry (IsDecidedAt n (book_of 0 history))) was.network on.decided in
       let many = steps_many (IsLineStep network 0) lines replies (script_state since nothing_held) (script_state history left) was.answered.script in
-      let asked = asked_last lines replies customer command reply network history on.stepped.next held on.stepped.after entry many decided step in
+      let asked = asked_last since lines replies customer command reply network history on.stepped.next left on.stepped.after entry many was.answered.script decided step in
       let before : Leads books (Asked (Asks customer command) reply) network since first.books history old.books = record { decided = was.answered.decided; begins = was.answered.begins; goes_on = longer (Asks customer command) reply } in
       let leads = subst (λ (all : List Entry). Leads books (Asked (Asks customer command) reply) network since first.books all new.books) (sym on.leads)
       (leads_on books (Asked (Asks customer command) reply) network since first.books old.books new.books history reply before entry decided sound asked on.stepped.goes) in

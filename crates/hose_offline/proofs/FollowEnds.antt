@@ -19,6 +19,7 @@ use Rattle.hose_offline.specs.Fault.{last_line, status_of}
 use Rattle.hose_offline.specs.FollowOutcome.{FollowOutcome, IsOfNoPackets, IsOfPackets, to_follow}
 use Rattle.hose_offline.specs.Following.{HasFollowed, following_done}
 use Rattle.hose_offline.specs.steps.Following.{FollowsJournal}
+use Rattle.hose_offline.specs.steps.Journal.{TouchesOnly}
 use Rattle.hose_offline.specs.Parts.{Parts, Tellings}
 use Rattle.hose_offline.specs.ServingOnDisk.{IsNotServed, first_of}
 use Rattle.hose_offline.specs.TopologyTold.{limit_of, notation_of}
@@ -145,7 +146,7 @@ module _ {I O C E : Type 0} (tells : Tellings I O C E) (names : PricedNames) (be
     cuts ended closing has told (inr (inl (eleven, (at, is)))) = inl eleven
     cuts ended closing has told (inr (inr seven)) = inr seven
 
-    module _ (read : C) (reads : ReadsTopology tells.cabinet before.cabinet read names.prices names.topology (Ok network)) (same_absent : (tells.cabinet.frame after.cabinet).absent ≡ (tells.cabinet.frame read).absent) where
+    module _ (read : C) (reads : ReadsTopology tells.cabinet before.cabinet read names.prices names.topology (Ok network)) (alone : TouchesOnly tells.cabinet names.journal read after.cabinet) where
       followed_before : (ended : FollowEnd) (closing : Result ⊤ Failed) → HasFollowed tells names.journal (record before { cabinet = read }) (record after { output = left }) network ended closing → Followed ended closing
       followed_before ended closing has = record {
         since = has.since;
@@ -182,7 +183,7 @@ module _ {I O C E : Type 0} (tells : Tellings I O C E) (names : PricedNames) (be
         gives = has.follows.gives;
         limit = has.follows.limit;
         too_long = ((λ at_8. inr (has.follows.too_long.0 (long_end ended closing (too_long_at_8 (first_of (following_done ended) closing) (sym is ∙ at_8))))), back);
-        named = names_read tells names before after (to_follow tells names before after) read network status reads same_absent
+        named = names_read tells names before after (to_follow tells names before after) read network status reads alone
             (record { left = left; done = first_of (following_done ended) closing; leaves = (ended, closing, has, refl); last_line = out; is_status = is })
             (λ told held. absurd (clash tells.cabinet tells.disk before.cabinet after.cabinet names.journal _ _ (λ image history none. none has.since history) has.begun told));
         complete = λ set told. completes ended closing has told (ends_well ended closing has is set.held (inl told));
@@ -199,7 +200,7 @@ module _ {I O C E : Type 0} (tells : Tellings I O C E) (names : PricedNames) (be
         where
           at : (one : Result ⊤ Fault) → IsNotServed tells.cabinet tells.disk names.journal read after.cabinet network one → status ≡ status_of_done one → IsLastLine tells.sink left after.output one → FollowOutcome tells names before after status
           at (Ok value) not is out = absurd not
-          at (Err why) not is out = not_followed why status (no_store tells names before after read network why reads same_absent not) is (subst (λ (o : O). IsOut tells.sink o after.output (last_line why)) same out) untouched
+          at (Err why) not is out = not_followed why status (no_store tells names before after read network why reads alone not) is (subst (λ (o : O). IsOut tells.sink o after.output (last_line why)) same out) untouched
       is_followed done (inr (ended, closing, has, told)) is out =
           followed ended closing (followed_before ended closing has) (is ∙ ap status_of_done told) (subst (IsLastLine tells.sink left after.output) told out)
 

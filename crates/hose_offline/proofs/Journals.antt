@@ -160,8 +160,8 @@ module _ {C E : Type 0} (cabinet : CabinetGhosts C E) (disk : DiskGhosts E) (nam
 
   module _ {S O : Type 0} (source : SourceGhosts S) (sink : SinkGhosts O) (start now : Reader S) (output output' : O) (first last : KeptStore E) (served : Result ⊤ Fault) (closing : Result ⊤ Failed)
       (opens : OpensJournal cabinet disk IsDecidedAt name old mid network store) (closes : ClosesJournal cabinet disk mid new last closing)
-      (asked : (lines : List ReadLine) (replies : List Reply) (history : List Entry) (last : KeptStore E) (left : E) (closing : Result ⊤ Failed) → GoesOn (store_books disk) (IsAskedBy lines replies) network opens.opens.opened.history store history last → Closes disk last left closing
-      → HasLeft disk (IsAskedBy lines replies) (disk.may_leave opens.was) (opening_of disk network opens.opens.opened.history opens.was) history left closing) where
+      (asked : (lines : List ReadLine) (replies : List Reply) (history : List Entry) (last : KeptStore E) (left : E) (closing : Result ⊤ Failed) → GoesOn (store_books disk) (IsAskedBy opens.opens.opened.history lines replies) network opens.opens.opened.history store history last → Closes disk last left closing
+      → HasLeft disk (IsAskedBy opens.opens.opened.history lines replies) (disk.may_leave opens.was) (opening_of disk network opens.opens.opened.history opens.was) history left closing) where
     abbrev tells : TalkTellings S O (KeptStore E) Ready
     tells = talk_tellings source sink (store_books disk)
 
@@ -186,7 +186,7 @@ module _ {C E : Type 0} (cabinet : CabinetGhosts C E) (disk : DiskGhosts E) (nam
       keeps = λ history lines replies goes told. record {
         told = told_back _ _ replies closes.call.met.stays.never_falls told;
         met = counts cabinet disk name old mid new network opens.was closes.left back closing closes.call.told;
-        left = left_as_kind cabinet disk name old mid new network opens.was closes.left back (IsAskedBy lines replies) opens.opens.opened.history history closing
+        left = left_as_kind cabinet disk name old mid new network opens.was closes.left back (IsAskedBy opens.opens.opened.history lines replies) opens.opens.opened.history history closing
             (asked lines replies history last closes.left closing goes closes.closes);
       };
     }

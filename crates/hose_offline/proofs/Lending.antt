@@ -1,14 +1,23 @@
 -- A disk that is lent by a cabinet and comes back, and a name that is looked for among texts.
-use Rattle.std.proofs.Common.{◌≡◌, ◌≢◌, ◌∙◌, ℕ, List, Option, None, Some, IfSome, IsSome, IsTrue, Ok, Err, refl, subst}
+use Rattle.std.proofs.Common.{◌≡◌, ◌∙◌, ℕ, List, Option, None, Some, IfSome, IsSome, IsTrue, Ok, Err, refl, ap, subst}
 use Rattle.hose_io.specs.declared.Failed.{Failed}
-use Rattle.hose_disk.specs.Cabinet.{IsDiskCall}
+use Rattle.hose_disk.specs.Cabinet.{CabinetFrame, IsDiskCall}
 use Rattle.hose_disk.specs.steps.Cabinet.{IsTextCall}
 use Rattle.hose_disk.specs.declared.cabinet.Cabinet.{Ghosts as CabinetGhosts}
 use Rattle.hose_disk.specs.declared.disk.Disk.{Ghosts as DiskGhosts}
 use Rattle.hose_offline.specs.Journal.{IsPutIn, IsTakenOut}
+use Rattle.hose_offline.specs.OnDisk.{OthersStay}
+use Rattle.hose_offline.specs.steps.Journal.{TouchesOnly}
 use Rattle.hose_offline.specs.Moving.{IsLent, IsLookedFor, IsNotFound, IsNotLent}
 
 module _ {C E : Type 0} (cabinet : CabinetGhosts C E) where
+  -- where a disk was taken out and one was put back, the disks of other names are as they were
+  pub others_then : (name : List ℕ) (old mid new : C) → (cabinet.frame mid).out ≡ Some name → OthersStay cabinet name old mid → IfSome (cabinet.frame mid).out (λ out. OthersStay cabinet out mid new) → OthersStay cabinet name old new
+  others_then name old mid new out taken back = λ other apart. later other apart ∙ taken other apart
+    where
+      later : OthersStay cabinet name mid new
+      later = subst (λ (held : Option (List ℕ)). IfSome held (λ one. OthersStay cabinet one mid new)) out back
+
   pub is_not_lent : (old new : C) → cabinet.held new ≡ cabinet.held old → {name : List ℕ} {failed : Failed} → IsDiskCall {T = E} name (cabinet.frame old) (cabinet.frame new) (Err failed) → IsNotLent cabinet old new
   is_not_lent old new same call = record { same = same; tells = call.tells; failed = call.met.failed refl }
 
@@ -32,8 +41,8 @@ module _ {C E : Type 0} (cabinet : CabinetGhosts C E) where
 
   module _ (disk : DiskGhosts E) where
     pub is_lent : (name : List ℕ) (old mid new : C) (opened left : E) (Done : E → E → Type 0) → IsTakenOut cabinet disk name old mid opened
-        → ((other : List ℕ) → other ≢ name → cabinet.held mid other ≡ cabinet.held old other) → cabinet.text mid ≡ cabinet.text old → IsPutIn cabinet disk mid new left
-        → IfSome (cabinet.frame mid).out (λ out. (other : List ℕ) → other ≢ out → cabinet.held new other ≡ cabinet.held mid other) → cabinet.text new ≡ cabinet.text mid → Done opened left → IsLent cabinet disk name old new Done
+        → OthersStay cabinet name old mid → cabinet.text mid ≡ cabinet.text old → IsPutIn cabinet disk mid new left
+        → IfSome (cabinet.frame mid).out (λ out. OthersStay cabinet out mid new) → cabinet.text new ≡ cabinet.text mid → Done opened left → IsLent cabinet disk name old new Done
     is_lent name old mid new opened left Done out others texts in_place others' texts' done = record {
       mid = mid;
       opened = opened;
@@ -41,9 +50,13 @@ module _ {C E : Type 0} (cabinet : CabinetGhosts C E) where
       out = out;
       done = done;
       in_place = in_place;
-      others = λ other apart. at other apart ∙ others other apart;
+      others = others_then name old mid new out.call.taken_out others others';
       texts = texts' ∙ texts;
     }
-      where
-        at : (other : List ℕ) → other ≢ name → cabinet.held new other ≡ cabinet.held mid other
-        at = subst (λ (held : Option (List ℕ)). IfSome held (λ n. (other : List ℕ) → other ≢ n → cabinet.held new other ≡ cabinet.held mid other)) out.call.taken_out others'
+
+    -- a disk was lent, and no text was asked for
+    pub lent_alone : (name : List ℕ) (old mid new : C) (opened left : E) → IsTakenOut cabinet disk name old mid opened → OthersStay cabinet name old mid → IsPutIn cabinet disk mid new left → IfSome (cabinet.frame mid).out (λ out. OthersStay cabinet out mid new) → TouchesOnly cabinet name old new
+    lent_alone name old mid new opened left out others in_place others' = record {
+      absent = ap (λ (frame : CabinetFrame). frame.absent) in_place.call ∙ out.call.absent;
+      others = others_then name old mid new out.call.taken_out others others';
+    }

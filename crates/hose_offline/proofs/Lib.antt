@@ -12,7 +12,7 @@ pub mod Journals
 pub mod JsonLemmas
 mod Judging
 pub mod Leaving
-mod Lending
+pub mod Lending
 mod MoveComplete
 mod MoveEnds
 mod MoveLines

@@ -1,7 +1,7 @@
 -- What stands at the end of a move, told of what was before and after it.
-use Rattle.std.proofs.Common.{◌≡◌, ◌≢◌, ◌∙◌, inl, inr, ℕ, List, Bool, true, false, Option, Some, IfSome, IsTrue, Result, Ok, Err, length, take, refl, sym, ap, subst, arith}
+use Rattle.std.proofs.Common.{◌≡◌, ◌≢◌, ◌∙◌, inl, inr, ℕ, List, Bool, true, false, Option, None, Some, IfSome, IsTrue, Result, Ok, Err, length, take, refl, sym, ap, subst, arith}
 use Rattle.std.proofs.lemmas.List.{take_all}
-use Rattle.hose_io.specs.Stream.{Stream}
+use Rattle.hose_io.specs.Stream.{Gives, Stream}
 use Rattle.hose_words.specs.Reading.{WhereTold}
 use Rattle.hose_graph.specs.Network.{Network}
 use Rattle.hose_graph.specs.declared.entry.Entry.{Entry}
@@ -23,11 +23,11 @@ use Rattle.hose_store.specs.Opening.{IsUnchanged}
 use Rattle.hose_store.specs.Recovery.{IsHistoryOf}
 use Rattle.hose_store.specs.declared.fault.StoreFault.{StoreFault}
 use Rattle.hose_offline.specs.Auditing.{ReadsTopology}
-use Rattle.hose_offline.specs.CabinetText.{OnlyTextsRead}
+use Rattle.hose_offline.specs.CabinetText.{OnlyTextsRead, whole_text}
 use Rattle.hose_offline.specs.Fault.{status_of}
 use Rattle.hose_offline.specs.MoveEnd.{EndsMoved, moved_done, stop_status}
 use Rattle.hose_offline.specs.MoveOutcome.{IsMoved, IsOnlyRead}
-use Rattle.hose_offline.specs.Moving.{EntersStated, IsComplete, IsLent, IsLookedFor, MoveNames, MovesNamed, read_done}
+use Rattle.hose_offline.specs.Moving.{EntersStated, IsComplete, IsLent, IsLookedFor, LendsOld, MoveNames, MovesNamed, read_done, to_read}
 use Rattle.hose_offline.specs.OnDisk.{HadContent}
 use Rattle.hose_offline.specs.Parts.{Parts, Tellings}
 use Rattle.hose_offline.specs.TopologyTold.{TellsPriced, notation_of}
@@ -50,6 +50,14 @@ stop_not_0 (stop.New why) none = not_0 why none
 stop_not_0 (stop.Network change) none = omega (arith, none)
 stop_not_0 (stop.Unsound epoch) none = omega (arith, none)
 stop_not_0 (stop.Differs epoch) none = omega (arith, none)
+
+-- ---- a text
+
+-- what a text tells of which some was taken it tells where it is told
+tells_all : (text left : Option Stream) (taken : List ℕ) (P : List ℕ → Type 0) → Gives text left taken → WhereTold text left (λ bytes _. P bytes) → IfSome text (λ stream. P stream.left)
+tells_all None left taken P gives told = tt
+tells_all (Some text) None taken P gives told = absurd gives
+tells_all (Some text) (Some left) taken P gives told = told
 
 -- ---- a disk in a cabinet
 
@@ -173,8 +181,9 @@ module _ {C E : Type 0} (cabinet : CabinetGhosts C E) (disk : DiskGhosts E) wher
       record {
         old = old;
         new = new;
-        old_told = (reads.left, reads.text.2);
-        new_told = (reads'.left, subst (λ (text : Option Stream). WhereTold text reads'.left (λ bytes _. TellsPriced (notation_of names.new_topology) names.prices bytes new)) (same_stream cabinet c0 c1 names.new_topology 0 reads.only_texts) reads'.text.2);
+        old_told = tells_all (whole_text cabinet c0 names.topology) reads.left reads.taken (λ bytes. TellsPriced (notation_of names.topology) names.prices bytes old) reads.gives reads.text.2;
+        new_told = subst (λ (text : Option Stream). IfSome text (λ stream. TellsPriced (notation_of names.new_topology) names.prices stream.left new)) (same_stream cabinet c0 c1 names.new_topology 0 reads.only_texts)
+            (tells_all (whole_text cabinet c1 names.new_topology) reads'.left reads'.taken (λ bytes. TellsPriced (notation_of names.new_topology) names.prices bytes new) reads'.gives reads'.text.2);
         goes_on = goes_on;
         history = was.history;
         had = has_same names.journals.old c0 c3 _ here was.had;
@@ -254,3 +263,32 @@ module _ {I O C E : Type 0} (tells : Tellings I O C E) (names : MoveNames) (befo
     kept_named done (inr (old, c1, reads, inr (new, c2, reads', inr (goes_on, inr (stated, c4, inr (c3, looked, inr (read, same, lent)), enters))))) =
         between before.cabinet c3 c4 after.cabinet (on before.cabinet c2 c3 (on before.cabinet c1 c2 (texts before.cabinet c1 reads.only_texts) (texts c1 c2 reads'.only_texts)) (texts c2 c3 looked.only_texts))
         (lent_read tells.cabinet tells.disk names.journals.old c3 c4 _ lent lent.done.1) (later c4 new stated done enters)
+
+  -- ---- the disks of other names
+
+  module _ (name : List ℕ) (not_old : name ≢ names.journals.old) (not_new : name ≢ names.journals.new) where
+    abbrev Alike : C → C → Type 0
+    Alike one other = tells.cabinet.held other name ≡ tells.cabinet.held one name
+
+    all_alike : (one other : C) → tells.cabinet.held other ≡ tells.cabinet.held one → Alike one other
+    all_alike one other same = ap (λ (held : List ℕ → Option E). held name) same
+
+    read_alike : (one other : C) (network : Network) (result : Result Stated Fault) → LendsOld tells.cabinet tells.disk names.journals.old one other (to_read tells.disk network names.journals.scope) result → Alike one other
+    read_alike one other network result (inl (same, none)) = all_alike one other none.only_texts.disks
+    read_alike one other network result (inr (found, looked, inl (same, none))) = all_alike found other none.same ∙ all_alike one found looked.only_texts.disks
+    read_alike one other network result (inr (found, looked, inr (read, same, lent))) = lent.others name not_old ∙ all_alike one found looked.only_texts.disks
+
+    entered_alike : (c4 : C) (new : Network) (stated : Stated) (done : Result Moved MoveStop) → EntersStated tells names.journals.new (record before { cabinet = c4 }) after new stated done → Alike c4 after.cabinet
+    entered_alike c4 new stated done (inl (same, rose, part, held)) = ap (λ (c : C). tells.cabinet.held c name) held
+    entered_alike c4 new stated done (inr (out, worked, inl (same, none))) = all_alike c4 after.cabinet none.same
+    entered_alike c4 new stated done (inr (out, worked, inr (moved, same, lent))) = lent.others name not_new
+
+    pub others_named : (done : Result Moved MoveStop) → MovesNamed tells names before after done → Alike before.cabinet after.cabinet
+    others_named done (inl (why, same, reads, out)) = all_alike before.cabinet after.cabinet reads.only_texts.disks
+    others_named done (inr (old, c1, reads, inl (why, same, reads', out))) = all_alike c1 after.cabinet reads'.only_texts.disks ∙ all_alike before.cabinet c1 reads.only_texts.disks
+    others_named done (inr (old, c1, reads, inr (new, c2, reads', inl (change, same, first, out, held)))) =
+        ap (λ (c : C). tells.cabinet.held c name) held ∙ (all_alike c1 c2 reads'.only_texts.disks ∙ all_alike before.cabinet c1 reads.only_texts.disks)
+    others_named done (inr (old, c1, reads, inr (new, c2, reads', inr (goes_on, inl (why, same, lends, out))))) =
+        read_alike c2 after.cabinet old (Err why) lends ∙ (all_alike c1 c2 reads'.only_texts.disks ∙ all_alike before.cabinet c1 reads.only_texts.disks)
+    others_named done (inr (old, c1, reads, inr (new, c2, reads', inr (goes_on, inr (stated, c4, lends, enters))))) =
+        entered_alike c4 new stated done enters ∙ (read_alike c2 c4 old (Ok stated) lends ∙ (all_alike c1 c2 reads'.only_texts.disks ∙ all_alike before.cabinet c1 reads.only_texts.disks))

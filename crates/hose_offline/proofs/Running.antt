@@ -14,9 +14,8 @@ use Rattle.hose_words.proofs.OnReading.{IsAfterLines-then, WhereTold-both, Where
 use Rattle.hose_graph.specs.Network.{Network, IsNetwork}
 use Rattle.hose_graph.specs.declared.entry.Entry.{Entry}
 use Rattle.hose_graph.specs.declared.command.Reply.{Reply}
-use Rattle.hose_law.specs.ReplyKind.{ReplyKind, IsDiskKind, failures_of, kind_of}
-use Rattle.hose_law.specs.ReplyKind.ReplyKind.{ByTheBook, ForDisk, ForMemory, ForNoCommand}
-use Rattle.hose_law.specs.Script.{IsForDisk, ReadLine, WithoutDisk}
+use Rattle.hose_graph.specs.declared.command.Reply.TheVariants.{Disk}
+use Rattle.hose_law.specs.Script.{IsForDisk, ReadLine, WithoutDisk, one_if_disk}
 use Rattle.hose_law.proofs.Cheapest.{decided_cheapest}
 use Rattle.hose_law.proofs.Lives.{live_held, stays_live}
 use Rattle.hose_law.proofs.Sold.{sold}
@@ -98,13 +97,11 @@ run_of prices keeping old new before after run is one out = record {
 pub never_told : (replies : List Reply) → TellsDisks 0 replies 0 → WithoutDisk replies
 never_told [] told = All-nil (λ reply. ¬ IsForDisk reply)
 never_told (reply ∷ replies) (inr most) = absurd (omega (arith, most))
-never_told (reply ∷ replies) (inl told) = All-cons (λ r. ¬ IsForDisk r) reply replies (is_none (kind_of reply) (omega (arith, told))) (never_told replies (inl (omega (arith, told))))
+never_told (reply ∷ replies) (inl told) = All-cons (λ r. ¬ IsForDisk r) reply replies (is_none reply (omega (arith, told))) (never_told replies (inl (omega (arith, told))))
   where
-    is_none : (kind : ReplyKind) → failures_of kind ≡ 0 → ¬ IsDiskKind kind
-    is_none ByTheBook none disk = disk
-    is_none (ForDisk at) none disk = cc none
-    is_none ForMemory none disk = disk
-    is_none ForNoCommand none disk = disk
+    is_none : (reply : Reply) → one_if_disk reply ≡ 0 → ¬ IsForDisk reply
+    is_none (Disk at) none disk = cc none
+    is_none reply none disk = disk
 
 -- ---- what a run leaves
 
@@ -141,7 +138,7 @@ module _ (prices : Network → Network → Type 0) {S O : Type 0} (source : Ghos
 
   -- and then lines were answered
   module _ {K R : Type 0} (books : BooksGhosts K R) (keeping : Keeping) (since : List Entry) (first now : K) (begun : keeping.IsBegunWith network since)
-      (keeps : (history : List Entry) (lines : List ReadLine) (replies : List Reply) → GoesOn books (IsAskedBy lines replies) network since first history now → TellsDisks (books.frame first).faults replies (books.frame now).faults
+      (keeps : (history : List Entry) (lines : List ReadLine) (replies : List Reply) → GoesOn books (IsAskedBy since lines replies) network since first history now → TellsDisks (books.frame first).faults replies (books.frame now).faults
       → keeping.Keeps (record { network = network; since = since; history = history; lines = lines; replies = replies }))
       (more : ReadsOn source middle last) where
     abbrev old_text : Option Stream

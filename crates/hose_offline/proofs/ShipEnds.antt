@@ -28,6 +28,7 @@ use Rattle.hose_follow.specs.declared.shipping.ShipFault.TheVariants.{Store, Wri
 use Rattle.hose_offline.specs.Auditing.{PricedNames, ReadsTopology}
 use Rattle.hose_offline.specs.Ending.{IsLastLine, NoneFailed, status_of_done}
 use Rattle.hose_offline.specs.Fault.{of_store}
+use Rattle.hose_offline.specs.steps.Journal.{TouchesOnly}
 use Rattle.hose_offline.specs.OnDisk.{CabinetFailed, HadContent, IsUnopened, JournalIsTold}
 use Rattle.hose_offline.specs.Parts.{Parts, Tellings}
 use Rattle.hose_offline.specs.ServingOnDisk.{IsNotServed}
@@ -172,7 +173,7 @@ module _ {I O C E : Type 0} (tells : Tellings I O C E) (from : ℕ) where
       refuses status (Err fault.Memory) is ships told held = inr is
       refuses status (Err another) is ships told held = absurd ships.0
 
-      pub is_shipped : (read : C) (done : Result ⊤ Fault) (status : ℕ) → ReadsTopology tells.cabinet before.cabinet read names.prices names.topology (Ok network) → (tells.cabinet.frame after.cabinet).absent ≡ (tells.cabinet.frame read).absent → after.input ≡ before.input
+      pub is_shipped : (read : C) (done : Result ⊤ Fault) (status : ℕ) → ReadsTopology tells.cabinet before.cabinet read names.prices names.topology (Ok network) → TouchesOnly tells.cabinet names.journal read after.cabinet → after.input ≡ before.input
           → ShipsJournal tells names.journal from (record before { cabinet = read }) (record after { output = left }) network done → IsUnopened tells.cabinet tells.disk read after.cabinet network names.journal → status ≡ status_of_done done → IsLastLine tells.sink left after.output done → ShipOutcome tells names from before after status
       is_shipped read done status reads same input shipped unopened is out =
           let ships = ships_before (record after { output = left }) read network reads done shipped in

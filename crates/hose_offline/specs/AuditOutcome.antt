@@ -10,7 +10,7 @@ use Rattle.hose_store.specs.Recovery.{IsHistoryOf}
 use Rattle.hose_offline.specs.Auditing.{HasAudited, IsLongAt, IsNotRead, IsStarvedAt, IsTextServable, PricedNames, named_text}
 use Rattle.hose_offline.specs.Ending.{EndsTold, IsOut, NoneFailed, TakesWithinLimit}
 use Rattle.hose_offline.specs.Fault.{last_line, status_of}
-use Rattle.hose_offline.specs.OnDisk.{CabinetFailed, JournalIsTold}
+use Rattle.hose_offline.specs.OnDisk.{CabinetFailed, JournalIsTold, OthersStay}
 use Rattle.hose_offline.specs.Parts.{Parts, Tellings}
 use Rattle.hose_offline.specs.Run.{HasNetwork, IsFor, IsRefusedText}
 use Rattle.hose_offline.specs.ServingOnDisk.{first_of}
@@ -65,6 +65,8 @@ module _ {I O C E : Type 0} (tells : Tellings I O C E) (names : PricedNames)
     pub absent : IsTrue (tells.cabinet.frame before.cabinet).tells
         → IsSome (tells.cabinet.text before.cabinet names.topology)
         → (tells.cabinet.frame after.cabinet).absent ≡ (tells.cabinet.frame before.cabinet).absent
+    -- the disks of all other names are as they were, whatever ended the command
+    pub others : OthersStay tells.cabinet names.journal before.cabinet after.cabinet
     -- a journal that stands for no history of the network is refused
     pub refused_journal : IsTextServable tells names before
         → JournalIs (λ network bytes. (history : List Entry) → ¬ IsHistoryOf network history bytes)

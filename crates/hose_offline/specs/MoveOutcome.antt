@@ -1,7 +1,5 @@
 -- What stands after `move`, by what ended it.
-use Rattle.std.specs.Prelude.{◌≡◌, ◌≢◌, ◌⊎◌, ℕ, List, take, Option, Some, Result, ⊤}
-use Rattle.hose_io.specs.Stream.{Stream}
-use Rattle.hose_words.specs.Reading.{WhereTold}
+use Rattle.std.specs.Prelude.{◌≡◌, ◌≢◌, ◌⊎◌, ℕ, List, take, IfSome, Some, Result, ⊤}
 use Rattle.hose_graph.specs.Network.{Network}
 use Rattle.hose_graph.specs.declared.entry.Entry.{Entry}
 use Rattle.hose_law.specs.Book.{IsOversold}
@@ -36,11 +34,10 @@ IsOnlyRead cabinet disk name before after = (cabinet.held after name ≡ cabinet
 
 module _ {C E : Type 0} (cabinet : CabinetGhosts C E) (disk : DiskGhosts E) (names : MoveNames)
     (before after : C) where
-  -- the text of a name tells this network, at the prices
+  -- where the text of a name is told, it tells this network, at the prices
   abbrev pub IsNamed : List ℕ → Network → Type 0
-  IsNamed name network = (left : Option Stream)
-      × WhereTold (whole_text cabinet before name) left
-      (λ bytes _. TellsPriced (notation_of name) names.prices bytes network)
+  IsNamed name network = IfSome (whole_text cabinet before name) (λ text.
+      TellsPriced (notation_of name) names.prices text.left network)
 
   -- The old journal stood for a history, as it was read, and each image of the new one stands for
   -- what is moved of it. Each entry of that is sound on the new network, which goes on from the old
@@ -105,6 +102,9 @@ module _ {I O C E : Type 0} (tells : Tellings I O C E) (names : MoveNames)
         → IsMoved tells.cabinet tells.disk names before.cabinet after.cabinet
     pub old_kept : names.journals.new ≢ names.journals.old
         → IsOnlyRead tells.cabinet tells.disk names.journals.old before.cabinet after.cabinet
+    -- the disks of all other names are as they were, whatever ended the move
+    pub others : (other : List ℕ) → other ≢ names.journals.old → other ≢ names.journals.new
+        → tells.cabinet.held after.cabinet other ≡ tells.cabinet.held before.cabinet other
     -- what can be moved is moved, but for want of memory and where a call failed
     pub complete : IsMovable tells.cabinet tells.disk names before.cabinet
         → NoneFailed tells before after ⊤ → (status ≡ 0) ⊎ (status ≡ 7)

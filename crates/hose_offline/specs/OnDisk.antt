@@ -1,5 +1,5 @@
 -- What a run does to the disk of its journal, which a cabinet holds under a name.
-use Rattle.std.specs.Prelude.{◌≡◌, ◌⊎◌, ℕ, List, Option, Some, None, IfSome, IsTrue, MatchOption, Result, is_some, ⊤}
+use Rattle.std.specs.Prelude.{◌≡◌, ◌≢◌, ◌⊎◌, ℕ, List, Option, Some, None, IfSome, IsTrue, MatchOption, Result, is_some, ⊤}
 use Rattle.hose_io.specs.Frame.{Met, Rose}
 use Rattle.hose_io.specs.declared.Failed.{Failed}
 use Rattle.hose_graph.specs.Network.{Network}
@@ -28,6 +28,11 @@ abbrev pub OfHeld : {C E : Type 0} → CabinetGhosts C E → List ℕ → C → 
 OfHeld cabinet name old new Is = Has (cabinet.frame old).tells (cabinet.held old name) (λ was.
     Has (cabinet.frame new).tells (cabinet.held new name) (Is was))
 
+-- the disks that a cabinet holds under other names than this one are as they were
+abbrev pub OthersStay : {C E : Type 0} → CabinetGhosts C E → List ℕ → C → C → Type 0
+OthersStay cabinet name old new =
+    (other : List ℕ) → other ≢ name → cabinet.held new other ≡ cabinet.held old other
+
 module _ {C E : Type 0} (cabinet : CabinetGhosts C E) (disk : DiskGhosts E) (name : List ℕ)
     (old new : C) where
   -- Failures of a disk were told no more often than the disk has failed. The cabinet failed where
@@ -38,7 +43,7 @@ module _ {C E : Type 0} (cabinet : CabinetGhosts C E) (disk : DiskGhosts E) (nam
     pub told : TellsDisks 0 run.replies (cabinet.frame new).returned
     pub met : Met (object_of (cabinet.frame old)) (object_of (cabinet.frame new)) closing
     pub left : OfHeld cabinet name old new (λ was left. HasLeft disk
-        (IsAskedBy run.lines run.replies) (disk.may_leave was)
+        (IsAskedBy run.since run.lines run.replies) (disk.may_leave was)
         (opening_of disk run.network run.since was) run.history left closing)
 
 -- no call of the cabinet failed

@@ -1,5 +1,5 @@
 -- What stands after `run`, by what ended it.
-use Rattle.std.specs.Prelude.{◌≡◌, ◌⊎◌, ℕ, List, Option, IsSome, None, MatchOption, Result, Ok, Err, ⊤}
+use Rattle.std.specs.Prelude.{◌≡◌, ◌⊎◌, ℕ, List, Option, IsSome, None, Some, MatchOption, Result, Ok, Err, ⊤}
 use Rattle.hose_io.specs.Frame.{Rose}
 use Rattle.hose_io.specs.Stream.{Stream}
 use Rattle.hose_io.specs.declared.Failed.{Failed}
@@ -12,7 +12,7 @@ use Rattle.hose_journal.specs.Image.{Meaning, damaged, other}
 use Rattle.hose_store.specs.Recovery.{IsHistoryOf, digest_of}
 use Rattle.hose_topo.specs.Reading.{StopsInTopology}
 use Rattle.hose_offline.specs.Ending.{EndsAfter, NoneFailed, OutputWorked, TakesWithinLimit}
-use Rattle.hose_offline.specs.OnDisk.{CabinetFailed, IsRefusedOnDisk, JournalIsTold, IsUnopened, keeping_of}
+use Rattle.hose_offline.specs.OnDisk.{CabinetFailed, IsRefusedOnDisk, JournalIsTold, IsUnopened, OthersStay, keeping_of}
 use Rattle.hose_offline.specs.Parts.{Parts, Tellings}
 use Rattle.hose_offline.specs.Run.{HasNetwork, HasText, IsCutOff, IsFor, IsRefusedText, IsRun, IsRunUpTo, IsServable, Keeping, TellsNoNetwork}
 use Rattle.hose_offline.specs.declared.fault.Fault.{Fault}
@@ -135,6 +135,9 @@ pub record RunOutcome {I O C E : Type 0} (tells : Tellings I O C E)
   pub absent :
       (tells.cabinet.frame after.cabinet).absent ≡ (tells.cabinet.frame before.cabinet).absent
   pub in_memory : journal ≡ None → after.cabinet ≡ before.cabinet
+  -- with one the disks of all other names are as they were
+  pub others : (name : List ℕ) → journal ≡ Some name
+      → OthersStay tells.cabinet name before.cabinet after.cabinet
   pub refused :
       IsRefusedText Lines (tells.source.content before.input) (tells.source.content after.input)
       → EndsInputRefused tells before after status

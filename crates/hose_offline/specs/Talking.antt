@@ -1,5 +1,5 @@
 -- What the lines after a topology say, and what is answered to them.
-use Rattle.std.specs.Prelude.{◌≡◌, ◌⊎◌, ℕ, ◌+◌, ◌-◌, ◌^◌, ◌<◌, ◌≤◌, List, [], length, slice_get, Some}
+use Rattle.std.specs.Prelude.{◌≡◌, ◌⊎◌, ℕ, ◌+◌, ◌-◌, ◌^◌, ◌<◌, ◌≤◌, List, [], length, slice_get, take, Some}
 use Rattle.hose_words.specs.Grammar.{IsFirstNotAllowed}
 use Rattle.hose_words.specs.Words.{words_of}
 use Rattle.hose_words.specs.Limits.{line_limit}
@@ -10,8 +10,8 @@ use Rattle.hose_graph.specs.Network.{Network}
 use Rattle.hose_law.specs.Answer.{IsStepOf}
 use Rattle.hose_law.specs.Book.{Book}
 use Rattle.hose_law.specs.History.{IsDecidedAt, book_of}
-use Rattle.hose_law.specs.Quotes.{Holding}
-use Rattle.hose_law.specs.Script.{ReadLine, disks_in}
+use Rattle.hose_law.specs.Quotes.{Holding, Holdings, nothing_held}
+use Rattle.hose_law.specs.Script.{IsScript, ReadLine, disks_in, script_state}
 use Rattle.hose_law.specs.Script.ReadLine.{Asks, IsBad, IsLong, Unread}
 use Rattle.hose_offline.specs.ScriptLine.{IsAsking, WantsMemory, script_grammar}
 
@@ -29,11 +29,13 @@ Says network bytes Unread = (length bytes ≤ line_limit) × WantsMemory (words_
 abbrev pub TellsDisks : ℕ → List Reply → ℕ → Type 0
 TellsDisks before replies after = (before + disks_in replies ≤ after) ⊎ (2 ^ 64 - 1 ≤ after)
 
--- The entry is decided at the book, and one of the lines asks for it: the reply to that line is
--- that of a step at a history of this book, whose answer has this entry. So its commit was answered
--- as the book answers, or as one that the disk failed to keep.
-pub record IsAskedBy (lines : List ReadLine) (replies : List Reply) (network : Network)
-    (book : Book) (entry : Entry) : Type 0 where
+-- The entry is decided at the book, and one of the lines asks for it: the lines before that one
+-- lead, as a script from this history on where no customer held a quote, to a history of this book;
+-- the reply to the line is that of a step there, by what its customer holds then, whose answer has
+-- this entry. So its commit was answered as the book answers, or as one that the disk failed to
+-- keep.
+pub record IsAskedBy (since : List Entry) (lines : List ReadLine) (replies : List Reply)
+    (network : Network) (book : Book) (entry : Entry) : Type 0 where
   pub decided : IsDecidedAt network book entry
   pub place : ℕ
   pub customer : List ℕ
@@ -43,7 +45,10 @@ pub record IsAskedBy (lines : List ReadLine) (replies : List Reply) (network : N
   pub answer : slice_get replies place ≡ Some reply
   pub history : List Entry
   pub is_book : book_of 0 history ≡ book
-  pub held : Holding
+  pub held : Holdings
+  pub before : IsScript network 0 (take place lines) (take place replies)
+      (script_state since nothing_held) (script_state history held)
   pub next : List Entry
   pub after : Holding
-  pub step : IsStepOf network 0 history customer held command reply (Some entry) next after
+  pub step : IsStepOf network 0 history customer (held customer) command reply (Some entry) next
+      after

@@ -1,5 +1,5 @@
 // A run: a topology, and then a reply for each line.
-ghost use Rattle.std.specs.Prelude.{◌≡◌, ◌↔◌, ◌+◌, [], ◌<◌, ◌≤◌, ℕ, List, length, IsSome, None, Err, Result, ⊤};
+ghost use Rattle.std.specs.Prelude.{◌≡◌, ◌↔◌, ◌+◌, [], ◌<◌, ◌≤◌, ℕ, List, length, IfSome, IsSome, None, Some, Err, Result, ⊤};
 ghost use Rattle.std.specs.Prelude.{option_map};
 ghost use Rattle.hose_io.specs.Stream.{Gives};
 ghost use Rattle.hose_law.specs.History.{IsDecidedAt};
@@ -19,7 +19,7 @@ ghost use Rattle.hose_store.specs.steps.Commit.{Closes, store_books};
 ghost use Rattle.hose_store.specs.steps.Store.{KeptStore};
 ghost use Rattle.hose_core.specs.steps.Stepping.{FitsHistory};
 ghost use Rattle.hose_offline.specs.steps.Journal.{IsJustOpened, OpensJournal};
-ghost use Rattle.hose_offline.specs.OnDisk.{opening_of};
+ghost use Rattle.hose_offline.specs.OnDisk.{OthersStay, opening_of};
 ghost use Rattle.hose_offline.specs.Parts.{AllStay, parts, tellings};
 ghost use Rattle.hose_offline.specs.steps.Parts.{ComesTo};
 ghost use Rattle.hose_offline.specs.RunOutcome.{RunLeaves, RunOutcome};
@@ -87,6 +87,8 @@ fn run_input<P: Prices, I: Source, O: Sink, C: Cabinet>(
         × (length bytes ≤ INPUT_LIMIT + 1)
         × ((result ≡ Err Fault.TooLong) ↔ (INPUT_LIMIT < length bytes)) }
     ensures in_memory { journal.entry ≡ None → cabinet.new ≡ cabinet.old }
+    ensures others { (name : List ℕ) → option_map (λ name. name.now) journal.entry ≡ Some name
+        → OthersStay C.Cabinet name cabinet.old cabinet.new }
     ensures absent { (C.frame cabinet.new).absent ≡ (C.frame cabinet.old).absent }
     ensures back { (C.frame cabinet.new).out ≡ None }
     ensures stay { AllStay (tellings I.Source O.Sink C.Cabinet C.Disk.Disk)
@@ -121,6 +123,8 @@ fn run_lines<P: Prices, S: Source, O: Sink, C: Cabinet>(
     ensures reads_on { ReadsOn S.Source lines.old lines.new }
     ensures limit { lines.new.taken ≤ INPUT_LIMIT + 1 }
     ensures in_memory { journal.entry ≡ None → cabinet.new ≡ cabinet.old }
+    ensures others { (name : List ℕ) → option_map (λ name. name.now) journal.entry ≡ Some name
+        → OthersStay C.Cabinet name cabinet.old cabinet.new }
     ensures absent { (C.frame cabinet.new).absent ≡ (C.frame cabinet.old).absent }
     ensures back { (C.frame cabinet.new).out ≡ None }
     ensures stay { AllStay (tellings S.Source O.Sink C.Cabinet C.Disk.Disk)
@@ -168,6 +172,8 @@ fn answer_by_journal<S: Source, O: Sink, C: Cabinet>(
     ensures too_long { (result ≡ Err Fault.TooLong) ↔ (INPUT_LIMIT < lines.new.taken) }
     ensures reads_on { ReadsOn S.Source lines.old lines.new }
     ensures limit { lines.new.taken ≤ INPUT_LIMIT + 1 }
+    ensures others { IfSome (C.frame cabinet.old).out
+        (λ name. OthersStay C.Cabinet name cabinet.old cabinet.new) }
     ensures absent { (C.frame cabinet.new).absent ≡ (C.frame cabinet.old).absent }
     ensures back { (C.frame cabinet.new).out ≡ None }
     ensures stay { AllStay (tellings S.Source O.Sink C.Cabinet C.Disk.Disk)
@@ -198,9 +204,9 @@ fn core_over<D: Disk>(alloc: Global, store: Store<D>, table: RowTable) -> Core<S
     ensures leaves { (lines : List ReadLine) → (replies : List Reply) → (old : D)
         → (network : Network) → (opens : IsJustOpened D.Disk IsDecidedAt old network store)
         → (history : List Entry) → (last : KeptStore D) → (left : D) → (closing : Result ⊤ Failed)
-        → GoesOn (store_books D.Disk) (IsAskedBy lines replies) network opens.opened.history store
-        history last → Closes D.Disk last left closing
-        → HasLeft D.Disk (IsAskedBy lines replies) (D.may_leave old)
+        → GoesOn (store_books D.Disk) (IsAskedBy opens.opened.history lines replies) network
+        opens.opened.history store history last → Closes D.Disk last left closing
+        → HasLeft D.Disk (IsAskedBy opens.opened.history lines replies) (D.may_leave old)
         (opening_of D.Disk network opens.opened.history old) history left closing }
 {
     Core::with_rows(alloc, store, table)

@@ -7,6 +7,7 @@ ghost use Rattle.hose_offline.specs.steps.AuditOutcome.{AuditsJournal};
 ghost use Rattle.hose_offline.specs.Auditing.{ReadsText, ReadsTopology, priced_names};
 ghost use Rattle.hose_offline.specs.steps.Ending.{Wrote};
 ghost use Rattle.hose_offline.specs.Parts.{tellings};
+ghost use Rattle.hose_offline.specs.steps.Journal.{TouchesOnly};
 ghost use Rattle.hose_offline.specs.steps.Parts.{ComesTo, LeavesBeside, held};
 ghost use Rattle.hose_offline.specs.TopologyTold.{own_costs};
 
@@ -64,6 +65,8 @@ fn audit_journal<I: Source, O: Sink, C: Cabinet>(
     ensures audits { AuditsJournal (tellings I.Source O.Sink C.Cabinet C.Disk.Disk) name.now
         (held outside.old) (held outside.new) result topology }
     ensures input { (held outside.new).input ≡ (held outside.old).input }
+    ensures alone { TouchesOnly C.Cabinet name.now (held outside.old).cabinet
+        (held outside.new).cabinet }
     ensures beside { LeavesBeside (tellings I.Source O.Sink C.Cabinet C.Disk.Disk)
         outside.old outside.new }
 {

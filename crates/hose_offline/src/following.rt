@@ -5,6 +5,7 @@ ghost use Rattle.hose_offline.specs.FollowOutcome.{FollowOutcome};
 ghost use Rattle.hose_offline.specs.Following.{following_done};
 ghost use Rattle.hose_offline.specs.steps.Following.{FollowsJournal};
 ghost use Rattle.hose_offline.specs.Parts.{tellings};
+ghost use Rattle.hose_offline.specs.steps.Journal.{TouchesOnly};
 ghost use Rattle.hose_offline.specs.steps.Parts.{ComesTo, LeavesBeside, held};
 
 use crate::auditing::{Names, read_topology};
@@ -51,6 +52,8 @@ fn follow_journal<I: Source, O: Sink, C: Cabinet>(
     requires { (C.frame (held outside.old).cabinet).out ≡ None }
     ensures follows { FollowsJournal (tellings I.Source O.Sink C.Cabinet C.Disk.Disk) name.now
         (held outside.old) (held outside.new) topology result }
+    ensures alone { TouchesOnly C.Cabinet name.now (held outside.old).cabinet
+        (held outside.new).cabinet }
     ensures beside { LeavesBeside (tellings I.Source O.Sink C.Cabinet C.Disk.Disk)
         outside.old outside.new }
 {

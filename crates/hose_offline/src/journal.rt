@@ -1,5 +1,6 @@
 // The journal of a name in a cabinet: how its store is opened and closed.
-ghost use Rattle.std.specs.Prelude.{◌≡◌, IfErr, IfOk, IsSome, Err, None};
+ghost use Rattle.std.specs.Prelude.{◌≡◌, IfErr, IfOk, IfSome, IsSome, Err, None};
+ghost use Rattle.hose_offline.specs.OnDisk.{OthersStay};
 ghost use Rattle.hose_offline.specs.steps.Journal.{ClosesJournal, IsJustOpened, IsOpenCall, OpensJournal};
 ghost use Rattle.hose_offline.specs.ServingOnDisk.{IsNotServed, first_of};
 ghost use Rattle.hose_offline.specs.steps.ServingOnDisk.{IsNotOpened};
@@ -25,6 +26,7 @@ pub fn open_journal<C: Cabinet, P: Premises>(
         cabinet.old cabinet.new topology) }
     ensures refused { IfErr result (λ why. IsNotServed C.Cabinet C.Disk.Disk name.now
         cabinet.old cabinet.new topology (Err why)) }
+    ensures others { OthersStay C.Cabinet name.now cabinet.old cabinet.new }
     ensures call { IsOpenCall name.now (C.frame cabinet.old) (C.frame cabinet.new) result }
 {
     let Ok(disk) = cabinet.disk(name) else {
@@ -47,6 +49,8 @@ pub fn close_journal<C: Cabinet>(
 ) -> (Result<(), Failed>, Book)
     requires { IsSome (C.frame cabinet.old).out }
     ensures closes { ClosesJournal C.Cabinet C.Disk.Disk cabinet.old cabinet.new store result.0 }
+    ensures others { IfSome (C.frame cabinet.old).out
+        (λ name. OthersStay C.Cabinet name cabinet.old cabinet.new) }
     ensures book { result.1 ≡ store.ledger }
 {
     let (closing, disk, book) = store.close();

@@ -3,6 +3,7 @@ ghost use Rattle.std.specs.Prelude.{◌≡◌, None};
 ghost use Rattle.hose_offline.specs.Auditing.{priced_names};
 ghost use Rattle.hose_offline.specs.OnDisk.{IsUnopened};
 ghost use Rattle.hose_offline.specs.Parts.{tellings};
+ghost use Rattle.hose_offline.specs.steps.Journal.{TouchesOnly};
 ghost use Rattle.hose_offline.specs.steps.Parts.{ComesTo, LeavesBeside, held};
 ghost use Rattle.hose_offline.specs.ShipOutcome.{ShipOutcome, ShipsJournal};
 ghost use Rattle.hose_offline.specs.steps.ShipOutcome.{shipping_done};
@@ -55,6 +56,8 @@ fn ship_journal<I: Source, O: Sink, C: Cabinet>(
     ensures unopened { IsUnopened C.Cabinet C.Disk.Disk (held outside.old).cabinet
         (held outside.new).cabinet top.now name.now }
     ensures input { (held outside.new).input ≡ (held outside.old).input }
+    ensures alone { TouchesOnly C.Cabinet name.now (held outside.old).cabinet
+        (held outside.new).cabinet }
     ensures beside { LeavesBeside (tellings I.Source O.Sink C.Cabinet C.Disk.Disk)
         outside.old outside.new }
 {

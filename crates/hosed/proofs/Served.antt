@@ -12,6 +12,7 @@ use Rattle.hose_offline.specs.AuditOutcome.{Purpose}
 use Rattle.hose_offline.specs.Auditing.{PricedNames, ReadsTopology}
 use Rattle.hose_offline.specs.Ending.{EndsTold, IsOut, NoneFailed}
 use Rattle.hose_offline.specs.Fault.{last_line, status_of}
+use Rattle.hose_offline.specs.steps.Journal.{TouchesOnly}
 use Rattle.hose_offline.specs.OnDisk.{CabinetFailed, JournalIsTold}
 use Rattle.hose_offline.specs.Parts.{Tellings}
 use Rattle.hose_offline.specs.ServingOnDisk.{IsNotServed}
@@ -62,11 +63,11 @@ module _ {I O C E : Type 0} (tells : Tellings I O C E) (names : PricedNames) (ta
       → ServeOutcome tells names task before after status
   no_topology_read why status reads is out same_door same_input = named_not_read tells names before.others after.others purpose why status (no_topology tells names before.others after.others why reads) is out same_door same_input
 
-  module _ (read : C) (network : Network) (status : ℕ) (reads : ReadsTopology tells.cabinet before.others.cabinet read names.prices names.topology (Ok network)) (same_absent : (tells.cabinet.frame after.others.cabinet).absent ≡ (tells.cabinet.frame read).absent)
+  module _ (read : C) (network : Network) (status : ℕ) (reads : ReadsTopology tells.cabinet before.others.cabinet read names.prices names.topology (Ok network)) (alone : TouchesOnly tells.cabinet names.journal read after.others.cabinet)
       (same_input : after.others.input ≡ before.others.input) where
     -- no store was opened
     pub not_opened : (why : Fault) → IsNotServed tells.cabinet tells.disk names.journal read after.others.cabinet network (Err why) → status ≡ status_of why → IsOut tells.sink before.others.output after.others.output (last_line why) → after.door ≡ before.door → ServeOutcome tells names task before after status
-    not_opened why not is out same_door = named_not_read tells names before.others after.others purpose why status (no_store tells names before.others after.others read network why reads same_absent not) is out same_door same_input
+    not_opened why not is out same_door = named_not_read tells names before.others after.others purpose why status (no_store tells names before.others after.others read network why reads alone not) is out same_door same_input
 
     abbrev Failing : Type 0
     Failing = NoneFailed tells before.others after.others (¬ Rose before.door.frame after.door.frame)
@@ -82,7 +83,7 @@ module _ {I O C E : Type 0} (tells : Tellings I O C E) (names : PricedNames) (ta
     pub is_served : (mid : O) (came : Result ServerEnd Fault) → ServesByJournal tells names.journal read after.others.cabinet network (AreServedAlongPass task.connections before.door after.door) came → Speaks tells.sink task.port (spoken before) (middle mid) came → EndsServed tells.sink mid after.others.output status came
         → ServeOutcome tells names task before after status
     is_served mid came after_read speaks ends =
-        named_read tells names before.others after.others purpose read network status reads same_absent same_input (record { mid = mid; came = came; serves = serves; speaks = speaks; ends = ends })
+        named_read tells names before.others after.others purpose read network status reads alone same_input (record { mid = mid; came = came; serves = serves; speaks = speaks; ends = ends })
         (served_status tells.sink task.port (spoken before) (middle mid) after.others.output status came speaks ends 8 (λ e. absurd (cc e)) (λ e. absurd (cc e)) (λ e. absurd (cc e)) (λ e. absurd (cc e)) (λ e. absurd (cc e)))
         (λ told held. completes came held serves speaks ends) (λ told held. refuses came held told serves speaks ends)
       where

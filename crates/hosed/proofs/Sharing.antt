@@ -144,5 +144,5 @@ module _ {E : Type 0} (disk : DiskGhosts E) (was left : E) (network : Network) (
       };
       served = served;
       is = subst (IsLedgerOf network 0 shared.history) is
-          (record { is_network = shared.whole.stood.network ∙ of; is_book = shared.whole.stood.book; tracks = shared.whole.stood.tracks });
+          (record { is_network = shared.whole.stood.network ∙ of; is_book = shared.whole.stood.book });
     }

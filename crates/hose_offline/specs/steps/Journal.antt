@@ -18,7 +18,7 @@ use Rattle.hose_store.specs.steps.Commit.{Closes, store_books}
 use Rattle.hose_store.specs.Opening.{IsAtOpening}
 use Rattle.hose_store.specs.steps.Opening.{IsOpenedOn}
 use Rattle.hose_store.specs.steps.Store.{KeptStore}
-use Rattle.hose_offline.specs.OnDisk.{opening_of}
+use Rattle.hose_offline.specs.OnDisk.{OthersStay, opening_of}
 use Rattle.hose_offline.specs.declared.fault.Fault.{Fault}
 use Rattle.hose_offline.specs.Journal.{IsLeftWith, IsPutIn, IsTakenOut}
 
@@ -69,6 +69,12 @@ pub record IsOpenCall {T : Type 0} (name : List ℕ) (before after : CabinetFram
   pub back : OnErr result (after.out ≡ None)
   pub absent : after.absent ≡ before.absent
   pub stays : Stays (object_of before) (object_of after)
+
+-- No text was asked for, and the disks of other names than this one are as they were.
+pub record TouchesOnly {C E : Type 0} (cabinet : CabinetGhosts C E) (name : List ℕ) (old new : C) :
+    Type 0 where
+  pub absent : (cabinet.frame new).absent ≡ (cabinet.frame old).absent
+  pub others : OthersStay cabinet name old new
 
 module _ {C E : Type 0} (cabinet : CabinetGhosts C E) (disk : DiskGhosts E) where
   -- The disk of a name was taken out, and the store was opened on it.

@@ -16,12 +16,10 @@ pub record KeepsAll {I O C E : Type 0} (tells : Tellings I O C E) (before after 
   pub output : after.output.ghost_name ≡ before.output.ghost_name
   pub cabinet : after.cabinet.ghost_name ≡ before.cabinet.ghost_name
 
--- What the use of a journal leaves of what is beside it: no text was asked for, no disk is out of
--- the cabinet, and each part is the object that it was.
+-- What the use of a journal leaves of what is beside it: no disk is out of the cabinet, and each
+-- part is the object that it was.
 pub record LeavesBeside {I O C E : Type 0} (tells : Tellings I O C E)
     (before after : Outside I O C E) : Type 0 where
-  pub absent : (tells.cabinet.frame after.cabinet.now).absent
-      ≡ (tells.cabinet.frame before.cabinet.now).absent
   pub back : (tells.cabinet.frame after.cabinet.now).out ≡ None
   pub keeps : KeepsAll tells before after
 

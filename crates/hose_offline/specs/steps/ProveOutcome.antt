@@ -3,7 +3,7 @@ use Rattle.std.specs.Prelude.{◌≡◌, ℕ, List, All, map}
 use Rattle.hose_graph.specs.Hose.{Endpoint}
 use Rattle.hose_graph.specs.Network.{Network}
 use Rattle.hose_proto.specs.Places.{end_word}
-use Rattle.hose_proto.specs.steps.Fields.{IsEndOf}
+use Rattle.hose_proto.specs.steps.Places.{IsEndOf}
 
 -- ---- the endpoints
 

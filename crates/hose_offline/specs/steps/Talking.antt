@@ -83,7 +83,7 @@ pub record AreAnswered {K R : Type 0} (books : BooksGhosts K R) (network : Netwo
       (script_state history left)
   pub decided : IsDecided network 0 (length since) history
   pub begins : IsPrefix since history
-  pub goes_on : GoesOn books (IsAskedBy lines replies) network since first history last
+  pub goes_on : GoesOn books (IsAskedBy since lines replies) network since first history last
   pub stays : Stays (books.frame first) (books.frame last)
   pub disks : TellsDisks (books.frame first).faults replies (books.frame last).faults
 

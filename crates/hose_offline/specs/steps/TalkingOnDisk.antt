@@ -33,7 +33,8 @@ module _ {S O C E : Type 0} (tells : Tellings S O C E) (name : List ℕ)
     pub talks : Talks (talk_tellings tells.source tells.sink (store_books tells.disk)) network since
         (talk before.input before.output first) (talk after.input after.output last) answered
     pub keeps : (history : List Entry) (lines : List ReadLine) (replies : List Reply)
-        → GoesOn (store_books tells.disk) (IsAskedBy lines replies) network since first history last
+        → GoesOn (store_books tells.disk) (IsAskedBy since lines replies) network since first
+        history last
         → TellsDisks (tells.disk.frame first.journal.disk).faults replies
         (tells.disk.frame last.journal.disk).faults
         → KeptOnDisk tells.cabinet tells.disk name before.cabinet after.cabinet closing

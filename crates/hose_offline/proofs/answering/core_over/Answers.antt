@@ -4,4 +4,4 @@ use Rattle.hose_offline.proofs.Journals.{leaves_for}
 use Rattle.hose_offline.proofs.answering.core_over.Goals as goal
 
 pub returns-clause-leaves : goal.returns-clause-leaves
-returns-clause-leaves g c = λ lines replies old network opens. leaves_for g.D.Disk g.met.D.Disk.counts_now g.met.D.Disk.untold g.met.D.Disk.only_now IsDecidedAt (IsAskedBy lines replies) network old c.args.store opens
+returns-clause-leaves g c = λ lines replies old network opens. leaves_for g.D.Disk g.met.D.Disk.counts_now g.met.D.Disk.untold g.met.D.Disk.only_now IsDecidedAt (IsAskedBy opens.opened.history lines replies) network old c.args.store opens

@@ -29,6 +29,7 @@ returns g c =
       ends = record { left = left.output; done = done; leaves = run.leaves; last_line = c.end.ensures.last_line; is_status = status };
       takes = rw status takes;
       absent = run.absent;
+      others = run.others;
       in_memory = λ none. run.in_memory (none_named (λ name. name.now) c.args.journal none);
       refused = λ refused. rw status (refused_ends tells prices journal before left output done run.leaves refused);
       complete = λ servable told held. rw status (completes tells prices journal before left output c.end.ensures.output run.takes.0 run.takes.1 servable held done run.leaves run.takes.3.0 told);

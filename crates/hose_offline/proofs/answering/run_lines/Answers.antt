@@ -20,6 +20,8 @@ use Rattle.hose_offline.specs.steps.Talking.{Talks, plain_books, talk_tellings}
 use Rattle.hose_offline.proofs.BookTalks.{talks_told}
 use Rattle.hose_offline.proofs.Exchanges.{answered_none}
 use Rattle.hose_offline.proofs.TalksTold.{too_long_told}
+use Rattle.hose_offline.specs.OnDisk.{OthersStay}
+use Rattle.hose_offline.proofs.Lending.{others_then}
 use Rattle.hose_offline.proofs.answering.run_lines.Goals as goal
 
 pub returns-in_err-told-clause-leaves : goal.returns-in_err-told-clause-leaves
@@ -101,3 +103,15 @@ returns-in_ok-store-in-Some-clause-leaves g c =
 
 pub returns-in_ok-store-in-Some-clause-reads_on : goal.returns-in_ok-store-in-Some-clause-reads_on
 returns-in_ok-store-in-Some-clause-reads_on g c = ReadsOn-then g.S.Source c.args.lines.now c.read.new.lines c.answer_by_journal.new.lines c.read.ensures.reads_on c.answer_by_journal.ensures.reads_on
+
+pub returns-in_ok-store-in-Some-clause-others : goal.returns-in_ok-store-in-Some-clause-others
+returns-in_ok-store-in-Some-clause-others g c = λ name is.
+    let named : c.in-Some.name.now ≡ name = cc (sym (ap (option_map (λ name. name.now)) c.in-Some.is) ∙ is) in
+    let served = c.answer_by_journal in
+    subst (λ (one : List ℕ). OthersStay g.C.Cabinet one c.args.cabinet.now served.new.cabinet) named
+    (others_then g.C.Cabinet c.in-Some.name.now c.args.cabinet.now c.open_journal.new.cabinet served.new.cabinet c.in_ok-store-in-Some.ensures.call.out c.open_journal.ensures.others served.ensures.others)
+
+pub returns-in_err-store-in-Some-clause-others : goal.returns-in_err-store-in-Some-clause-others
+returns-in_err-store-in-Some-clause-others g c = λ name is.
+    let named : c.in-Some.name.now ≡ name = cc (sym (ap (option_map (λ name. name.now)) c.in-Some.is) ∙ is) in
+    subst (λ (one : List ℕ). OthersStay g.C.Cabinet one c.args.cabinet.now c.open_journal.new.cabinet) named c.open_journal.ensures.others

@@ -10,7 +10,7 @@ returns-in-Ok g c =
     let tells = tellings g.I.Source g.O.Sink g.C.Cabinet g.C.Disk.Disk in
     let names = priced_names (g.P.Prices.prices c.args.costs.now) c.args.names.topology.now c.args.names.journal.now in
     let reads = subst (ReadsTopology g.C.Cabinet (held c.args.outside.now).cabinet c.read_topology.new.cabinet names.prices names.topology) c.in-Ok.is c.read_topology.ensures.reads in
-    let outcome = is_audited tells names (held c.args.outside.now) (held c.audit_journal.new.outside) c.read_topology.new.cabinet c.in-Ok.topology reads c.audit_journal.result c.audit_journal.ensures.audits c.audit_journal.ensures.beside.absent c.audit_journal.ensures.input in
+    let outcome = is_audited tells names (held c.args.outside.now) (held c.audit_journal.new.outside) c.read_topology.new.cabinet c.in-Ok.topology reads c.audit_journal.result c.audit_journal.ensures.audits c.audit_journal.ensures.alone c.audit_journal.ensures.input in
     record { outcome = outcome; not_words = audit_not_1 _ _ _ _ _ outcome; out = c.audit_journal.ensures.beside.back ∙ sym c.requires; keeps = search rules }
 
 pub returns-in-Err : goal.returns-in-Err

@@ -1,8 +1,9 @@
-use Rattle.std.proofs.Common.{inr}
+use Rattle.std.proofs.Common.{◌∙◌, inr}
 use Rattle.hose_law.specs.History.{IsDecidedAt}
 use Rattle.hose_offline.specs.Parts.{parts, tellings}
 use Rattle.hose_offline.specs.steps.Parts.{held}
 use Rattle.hose_offline.proofs.Audited.{book_told}
+use Rattle.hose_offline.proofs.Lending.{others_then}
 use Rattle.hose_offline.proofs.auditing.audit_journal.Goals as goal
 
 pub returns-in-Ok-clause-audits : goal.returns-in-Ok-clause-audits
@@ -15,3 +16,13 @@ returns-in-Ok-clause-audits g c =
 
 pub returns-in-Err-clause-audits : goal.returns-in-Err-clause-audits
 returns-in-Err-clause-audits g c = inr (c.in-Err.why, c.end.ensures.status, c.in-Err.ensures.refused, c.end.ensures.last_line)
+
+pub returns-in-Ok-clause-alone : goal.returns-in-Ok-clause-alone
+returns-in-Ok-clause-alone g c =
+    let before = (held c.args.outside.now).cabinet in
+    let opened = c.in-Ok.ensures in
+    let closed = c.close_journal-closing in
+    record {
+      absent = closed.ensures.closes.absent ∙ opened.call.absent;
+      others = others_then g.C.Cabinet c.args.name.now before c.open_journal.new.cabinet closed.new.cabinet opened.call.out c.open_journal.ensures.others closed.ensures.others;
+    }

@@ -15,7 +15,7 @@ returns-in-Ok g c =
     let followed = held done.new.outside in
     let after = parts followed.input c.end.new.output followed.cabinet in
     let reads = subst (ReadsTopology g.C.Cabinet before.cabinet c.read_topology.new.cabinet names.prices names.topology) c.in-Ok.is c.read_topology.ensures.reads in
-    let outcome = is_followed tells names before after followed.output c.end.result c.in-Ok.top c.end.ensures.output c.read_topology.new.cabinet reads done.ensures.beside.absent done.result done.ensures.follows c.end.ensures.status c.end.ensures.last_line in
+    let outcome = is_followed tells names before after followed.output c.end.result c.in-Ok.top c.end.ensures.output c.read_topology.new.cabinet reads done.ensures.alone done.result done.ensures.follows c.end.ensures.status c.end.ensures.last_line in
     record { outcome = outcome; not_words = follow_not_1 _ _ _ _ _ outcome; out = done.ensures.beside.back ∙ sym c.requires; keeps = search rules }
 
 pub returns-in-Err : goal.returns-in-Err

@@ -7,6 +7,7 @@ use Rattle.hose_offline.specs.Following.{IsBrought}
 use Rattle.hose_offline.proofs.Followed.{followed_in}
 use Rattle.hose_offline.proofs.Journals.{opened_for}
 use Rattle.hose_offline.proofs.StreamsStay.{input_stays, output_stays}
+use Rattle.hose_offline.proofs.Lending.{others_then}
 use Rattle.hose_offline.proofs.following.follow_journal.Goals as goal
 
 pub returns-in_err-store-clause-follows : goal.returns-in_err-store-clause-follows
@@ -33,3 +34,12 @@ returns-clause-beside g c =
     let input = input_stays g.I.Source _ _ _ _ followed.result followed.ensures.input in
     let output = output_stays g.O.Sink _ _ _ followed.result followed.ensures.output in
     search rules
+
+pub returns-clause-alone : goal.returns-clause-alone
+returns-clause-alone g c =
+    let opened = c.in_ok-store.ensures in
+    let closed = c.close_journal-closed in
+    record {
+      absent = closed.ensures.closes.absent ∙ opened.call.absent;
+      others = others_then g.C.Cabinet c.args.name.now (held c.args.outside.now).cabinet c.open_journal.new.cabinet closed.new.cabinet opened.call.out c.open_journal.ensures.others closed.ensures.others;
+    }

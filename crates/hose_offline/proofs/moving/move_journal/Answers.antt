@@ -10,7 +10,7 @@ use Rattle.hose_offline.specs.declared.move_end.MoveStop.TheVariants.{Old}
 use Rattle.std.specs.Prelude.{Err}
 use Rattle.hose_offline.proofs.MoveComplete.{completes, old_refused}
 use Rattle.hose_offline.proofs.MoveEnds.{move_not_1}
-use Rattle.hose_offline.proofs.MoveWhole.{kept_named, whole_of}
+use Rattle.hose_offline.proofs.MoveWhole.{kept_named, others_named, whole_of}
 use Rattle.hose_offline.proofs.moving.move_journal.Goals as goal
 
 pub returns-in-Ok : goal.returns-in-Ok
@@ -30,6 +30,7 @@ returns-in-Ok g c =
       ends = ended;
       whole = whole_of tells names before left _ _ _ _ moves ended;
       old_kept = λ apart. kept_named tells names before left apart _ moves;
+      others = λ name not_old not_new. others_named tells names before left name not_old not_new _ moves;
       complete = λ movable none. completes tells names before left _ c.in-Ok.old c.read_topology.new.cabinet _ _ (recovered_once c.in-Ok.old) reads moved.ensures.moves ended movable none.writing none.keeping_it;
       input = moved.ensures.input;
     } in
@@ -52,6 +53,7 @@ returns-in-Err g c =
       ends = ended;
       whole = whole_of tells names before left done _ _ _ moves ended;
       old_kept = λ apart. kept_named tells names before left apart done moves;
+      others = λ name not_old not_new. others_named tells names before left name not_old not_new done moves;
       complete = λ movable none. inr (ended.0 ∙ old_refused tells.cabinet before.cabinet c.read_topology.new.cabinet names.prices names.topology c.in-Err.why reads movable.servable none.keeping_it);
       input = refl;
     } in

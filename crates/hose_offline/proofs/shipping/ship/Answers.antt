@@ -15,7 +15,7 @@ returns-in-Ok g c =
     let shipped = held done.new.outside in
     let after = parts shipped.input c.end.new.output shipped.cabinet in
     let reads = subst (ReadsTopology g.C.Cabinet before.cabinet c.read_topology.new.cabinet names.prices names.topology) c.in-Ok.is c.read_topology.ensures.reads in
-    let outcome = is_shipped tells c.args.from names before shipped.output after c.in-Ok.top c.end.ensures.output c.read_topology.new.cabinet done.result c.end.result reads done.ensures.beside.absent done.ensures.input done.ensures.ships done.ensures.unopened c.end.ensures.status c.end.ensures.last_line in
+    let outcome = is_shipped tells c.args.from names before shipped.output after c.in-Ok.top c.end.ensures.output c.read_topology.new.cabinet done.result c.end.result reads done.ensures.alone done.ensures.input done.ensures.ships done.ensures.unopened c.end.ensures.status c.end.ensures.last_line in
     record { outcome = outcome; not_words = ship_not_1 _ _ _ _ _ _ outcome; out = done.ensures.beside.back ∙ sym c.requires; keeps = search rules }
 
 pub returns-in-Err : goal.returns-in-Err

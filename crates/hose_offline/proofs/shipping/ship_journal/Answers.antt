@@ -5,6 +5,7 @@ use Rattle.hose_offline.specs.steps.Parts.{held}
 use Rattle.hose_offline.proofs.PutBack.{unopened}
 use Rattle.hose_offline.proofs.ShipEnds.{none_shipped, ships_in}
 use Rattle.hose_offline.proofs.StreamsStay.{shipped_stays}
+use Rattle.hose_offline.proofs.Lending.{lent_alone}
 use Rattle.hose_offline.proofs.shipping.ship_journal.Goals as goal
 
 pub returns-in_default-clause-ships : goal.returns-in_default-clause-ships
@@ -34,3 +35,10 @@ returns-clause-beside g c =
     let shipped = c.ship-shipped in
     let output = shipped_stays g.O.Sink _ _ g.C.Disk.Disk _ _ shipped.result.0 shipped.ensures.ships in
     search rules
+
+pub returns-clause-alone : goal.returns-clause-alone
+returns-clause-alone g c =
+    let taken = c.in-Ok.ensures in
+    let back = c.back.ensures in
+    lent_alone g.C.Cabinet g.C.Disk.Disk c.args.name.now (held c.args.outside.now).cabinet c.disk.new.self c.back.new.self c.in-Ok.disk c.ship-shipped.result.1
+    (record { content = taken.content; images = taken.images; moment = taken.moment; fresh = taken.opened; call = taken.call }) c.disk.ensures.others (record { held = back.held; never_falls = back.never_falls; call = back.call }) back.others

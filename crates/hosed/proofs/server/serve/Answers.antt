@@ -2,6 +2,7 @@ use Rattle.std.proofs.Common.{◌≡◌, Err, refl, rules, subst}
 use Rattle.hose_offline.specs.Auditing.{ReadsTopology}
 use Rattle.hose_offline.specs.Parts.{tellings}
 use Rattle.hose_offline.specs.declared.fault.Fault.TheVariants.{Cabinet}
+use Rattle.hose_offline.proofs.Lending.{lent_alone}
 use Rattle.hose_offline.proofs.PutBack.{not_served}
 use Rattle.hosed.proofs.Connections.{same_first, served_in}
 use Rattle.hosed.proofs.Served.{is_served, no_topology_read, not_opened, serve_not_1}
@@ -21,7 +22,7 @@ pub returns-in_default-clause-outcome : goal.returns-in_default-clause-outcome
 returns-in_default-clause-outcome g c =
     let reads = subst (ReadsTopology g.C.Cabinet c.args.outside.now.cabinet.now c.read_topology.new.cabinet (g.P.Prices.prices c.args.costs.now) c.args.request.topology.now) c.in-Ok.is c.read_topology.ensures.reads in
     let ended = c.end-in_default in
-    not_opened _ _ _ _ _ c.read_topology.new.cabinet c.in-Ok.topology ended.result reads (search rules) refl Cabinet (search rules) ended.ensures.status ended.ensures.last_line refl
+    not_opened _ _ _ _ _ c.read_topology.new.cabinet c.in-Ok.topology ended.result reads (record { absent = search rules; others = c.disk.ensures.others }) refl Cabinet (search rules) ended.ensures.status ended.ensures.last_line refl
 
 pub returns-in_default-clause-not_words : goal.returns-in_default-clause-not_words
 returns-in_default-clause-not_words g c = serve_not_1 _ _ _ _ _ c.end-in_default.result (returns-in_default-clause-outcome g c)
@@ -36,7 +37,9 @@ returns-in-Err-open_store-clause-outcome g c =
     let ended = c.end-in-Err-open_store in
     let not = not_served g.C.Cabinet g.C.Disk.Disk c.args.request.journal.now c.read_topology.new.cabinet c.disk.new.self c.back.new.self c.in-Ok.topology c.in-Ok-disk.disk refused.refused.1
     (record { out = record { content = taken.content; images = taken.images; moment = taken.moment; fresh = taken.opened; call = taken.call }; in_place = record { held = back.held; never_falls = back.never_falls; call = back.call } }) (Err refused.refused.0) refused.ensures.refused in
-    not_opened _ _ _ _ _ c.read_topology.new.cabinet c.in-Ok.topology ended.result reads (search rules) refl refused.refused.0 not ended.ensures.status ended.ensures.last_line refl
+    let alone = lent_alone g.C.Cabinet g.C.Disk.Disk c.args.request.journal.now c.read_topology.new.cabinet c.disk.new.self c.back.new.self c.in-Ok-disk.disk refused.refused.1
+    (record { content = taken.content; images = taken.images; moment = taken.moment; fresh = taken.opened; call = taken.call }) c.disk.ensures.others (record { held = back.held; never_falls = back.never_falls; call = back.call }) back.others in
+    not_opened _ _ _ _ _ c.read_topology.new.cabinet c.in-Ok.topology ended.result reads alone refl refused.refused.0 not ended.ensures.status ended.ensures.last_line refl
 
 pub returns-in-Err-open_store-clause-not_words : goal.returns-in-Err-open_store-clause-not_words
 returns-in-Err-open_store-clause-not_words g c = serve_not_1 _ _ _ _ _ c.end-in-Err-open_store.result (returns-in-Err-open_store-clause-outcome g c)
@@ -53,7 +56,9 @@ returns-clause-outcome g c =
     let kept = served_in (tellings g.I.Source g.O.Sink g.C.Cabinet g.C.Disk.Disk) c.args.request.journal.now c.read_topology.new.cabinet c.disk.new.self c.back-2.new.self c.in-Ok.topology c.in-Ok-disk.disk served.result.disk
     (record { out = record { content = taken.content; images = taken.images; moment = taken.moment; fresh = taken.opened; call = taken.call }; in_place = record { held = back.held; never_falls = back.never_falls; call = back.call } })
     _ served.result.came (search rules) (rw (c.of-was.ensures, c.in-Ok-open_store.ensures.network) at served.ensures.serves) in
-    is_served _ _ _ _ _ c.read_topology.new.cabinet c.in-Ok.topology c.tell_served.result reads (search rules) refl served.new.output served.result.came (rw given at kept) (rw given at served.ensures.speaks) c.tell_served.ensures.came
+    let alone = lent_alone g.C.Cabinet g.C.Disk.Disk c.args.request.journal.now c.read_topology.new.cabinet c.disk.new.self c.back-2.new.self c.in-Ok-disk.disk served.result.disk
+    (record { content = taken.content; images = taken.images; moment = taken.moment; fresh = taken.opened; call = taken.call }) c.disk.ensures.others (record { held = back.held; never_falls = back.never_falls; call = back.call }) back.others in
+    is_served _ _ _ _ _ c.read_topology.new.cabinet c.in-Ok.topology c.tell_served.result reads alone refl served.new.output served.result.came (rw given at kept) (rw given at served.ensures.speaks) c.tell_served.ensures.came
 
 pub returns-clause-not_words : goal.returns-clause-not_words
 returns-clause-not_words g c = serve_not_1 _ _ _ _ _ c.tell_served.result (returns-clause-outcome g c)
