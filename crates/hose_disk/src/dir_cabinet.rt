@@ -6,17 +6,25 @@ ghost use Rattle.hose_disk.specs.Cabinet.{object_of};
 
 use crate::cabinet::Cabinet;
 use crate::file_disk::FileDisk;
-use crate::files::{OpenText, open_disk, read_text};
+use crate::files::{FileId, OpenText, open_disk, read_text};
 use hose_io::Failed;
 use std::fs::File;
 use std::io::ErrorKind;
 use std::marker::Model;
 use std::rt::Files;
 
+// A disk that was put back: its name, and which file it is.
+#[derive(Drop)]
+struct Returned {
+    name: Vec<u8>,
+    id: FileId,
+}
+
 /// A cabinet whose names are paths, and whose texts and disks are regular files: another kind of
 /// file is a failure. A disk that is out is locked by the system's advisory lock, and one that
-/// another program has locked so is a failure. A text is the file that was at its path when its
-/// first piece was asked for, until its end is given or another text is asked for.
+/// another program has locked so is a failure. So is the file that was put back last, where it is
+/// asked for by another name: two names are two disks. A text is the file that was at its path when
+/// its first piece was asked for, until its end is given or another text is asked for.
 ///
 /// It tells nothing, and nothing is proved of what the files hold: that is up to the system, and is
 /// tried by tests. What stands at a path is looked at before it is opened, since to open a pipe may
@@ -29,6 +37,8 @@ pub struct DirCabinet<F> {
     absent: u64,
     returned: u64,
     out: Option<Vec<u8>>,
+    out_id: Option<FileId>,
+    last: Option<Returned>,
 }
 
 impl<F> Model for DirCabinet<F> {
@@ -65,6 +75,8 @@ impl<F: Files<File = File> + AllocGlobal + Drop> DirCabinet<F> {
             absent: 0,
             returned: 0,
             out: None,
+            out_id: None,
+            last: None,
         }
     }
 
@@ -121,18 +133,39 @@ impl<F: Files<File = File> + AllocGlobal + Drop> Cabinet for DirCabinet<F> {
         let Ok(out) = Vec::from_slice(self.rt.alloc(), name.as_bytes()) else {
             return Err(self.fault());
         };
-        let Ok(file) = open_disk(&self.rt, name) else {
+        let Ok(opened) = open_disk(&self.rt, name) else {
             return Err(self.fault());
         };
+        if is_by_another_name(self.last.as_ref(), name, opened.id) {
+            return Err(self.fault());
+        }
         self.out = Some(out);
-        Ok(FileDisk::new(file))
+        self.out_id = Some(opened.id);
+        Ok(FileDisk::new(opened.file))
     }
 
     fn back(&mut self, disk: FileDisk) {
-        self.out = None;
+        let name = self.out.take();
+        self.last = returned_as(name, self.out_id);
         self.returned = disk.faults();
         if disk.has_failed() {
             self.fault();
         }
+    }
+}
+
+// What is noted of a disk that is put back.
+fn returned_as(name: Option<Vec<u8>>, id: Option<FileId>) -> Option<Returned> {
+    match (name, id) {
+        (Some(name), Some(id)) => Some(Returned { name, id }),
+        _ => None,
+    }
+}
+
+// Whether a file is the one that was put back last, under another name.
+fn is_by_another_name(last: Option<&Returned>, name: &str, id: FileId) -> bool {
+    match last {
+        Some(last) => last.id == id && last.name.as_slice() != name.as_bytes(),
+        None => false,
     }
 }

@@ -63,9 +63,23 @@ fn text_at<F: Files<File = File> + AllocGlobal>(
     })
 }
 
+/// Which file one is, by whatever name.
+#[derive(Clone, Copy, PartialEq, Eq)]
+pub struct FileId {
+    device: u64,
+    inode: u64,
+}
+
+/// A disk that was opened.
+#[derive(Drop)]
+pub struct OpenDisk {
+    pub file: File,
+    pub id: FileId,
+}
+
 /// Opens a disk and locks it; one that is not there is made. Then its path leads to it, its name is
 /// durable, and what is read of it comes from the device.
-pub fn open_disk<F: Files<File = File> + AllocGlobal>(rt: &F, path: &str) -> io::Result<File> {
+pub fn open_disk<F: Files<File = File> + AllocGlobal>(rt: &F, path: &str) -> io::Result<OpenDisk> {
     match fs::metadata(rt, path) {
         Ok(there) => require_file(&there)?,
         Err(error) if error.kind() == ErrorKind::NotFound => {}
@@ -86,7 +100,11 @@ pub fn open_disk<F: Files<File = File> + AllocGlobal>(rt: &F, path: &str) -> io:
     require_same(&opened, &fs::metadata(rt, real.as_str())?)?;
     settle(&file)?;
     sync_folder(rt, real)?;
-    Ok(file)
+    let id = FileId {
+        device: opened.dev(),
+        inode: opened.ino(),
+    };
+    Ok(OpenDisk { file, id })
 }
 
 // Opens a file with a descriptor above those of the standard streams. Where one of these is closed,

@@ -1,4 +1,4 @@
-// Listening at a port of this machine, and the connections that arrive there.
+// Listening at a port, and the connections that arrive there.
 ghost use Rattle.std.specs.Prelude.{◌≡◌, ◌↔◌, ◌⊎◌, IsErr, IsNone, IsTrue};
 ghost use Rattle.std.specs.IoError.{error_kind};
 
@@ -34,12 +34,13 @@ const PASSING: [i32; 12] = [
     101, // ENETUNREACH
 ];
 
-/// Listens at a port of this machine, by a descriptor above those of the standard streams.
+/// Listens at a port of an address, by a descriptor above those of the standard streams.
 pub fn listen<N: Net<Listener = TcpListener, Stream = TcpStream>>(
     rt: &N,
+    address: Ipv4Addr,
     port: u16,
 ) -> io::Result<TcpListener> {
-    let listener = TcpListener::bind(rt, (Ipv4Addr::LOCALHOST, port))?;
+    let listener = TcpListener::bind(rt, (address, port))?;
     if listener.as_raw_fd() > STANDARD_END {
         return Ok(listener);
     }

@@ -4,13 +4,15 @@ ghost use Rattle.hose_io.specs.steps.Connections.{Accepts, AreAccounted, AreUsed
 ghost use Rattle.hose_io.specs.Count.{one_more};
 ghost use Rattle.hose_io.specs.Frame.{Met, Rose};
 ghost use Rattle.hose_io.specs.steps.StdState.{untold_stream, untold_text};
-ghost use Rattle.hose_door.specs.steps.TcpState.{tcp_frame, std_sink, std_source, untold_connections};
+ghost use Rattle.std.specs.Duration.{as_nanos};
+ghost use Rattle.hose_door.specs.steps.Limits.{door_address, read_seconds, write_seconds};
+ghost use Rattle.hose_door.specs.steps.TcpState.{nanos_of, new_door, tcp_frame, std_sink, std_source, untold_connections};
 
 use crate::arrival::{accept_from, in_two, listen};
 use hose_io::{Door, Failed, StdSink, StdSource};
 use std::io;
 use std::marker::Model;
-use std::net::{Net, TcpListener, TcpStream};
+use std::net::{Ipv4Addr, Net, TcpListener, TcpStream};
 use std::rt::Clock;
 use std::time::Duration;
 
@@ -35,28 +37,40 @@ pub struct TcpDoor<N> {
     rt: N,
     read_timeout: Duration,
     write_timeout: Duration,
+    address: Option<Ipv4Addr>,
     port: Option<u16>,
     listener: Option<TcpListener>,
     faults: u64,
 }
 
 impl<N> Model for TcpDoor<N> {
-    ghost use Rattle.std.specs.Prelude.{is_some};
+    ghost use Rattle.std.specs.Prelude.{is_some, option_map};
+    ghost use Rattle.std.specs.Duration.{as_nanos};
+    ghost use Rattle.std.specs.Net.Addr.{ipv4_octets};
     ghost use Rattle.hose_door.specs.steps.TcpState.{TcpState};
 
     ghost Value = { TcpState };
 
     ghost view = { λ door. record {
       faults = door.faults;
+      address = option_map ipv4_octets door.address;
       port = door.port;
       listens = is_some door.listener;
+      patience = record {
+        read = as_nanos door.read_timeout;
+        write = as_nanos door.write_timeout;
+      };
     } };
 }
 
 impl<N: Net<Listener = TcpListener, Stream = TcpStream> + Send + Drop> TcpDoor<N> {
-    /// It listens once it is opened. Its peers have `READ_SECONDS` and `WRITE_SECONDS`.
+    /// It listens once it is opened, at 127.0.0.1. Its peers have `READ_SECONDS` and
+    /// `WRITE_SECONDS`.
     pub fn new(rt: N) -> TcpDoor<N>
-        ensures { result ≡ record { faults = 0; port = None; listens = false } }
+        ensures { result ≡ new_door (record {
+          read = nanos_of read_seconds;
+          write = nanos_of write_seconds;
+        }) }
     {
         let read_timeout = Duration::from_secs(READ_SECONDS);
         let write_timeout = Duration::from_secs(WRITE_SECONDS);
@@ -65,12 +79,16 @@ impl<N: Net<Listener = TcpListener, Stream = TcpStream> + Send + Drop> TcpDoor<N
 
     /// A door as `new` makes it, but with these timeouts, of which neither may be zero.
     pub fn with_timeouts(rt: N, read_timeout: Duration, write_timeout: Duration) -> TcpDoor<N>
-        ensures { result ≡ record { faults = 0; port = None; listens = false } }
+        ensures { result ≡ new_door (record {
+          read = as_nanos read_timeout;
+          write = as_nanos write_timeout;
+        }) }
     {
         TcpDoor {
             rt,
             read_timeout,
             write_timeout,
+            address: None,
             port: None,
             listener: None,
             faults: 0,
@@ -134,13 +152,19 @@ impl<N: Net<Listener = TcpListener, Stream = TcpStream> + Clock + Drop> Door for
             (λ _. self.new.port ≡ Some port)
             (λ _. self.new.port ≡ self.old.port) }
 
+        ensures address { MatchResult result
+            (λ _. self.new.address ≡ Some door_address)
+            (λ _. self.new.address ≡ self.old.address) }
         ensures listens { MatchResult result
             (λ _. self.new.listens ≡ true)
             (λ _. self.new.listens ≡ self.old.listens) }
+        ensures patience { self.new.patience ≡ self.old.patience }
     {
-        let Ok(listener) = listen(&self.rt, port) else {
+        let address = Ipv4Addr::LOCALHOST;
+        let Ok(listener) = listen(&self.rt, address, port) else {
             return Err(self.fault());
         };
+        self.address = Some(address);
         self.port = Some(port);
         self.listener = Some(listener);
         Ok(())
@@ -159,7 +183,7 @@ impl<N: Net<Listener = TcpListener, Stream = TcpStream> + Clock + Drop> Door for
 
         ensures never_ends { IfOk result (λ found. IsSome found) }
         ensures unopened { IsFalse self.old.listens → IsErr result }
-        ensures listens { self.new.listens ≡ self.old.listens }
+        ensures stays { self.new ≡ record self.old { faults = self.new.faults } }
     {
         let Ok((input, output)) = self.accept_ends() else {
             return Err(self.fault());
@@ -185,4 +209,40 @@ impl<N: Net<Listener = TcpListener, Stream = TcpStream> + Clock + Drop> Door for
     }
 
     fn back(&mut self, _done: TcpDone) {}
+}
+
+#[cfg(test)]
+mod tests {
+    use super::*;
+    use std::net::SocketAddr;
+    use std::test::Fail;
+
+    // Opens a door at the first of some ports that is free, and says which.
+    fn open_somewhere<N: Net<Listener = TcpListener, Stream = TcpStream> + Clock + Drop>(
+        door: &mut TcpDoor<N>,
+    ) -> Option<u16> {
+        for port in 47_100..47_200 {
+            if door.open(port).is_ok() {
+                return Some(port);
+            }
+        }
+        None
+    }
+
+    // No clause of the system's calls says what they do with an address and a limit. A door on all
+    // addresses would be reached at 127.0.0.2 too.
+    #[test]
+    fn the_system_has_its_address_and_its_limits(rt: HostRuntime) -> Result<(), Fail> {
+        let mut door = TcpDoor::new(rt);
+        let port = open_somewhere(&mut door).ok_or("no free port")?;
+        let listener = door.listener.as_ref().ok_or("no listener")?;
+        let address = listener.local_addr()?;
+        assert!(rt; address == SocketAddr::from((Ipv4Addr::new(127, 0, 0, 1), port)));
+        assert!(rt; TcpStream::connect(&rt, (Ipv4Addr::new(127, 0, 0, 2), port)).is_err());
+        let _peer = TcpStream::connect(&rt, (Ipv4Addr::new(127, 0, 0, 1), port))?;
+        let (input, output) = door.accept_ends()?;
+        assert!(rt; input.read_timeout()? == Some(Duration::from_secs(600)));
+        assert!(rt; output.write_timeout()? == Some(Duration::from_secs(60)));
+        Ok(())
+    }
 }

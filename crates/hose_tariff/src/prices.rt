@@ -61,10 +61,12 @@ pub fn price(alloc: Global, top: &Topology, tariff: &Tariff) -> Result<Topology,
     Ok(priced)
 }
 
-/// Where the tariff's rule answers one cost for each length, a network is priced in one way.
+/// Where the tariff's rule answers one cost for each length that a link can have, a network is
+/// priced in one way.
 pub fn law_one_network(tariff: &Tariff)
     ensures { (cost : ℕ → ℕ) → AnswersCosts (Rule.post tariff.now.rule) cost
-        → (network priced : Network) → IsPricedBy (Rule.post tariff.now.rule) network priced
+        → (network priced : Network) → IsNetwork network
+        → IsPricedBy (Rule.post tariff.now.rule) network priced
         → priced ≡ with_costs cost network }
 {
     let _name = tariff.name();
