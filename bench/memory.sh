@@ -1,15 +1,16 @@
 #!/usr/bin/env bash
 # What comes of want of memory: programs run once for each growth of memory, and in each run just
 # that one fails. The runs are an admission, a quote that is taken, a quote that goes stale, an
-# admission on a backbone of eleven cities, and each of a journal that is begun, gone on with and
-# another network's; an audit, a generated script, a certificate that is written and one that is
-# judged, and two prices; and a server with one customer. Each has to end in one of three ways: with
-# status 7 and the line `no memory`; with a line `memory` in the place of the command that was
-# refused; or with the fault of an object that wanted it, as `cabinet` and status 6. All other lines
-# have to be those of the orders that were acknowledged, by the slow planner of compare_planner.py,
-# and these the entries of the journal, by the reader of forged.py. A library that gcc makes of
-# edge.c refuses the growth. A run has no more of them where twenty in a row were not wanted; how
-# many it had, and with which status it ended, is printed.
+# admission on a backbone of eleven cities, a customer's numbers and an admission that is bound to
+# them, and each of a journal that is begun, gone on with and another network's; an audit, a
+# generated script, a certificate that is written and one that is judged, and two prices; a journal
+# that is moved, as a whole and what is live of it; and a server with one customer. Each has to end
+# in one of three ways: with status 7 and the line `no memory`; with a line `memory` in the place of
+# the command that was refused; or with the fault of an object that wanted it, as `cabinet` and
+# status 6. All other lines have to be those of the orders that were acknowledged, by the slow
+# planner of compare_planner.py, and these the entries of the journal, by the reader of forged.py. A
+# library that gcc makes of edge.c refuses the growth. A run has no more of them where twenty in a
+# row were not wanted; how many it had, and with which status it ended, is printed.
 # usage: bench/memory.sh [PROGRAM]
 # The PROGRAM (crates/hosed_main/out/hosed_main) is seen from the top of the repository. It is no
 # script: the growths of the shell would be refused.
@@ -66,6 +67,8 @@ RUNS = {
     "stale": ("detour", ["acme admit a:3 b:3", "acme quote a:3 b:3", "beta admit a:8 c:8",
                          "acme take 1"], None),
     "backbone": ("backbone", ["acme admit sea:400 lax:600 chi:500 nyc:1000"], None),
+    "bound": ("star", ["acme admit-after 0 a:1 b:1", "acme vpns", "acme admit-after 1 b:1 c:1",
+                       "acme vpns"], None),
     "new_journal": ("star", ADMIT, b""),
     "kept_journal": ("star", ADMIT, KEPT),
     "other_journal": ("detour", ["acme admit a:3 b:3"], KEPT),
@@ -82,7 +85,12 @@ ASKED = {
               ["price acme flat 26 12 26 hops 12 12 12 long 112 60 112 best hops",
                "price beta flat 24 16 24 hops 16 16 16 long 128 80 128 best hops"]),
 }
-SESSION = ["hello acme", "admit a:3 b:4 c:5", "show 1", "bye"]
+# A move of the kept journal to the same network, into one that is there and empty.
+MOVES = {
+    "move": ([], ["moved 1 live 1"]),
+    "move_live": (["--live"], ["vpn 1 is 1", "moved 1 live 1"]),
+}
+SESSION = ["hello acme", "admit a:3 b:4 c:5", "vpns", "admit-after 1 a:1 b:1", "show 1", "bye"]
 
 
 class Wrong(Exception):
@@ -178,6 +186,29 @@ def answer_without(growth, name, library, work):
     return status == 0 and lines == wanted, status
 
 
+def move_without(growth, name, library, work):
+    """The same of a move. The old journal stays, and the new one has a part of its orders."""
+    live, wanted = MOVES[name]
+    old, new = work / "old.journal", work / "new.journal"
+    old.write_bytes(KEPT)
+    new.write_bytes(b"")
+    words = [PROGRAM, "move", *live, "demo/star.txt", str(old), "demo/star.txt", str(new)]
+    done = subprocess.run(words, capture_output=True, text=True, timeout=SECONDS,
+                          env=without(growth, library))
+    status, output, after = done.returncode, done.stdout.splitlines(), new.read_bytes()
+    ends = {0: ("",), 6: ("cabinet", "new cabinet"), 7: ("no memory", "new no memory")}
+    if status not in ends or old.read_bytes() != KEPT:
+        raise Wrong(f"status {status} after {output}")
+    last = output[-1:] if status else [""]
+    lines = output[:-1] if status else output
+    if last[0] not in ends[status] or lines != wanted[:len(lines)]:
+        raise Wrong(f"status {status} after {output}")
+    whole = status == 0 and lines == wanted
+    if after != KEPT and (whole or after and judged(NETWORKS["star"], after)[1] != 0):
+        raise Wrong(f"status {status}, and the new journal has {after.hex()}")
+    return whole, status
+
+
 def customer(port, ended, replies):
     """Comes as soon as the server is ready, and keeps what it is told."""
     while not ended.is_set():
@@ -262,6 +293,8 @@ def main():
             try_all(name, lambda growth: run_without(growth, name, library, work))
         for name in ASKED:
             try_all(name, lambda growth: answer_without(growth, name, library, work))
+        for name in MOVES:
+            try_all(name, lambda growth: move_without(growth, name, library, work))
         try_all("server", lambda growth: server_without(growth, library, work))
 
 

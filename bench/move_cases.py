@@ -162,6 +162,8 @@ def faults_of_the_old():
     yield case("an old journal of another network", [other], 5, old=journal(LOW, ALL), left=nothing)
     yield case("an old journal that is damaged", ["journal damaged at 38"], 5,
                old=journal(STAR, ALL)[:60], left=nothing)
+    yield case("an old journal whose head is damaged", ["journal damaged at 1"], 5,
+               old=b"\1HOSX" + journal(STAR, ALL)[5:], left=nothing)
     yield case("an old journal whose disk fails", ["cabinet"], 6, more=("disk-fails read 1",),
                left=nothing)
     yield case("an output that fails at the numbers", [], 4, words="move --live t j u k",
@@ -182,6 +184,9 @@ def faults_of_the_new():
                words="move --live t j u k", had=had, left=had)
     had = journal(GROWN, ALL)[:60]
     yield case("a new journal that is damaged", ["new journal damaged at 38"], 5, had=had, left=had)
+    had = b"\1HOSX" + journal(GROWN, ALL)[5:]
+    yield case("a new journal whose head is damaged", ["new journal damaged at 1"], 5, had=had,
+               left=had)
     had = journal(GROWN, (ACME, ("release", "acme", 7)))
     at = len(journal(GROWN, (ACME,))) - 1
     yield case("a new journal with an entry that is not sound", [f"new journal damaged at {at}"], 5,

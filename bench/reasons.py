@@ -2,10 +2,13 @@
 """Runs the program to each of its statuses, and compares what it says on standard error.
 
 At the status 0 that is nothing, and else one sentence, which names what the words named. What is
-wanted stands here, written by hand. Each status has one trial at least, and 1 and 6 have one for
-each cause that an operator meets: a word that is wrong, missing or empty, or the name of no node;
-a file that is not there, a folder that is not, rights that are missing, a journal that another
-program holds. Ends with status 1 where a status, or a sentence, is another one.
+wanted stands here, written by hand. Each status has one trial at least, and each command one that
+ends well; 1 and 6 have one for each cause that an operator meets: a word that is wrong, missing or
+empty, or the name of no node; a file that is not there, a folder that is not, rights that are
+missing, a journal that another program holds. One trial has as many words as the program takes.
+Files that no words name lie beside, and have to stay as they are. Ends with status 1 where a
+status, a sentence, an output that is written here or such a file is another one. The gate runs it,
+since no clause says what `main` does around the one call that it makes.
 
 usage: bench/reasons.py [PROGRAM]
 
@@ -36,6 +39,8 @@ JOURNAL = ("could not be opened or closed: its folder is not there, rights are m
            "program holds it, or its disk failed")
 OTHER = "is damaged, or it is that of another network, or of other costs, than the topology"
 TWO_NODES = "node a\nnode b\nlink a b 10 7\nend\n"
+BESIDE = ("orders.journal", "other.journal", "beside.txt")  # that no words name
+ENDS = 64  # of a hose at most
 CERTIFICATE = "cost 1\nhose a:1 b:1\nuse 0 1\nend\n"
 
 
@@ -53,20 +58,36 @@ class Trials:
         with open(self.path(name), "w", encoding="ascii") as file:
             file.write(text)
 
-    def comes(self, words, status, sentence, text="", **streams):
-        """Runs the program, and tells where it did not end so."""
-        how = {"stdout": subprocess.DEVNULL, **streams}
+    def lay_beside(self):
+        for name in BESIDE:
+            self.write(name, name)
+
+    def are_beside(self):
+        """Whether the files that no words name are as they were laid there."""
+        for name in BESIDE:
+            with open(self.path(name), encoding="ascii") as file:
+                if file.read() != name:
+                    return False
+        return True
+
+    def comes(self, words, status, sentence, text="", output=None, **streams):
+        """Runs the program, and tells where it did not end so. Gives what it wrote."""
+        how = {"stdout": subprocess.PIPE, **streams}
         if "stdin" not in how:
             how["input"] = text
         done = subprocess.run([self.program, *words], cwd=self.folder, timeout=SECONDS, text=True,
                               stderr=subprocess.PIPE, check=False, **how)
         want = f"hosed: {sentence}\n" if sentence else ""
-        same = (done.returncode, done.stderr) == (status, want)
+        same = ((done.returncode, done.stderr) == (status, want) and self.are_beside()
+                and output in (None, done.stdout))
         self.wrong += not same
-        print(f"{'as wanted' if same else 'OTHERWISE'}: {' '.join(words) or '(no words)'}: "
+        shown = " ".join(words if len(words) < 10 else [*words[:4], f".. {len(words)} words"])
+        print(f"{'as wanted' if same else 'OTHERWISE'}: {shown or '(no words)'}: "
               f"{done.returncode} {done.stderr.rstrip()}")
         if not same:
-            print(f"  wanted: {status} {want.rstrip()}")
+            print(f"  wanted: {status} {want.rstrip()}, and beside it is the same: "
+                  f"{self.are_beside()}; {done.stdout!r} where {output!r} was wanted")
+        return done.stdout
 
 
 def words_that_are_wrong(trials):
@@ -202,7 +223,19 @@ def moves(trials):
           "other costs, than its topology tells", "small.txt")
     for new, old in (("none.txt", "net.txt"), ("big.txt", "none.txt")):
         comes(6, f'the topology "{old}" or "{new}" {TEXT}; or the journal "kept", which has to be '
-              f'there, or "moved" could not be opened: {JOURNAL.partition(": ")[2]}', new, old=old)
+              f'there, or "moved" could not be opened: {JOURNAL.partition(": ")[2]}; or both '
+              "journals are one file", new, old=old)
+    os.symlink("kept", trials.path("link"))
+    os.link(trials.path("kept"), trials.path("hard"))
+    with open(trials.path("kept"), "rb") as file:
+        before = file.read()
+    for to in ("./kept", "link", "hard"):
+        sentence = (f'the topology "net.txt" or "big.txt" {TEXT}; or the journal "kept", which has '
+                    f'to be there, or "{to}" could not be opened: {JOURNAL.partition(": ")[2]}; or '
+                    "both journals are one file")
+        trials.comes(["move", "net.txt", "kept", "big.txt", to], 6, sentence, "", "new cabinet\n")
+        with open(trials.path("kept"), "rb") as file:
+            trials.wrong += file.read() != before
     comes(8, 'the topology "net.txt", or "long.json", is longer than 1 GiB, or it is in JSON and '
           "longer than 16 MiB", "long.json")
     comes(12, f'the topology "other.txt" does not go on from "net.txt": {LAST} the first node or '
@@ -215,6 +248,66 @@ def moves(trials):
           f"{LAST}", to="another")
 
 
+def commands(trials):
+    """Each command ends well, by a tariff where it takes one, and writes what is right."""
+    hops = ["--tariff", "hops"]
+    trials.comes(["run", *hops, "well"], 0, None, TWO_NODES + "acme admit a:2 b:2\n",
+                 "admitted 1 cost 2 at 1 links 0:2\n")
+    trials.comes(["audit", *hops, "net.txt", "well"], 0, None, "",
+                 "epoch 1\nlink 0 a b capacity 10 cost 1 load 2\n"
+                 "vpn 1 acme cost 2 ends a:2 b:2 links 0:2\nlive 1 cost 2\n")
+    certificate = trials.comes(["prove", *hops, "net.txt", "a:2", "b:2"], 0, None)
+    trials.comes(["check", *hops, "net.txt"], 0, None, certificate, "yes 2\n")
+    trials.comes(["price", "net.txt"], 0, None, "acme a:2 b:2\n",
+                 "price acme flat 14 2 14 hops 2 2 2 long 38 10 38 best hops\n")
+    trials.comes(["gen", "7", "9", "27", "20"], 0, None)
+    trials.comes(["follow", *hops, "net.txt", "standby"], 0, None, "", "")
+    trials.comes(["ship", *hops, "net.txt", "well", "2"], 0, None, "", "")
+    trials.comes(["move", *hops, "net.txt", "well", "net.txt", "grown"], 0, None, "",
+                 "moved 1 live 1\n")
+    for words in (["--help"], ["--version"]):
+        trials.comes(words, 0, None)
+
+
+def serves(trials):
+    """A server ends well once its one customer left."""
+    with socket.socket() as probe:
+        probe.bind(("127.0.0.1", 0))
+        port = probe.getsockname()[1]
+    served = subprocess.Popen([trials.program, "serve", "net.txt", "served", str(port), "1", "1"],
+                              cwd=trials.folder, stdin=subprocess.DEVNULL, text=True,
+                              stdout=subprocess.PIPE, stderr=subprocess.PIPE)
+    served.stdout.readline()
+    with socket.create_connection(("127.0.0.1", port), SECONDS) as peer:
+        peer.sendall(b"hello acme\nadmit a:1 b:1\nbye\n")
+        replies = peer.makefile().read()
+    output, error = served.communicate(timeout=SECONDS)
+    same = (served.returncode, error, replies) == (
+        0, "", "welcome at 0\nadmitted 1 cost 7 at 1 links 0:1\nbye\n") and trials.are_beside()
+    trials.wrong += not same
+    print(f"{'as wanted' if same else 'OTHERWISE'}: serve: {served.returncode} {error} {replies!r} "
+          f"{output!r}")
+
+
+def most_words(trials):
+    """All words are taken: a hose of the most endpoints, and then one whose last word is wrong."""
+    leaves = [f"n{leaf}" for leaf in range(ENDS)]
+    trials.write("wide.txt", "".join(f"node {leaf}\n" for leaf in leaves) + "node h\n"
+                 + "".join(f"link {leaf} h 10 7\n" for leaf in leaves) + "end\n")
+    ends = [f"{leaf}:1" for leaf in leaves]
+    words = ["prove", "--tariff", "hops", "wide.txt"]
+    certificate = trials.comes([*words, *ends], 0, None)
+    hoses = [line for line in certificate.splitlines() if line.startswith("hose ")]
+    trials.wrong += hoses != [" ".join(["hose", *ends])]
+    trials.comes(["check", "--tariff", "hops", "wide.txt"], 0, None, certificate, f"yes {ENDS}\n")
+    trials.comes([*words, *ends[:-1], "x:1"], 1,
+                 f"the word that {LAST} is not allowed: it is the name of no node of the topology "
+                 f'"wide.txt"{HELP}', "", f"words {len(words) + ENDS}\n")
+    trials.comes([*words, *ends, "h:1"], 1,
+                 f'word {len(words) + ENDS + 1} is not allowed: "h:1"{HELP}', "",
+                 f"words {len(words) + ENDS + 1}\n")
+
+
 def main(words):
     if "--help" in words or "-h" in words or len(words) > 1:
         print(__doc__.strip())
@@ -224,10 +317,10 @@ def main(words):
     try:
         trials = Trials(program, folder)
         trials.write("net.txt", TWO_NODES)
+        trials.lay_beside()
         for part in (words_that_are_wrong, topologies, streams, journals, closed_error, files,
-                     limits, ports, inputs, moves):
+                     limits, ports, inputs, moves, commands, serves, most_words):
             part(trials)
-        trials.comes(["--version"], 0, None)
     finally:
         shutil.rmtree(folder)
     print(f"{trials.wrong} did otherwise")

@@ -8,8 +8,8 @@ use hose_door::TcpDoor;
 use hose_io::{StdSink, StdSource};
 use hose_pool::PlainGate;
 use hosed_program::{
-    Context, OwnedOutside, Returning, Watched, flat, hops, long, no_memory, program, program_words,
-    returning_line, tariffs, tell_reason,
+    Context, OwnedOutside, Returning, SystemWords, Watched, flat, hops, long, no_memory, program,
+    program_words, returning_line, tariffs, tell_reason,
 };
 use std::process::ExitCode;
 
@@ -32,7 +32,7 @@ fn main(rt: HostRuntime) -> ExitCode {
         return ExitCode::from(status);
     };
     let tariffs = tariffs(alloc, by_flat, by_hops, by_long);
-    let status = match (program_words(&rt, alloc), tariffs) {
+    let status = match (program_words(&SystemWords { env: &rt }, alloc), tariffs) {
         (Ok(words), Ok(tariffs)) => {
             let context = Context {
                 rt: &rt,

@@ -1,1 +1,2 @@
 mod Ruled
+mod WordsTaken

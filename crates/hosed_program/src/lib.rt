@@ -2,7 +2,7 @@
 //! hands it the real streams, files and port, and cases of `cases_program` hand it those in memory:
 //!
 //! ```
-//! let words = program_words(&rt, alloc)?;
+//! let words = program_words(&SystemWords { env: &rt }, alloc)?;
 //! let tariffs = tariffs(alloc, by_flat, by_hops, by_long)?;
 //! let context = Context { rt: &rt, alloc, gate: &PlainGate };
 //! let mut world = OwnedOutside { input, output, cabinet, door };
@@ -11,6 +11,7 @@
 #![tactic(auto)]
 
 mod choice;
+mod given;
 mod reasons;
 mod returns;
 mod rules;
@@ -19,6 +20,7 @@ mod watched;
 mod words;
 
 pub use choice::{OwnedOutside, TextOrCommand, no_memory, program};
+pub use given::{Given, ListedWords, SystemWords};
 pub use hosed::Context;
 pub use reasons::tell_reason;
 pub use returns::{Returning, returning_line};

@@ -110,7 +110,7 @@ fn tell_moved_files<R: Eprint>(rt: &R, status: u8, named: NamedByWords<'_>) -> i
         6 => eprintln!(rt;
             "hosed: the topology {topology:?} or {new_topology:?} could not be read: {OF_TEXT}; or \
             the journal {journal:?}, which has to be there, or {new_journal:?} could not be \
-            opened: {OF_JOURNAL}"
+            opened: {OF_JOURNAL}; or both journals are one file"
         ),
         _ => eprintln!(rt;
             "hosed: the topology {topology:?}, or {new_topology:?}, is longer than 1 GiB, or it \
