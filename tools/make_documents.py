@@ -1,12 +1,10 @@
 #!/usr/bin/env python3
 """Makes what the documents have from the sources, so that it cannot say another thing than they do.
 
-  docs/DEFINITIONS.md    the definitions of the statement with their comments, in reading order,
-                         and how many of proofs alone each file has
   docs/ARCHITECTURE.md   what each crate is, by its root file, and which crate takes what of which
   docs/GUIDE.md          the forms of the program's words, and what words mean, as `--help` tells
   CONTRIBUTING.md        the files that name a reply, a command and an entry
-  README.md, docs/DEFINITIONS.md
+  README.md, docs/PROOFS.md
                          how long the statement is
 
 A made part stands between `<!-- made: NAME -->` and `<!-- end of NAME -->`, on lines of their own
@@ -18,18 +16,17 @@ finds such a part, or a marker is missing.
 usage: make_documents.py            writes the parts that differ, and names their documents
        make_documents.py --check    names the parts that differ, and writes nothing
 """
-import collections
 import os
 import re
 import sys
 
 import imports
 from definitions import ENDINGS, TOP, crates_of, files_of
-from resolve import Repository, definition_key
-from statement import Statement, parts_of
+from resolve import Repository
+from statement import Statement
 
 TEXTS = "crates/hosed_program/src/texts.rt"
-PARTS = {"README.md": ["statement"], "docs/DEFINITIONS.md": ["statement", "definitions"],
+PARTS = {"README.md": ["statement"], "docs/PROOFS.md": ["statement"],
          "docs/ARCHITECTURE.md": ["crates", "imports"], "docs/GUIDE.md": ["glossary", "usage"],
          "CONTRIBUTING.md": ["places"]}
 EXAMPLES = [("Reply", "NoQuote"), ("Command", "Take"), ("Command", "Vpns"), ("Entry", "Release")]
@@ -139,52 +136,10 @@ def cell(text):
     return text.replace("<", "&lt;") if re.search(r"<[a-zA-Z/!]", text) else text
 
 
-def entry(node):
-    """The line of a definition: its name, and what its comment says."""
-    comment = " ".join(" ".join(node.comment).split())
-    return f"- `{node.name}`: {cell(comment)}" if comment else f"- `{node.name}`"
-
-
-def statement_list(statement):
-    """The definitions of the statement, by chapters and files in reading order."""
-    found = []
-    for title, keys in statement.ordered(statement.reached):
-        found += ["", f"### {title}"]
-        for node, path, _ in parts_of(statement, keys):
-            if path is not None:
-                found += ["", file_head(statement, node), ""]
-            found.append(entry(node))
-    return found
-
-
-def file_head(statement, node):
-    """The path of a node's file, and what this is about."""
-    about = ""
-    if node.definition is not None:
-        about = " ".join(statement.repository.files[node.key[1], node.key[2]].about)
-    return f"`{node.path}`" + (f": {cell(about)}" if about else "")
-
-
-def proofs_list(statement):
-    """A line for each crate that has definitions of proofs alone: its files, with how many."""
-    found = collections.defaultdict(list)
-    for file in statement.repository.files.values():
-        count = sum(definition_key(one) not in statement.reached for one in file.definitions)
-        if count:
-            found[file.crate].append(f"{file.module} {count}")
-    return [f"- `{crate}`: {', '.join(files)}" for crate, files in found.items()]
-
-
-def definitions_text(statement):
-    return "\n".join(["## The statement", *statement_list(statement), "",
-                      "## Of proofs alone", "", *proofs_list(statement)])
-
-
 def made_parts(top, statement):
     """Each made part, by document and name."""
     statement.closure(statement.all_keys())  # so that each name of each definition is looked up
     makers = {"statement": lambda: length_text(statement),
-              "definitions": lambda: definitions_text(statement),
               "crates": lambda: crates_text(top),
               "imports": lambda: imports.table(top),
               "usage": lambda: usage_text(top),

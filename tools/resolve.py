@@ -19,7 +19,7 @@ Target = collections.namedtuple("Target", "kind key name")
 
 # What the language brings into each file, and its words.
 BUILT_IN = set("Type Unit tt ⊥ absurd ¬ ¬◌ → × ↦ λ let in = : | _ record where pub abbrev data "
-               "unfolding elim as ℓ Dec yes no refl 𝕀 ? ..".split())
+               "unfolding elim as ℓ Dec yes no refl 𝕀 ? .. omega".split())
 # Constructors of libraries that begin with a small letter, as patterns have them.
 SMALL = set("zero suc true false tt inl inr yes no refl []".split())
 # Fields that every value behind a borrow, vector or constant has, and closures; and those of
@@ -48,12 +48,15 @@ class Scope:
 class Node:
     """A definition, or a part of a source that definitions name. `text` is its lines as they stand;
     `uses` the keys of what it names; `fields` the names of fields that it reads; `links` the places
-    (line, column, length) of its text that name a node."""
+    (line, column, length) of its text that name a node, `constructors` the names of those that name
+    a constructor of one, and `library` those that name what is outside; `read` the tokens of the
+    fields."""
 
     def __init__(self, key, crate, path, line, name, comment, text):
         self.key, self.crate, self.path, self.line, self.name = key, crate, path, line, name
         self.comment, self.text, self.definition = comment, text, None
         self.uses, self.fields, self.links, self.outside = {}, set(), {}, set()
+        self.constructors, self.library, self.read = {}, {}, []
 
     @property
     def kind(self):
@@ -73,14 +76,18 @@ class Walker:
         self.generics = {}
 
     def note(self, token, target):
+        place = (token.line, token.column, len(token.text))
         if target.kind == "outside" and target.name is not None:
             self.node.outside.add((target.key, target.name))
+            self.node.library[place] = (target.key, target.name)
         if target.kind in ("outside", "module", "variants"):
             return
         key = target.key
         if key != self.node.key:
             self.node.uses.setdefault(key, token.line)
-            self.node.links[token.line, token.column, len(token.text)] = key
+            self.node.links[place] = key
+            if target.kind == "constructor":
+                self.node.constructors[place] = target.name
 
     def problem(self, token, name):
         self.repository.problem(self.node.path, token.line, name)
@@ -141,6 +148,7 @@ class Walker:
             field = tokens[at + 1]
             self.node.fields.add(field.text)
             if not field.text.isdigit():
+                self.node.read.append(field)
                 self.repository.asked_fields.append((self.node, field))
             at += 2
         return at

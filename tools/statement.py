@@ -8,7 +8,7 @@ contracts see them, constants, and the ghost members of traits. The last chapter
 an outside of the program has to keep to says the contract of its trait's calls. Names of libraries
 are not followed: they are told at the end.
 
-usage: statement.py [COMMAND] [--html FILE]    the statement as a text, or as a page with links
+usage: statement.py [COMMAND] [--html FILE]    the statement as a text, or as a page for a browser
        statement.py --count                    how many definitions and lines, by crate and command
        statement.py --files                    which files of definitions have what, and which
                                                definitions stand in the other's place
@@ -20,11 +20,12 @@ folder specs/steps/ of their crate. Ends with status 1 where a name is not found
 """
 import collections
 import heapq
-import html
 import signal
 import sys
 
 import resolve
+import statement_page
+from chapters import CHAPTERS, HISTORY, LAW, SHARED, chapters_of
 from resolve import Repository, definition_key
 
 STEPS = "steps"  # the folder in specs/ of what is of proofs alone
@@ -34,24 +35,6 @@ OUTCOMES = {"run": "RunOutcome", "audit": "AuditOutcome", "gen": "GenOutcome",
             "ship": "ShipOutcome", "follow": "FollowOutcome",
             "move": "MoveOutcome", "serve": "ServeOutcome"}
 
-# Chapters, and the crates whose definitions stand in them. hose_law stands in four, by module. What
-# is of one command alone, and of no crate that is named here, stands in a chapter of the command.
-CHAPTERS = [
-    ("Network and traffic", "hose_graph hose_tariff hose_topo hose_topo_json"),
-    ("Plans", "hose_links hose_paths hose_root hose_tree hose_plan hose_price"),
-    ("The book", "hose_book"),
-    ("History", "hose_core"),
-    ("Streams, lines and words", "hose_io hose_words hose_proto"),
-    ("Journal and disk", "hose_codec hose_disk hose_journal hose_store"),
-    ("Sessions", "hose_turn hose_pool hose_shared hose_session hose_crew hose_door"),
-    ("What commands share", ""),
-]
-LAW = {"Network and traffic": "Walk Row Tree Matrix Route Carries Heaviest",
-       "Plans": "Plan CanonicalPlan Decision Cheapest",
-       "The book": "Book Live Service Room"}
-HISTORY = 3
-SHARED = len(CHAPTERS) - 1
-
 
 class Statement:
     """What the calls reach, in reading order. `of` has the commands that reach each node."""
@@ -59,7 +42,7 @@ class Statement:
     def __init__(self, repository, calls=CALLS, outcomes=OUTCOMES):
         self.repository = repository
         self.outcomes = outcomes
-        self.titles = [*(title for title, _ in CHAPTERS), *outcomes, "Words, and the calls"]
+        self.chapters = chapters_of(outcomes)
         self.calls = [key for key in calls]
         self.reached = self.closure(self.calls)
         self.of = collections.defaultdict(set)
@@ -112,21 +95,21 @@ class Statement:
         """The chapter that a node would stand in by itself."""
         crate, module = key[1], key[2].split(".")[0]
         if key[0] == "call":
-            return len(self.titles) - 1
-        for place, (title, crates) in enumerate(CHAPTERS):
-            modules = LAW.get(title, "").split() if crate == "hose_law" else ()
-            if crate in crates.split() or module in modules:
+            return len(self.chapters) - 1
+        for place, chapter in enumerate(CHAPTERS):
+            modules = LAW.get(chapter.title, "").split() if crate == "hose_law" else ()
+            if crate in chapter.crates.split() or module in modules:
                 return place
         if crate == "hose_law":
             return HISTORY
         if not self.of[key]:
-            return len(self.titles) - 1
+            return len(self.chapters) - 1
         if len(self.of[key]) == 1:
             return len(CHAPTERS) + list(self.outcomes).index(*self.of[key])
         return SHARED
 
     def ordered(self, keys):
-        """The chapters with their nodes: each node after those that it uses."""
+        """The chapters that have nodes, with these: each node after those that it uses."""
         keys = set(keys)
         uses = {key: {other for other in self.repository.node(key).uses
                       if other in keys and other != key} for key in keys}
@@ -137,7 +120,7 @@ class Statement:
         for key in topological(uses, lambda key: (chapter[key], self.rank(key)),
                                lambda key: (chapter[key], self.repository.node(key).path)):
             found[chapter[key]].append(key)
-        return [(self.titles[place], found[place]) for place in sorted(found)]
+        return [(self.chapters[place], found[place]) for place in sorted(found)]
 
     # ---- figures
 
@@ -207,8 +190,8 @@ def parts_of(statement, keys):
 
 def as_text(statement, keys):
     found = []
-    for place, (title, members) in enumerate(statement.ordered(keys), 1):
-        found += ["", f"==== {place}. {title}", ""]
+    for place, (chapter, members) in enumerate(statement.ordered(keys), 1):
+        found += ["", f"==== {place}. {chapter.title}", ""]
         for node, path, heads in parts_of(statement, members):
             if path is not None:
                 found += [f"-- ==== {path}", ""]
@@ -219,58 +202,6 @@ def as_text(statement, keys):
             found += [*node.text, ""]
     found += ["==== From libraries", "", *statement.repository.told_outside(keys), ""]
     return "\n".join(found[1:])
-
-
-# ---- as a page
-
-STYLE = ("body{font:15px/1.5 sans-serif;max-width:60em;margin:2em auto;padding:0 1em}"
-         "pre{font:13px/1.45 monospace;white-space:pre-wrap;margin:.2em 0 1em}"
-         "p{margin:.8em 0 0}a{text-decoration:none}h3{font-size:1em;color:#666;margin:2em 0 0}"
-         "a:hover{text-decoration:underline}")
-
-
-def anchor(key):
-    return html.escape("-".join(part.replace("/", ".").replace(" ", "_") for part in key[1:]))
-
-
-def linked(node, keys):
-    """The node's text with a link at each name that leads to a node of the page."""
-    lines = []
-    for number, line in enumerate(node.text, node.line):
-        at, done = 0, []
-        for (place, column, length), key in sorted(node.links.items()):
-            if place == number and key in keys and column >= at:
-                done.append(html.escape(line[at:column]))
-                name = html.escape(line[column:column + length])
-                done.append(f'<a href="#{anchor(key)}">{name}</a>')
-                at = column + length
-        lines.append("".join(done) + html.escape(line[at:]))
-    return "\n".join(lines)
-
-
-def as_page(statement, keys, title):
-    keys, chapters = set(keys), statement.ordered(keys)
-    found = ["<!DOCTYPE html>", '<html lang="en"><meta charset="utf-8">',
-             f"<title>{html.escape(title)}</title>", f"<style>{STYLE}</style>",
-             f"<h1>{html.escape(title)}</h1>", "<ol>"]
-    found += [f'<li><a href="#chapter{place}">{html.escape(name)}</a>, '
-              f'{len(members)}</li>' for place, (name, members) in enumerate(chapters, 1)]
-    found.append("</ol>")
-    for place, (name, members) in enumerate(chapters, 1):
-        found.append(f'<h2 id="chapter{place}">{place}. {html.escape(name)}</h2>')
-        for node, path, heads in parts_of(statement, members):
-            if path is not None:
-                found.append(f"<h3>{html.escape(path)}</h3>")
-            for module in heads:
-                found.append(f"<pre>{html.escape(chr(10).join(module.lines))}</pre>")
-            if node.comment:
-                found.append(f"<p>{html.escape(' '.join(node.comment))}</p>")
-            exact = node.kind in ("definition", "call")
-            text = linked(node, keys) if exact else html.escape("\n".join(node.text))
-            found.append(f'<pre id="{anchor(node.key)}">{text}</pre>')
-    found += ["<h2>From libraries</h2><pre>",
-              *map(html.escape, statement.repository.told_outside(keys)), "</pre></html>"]
-    return "\n".join(found) + "\n"
 
 
 # ---- figures
@@ -303,11 +234,33 @@ def count_table(statement):
     return rows
 
 
+def below(crates, name):
+    """A crate, and all that it stands on, of the repository."""
+    seen, todo = set(), [name]
+    while todo:
+        crate = todo.pop()
+        if crate in crates and crate not in seen:
+            seen.add(crate)
+            todo += crates[crate]
+    return seen
+
+
+def crates_with(crates, calls):
+    """The crates that stand on those of the calls, and all that they stand on."""
+    homes = {key[1] for key in calls}
+    parts = {name: below(crates, name) for name in crates}
+    return set().union(*(part for part in parts.values() if homes & part))
+
+
 def misplaced(statement):
     """Rows of the definitions that stand in the other's place: those of the statement in a folder
-    of steps, and those of proofs alone outside of it."""
+    of steps, and those of proofs alone outside of it. Crates that stand beside the calls, as those
+    of a host do yet, have calls of their own, and what these promise stands where they put it."""
     rows = []
+    crates = crates_with(statement.repository.crates, statement.calls)
     for file in statement.repository.files.values():
+        if file.crate not in crates:
+            continue
         for one in file.definitions:
             inside = definition_key(one) in statement.reached
             if inside == file.module.startswith(f"{STEPS}."):
@@ -359,9 +312,9 @@ def main(words):
     elif options == ["--files"]:
         print("\n".join(file_table(statement)).rstrip())
     elif options == ["--html"]:
-        title = "The statement" if command is None else f"The statement of {command}"
+        title = "The statement of hosed" + (f" {command}" if command else "")
         with open(page, "w", encoding="utf-8") as file:
-            file.write(as_page(statement, keys, title))
+            file.write(statement_page.Page(statement, keys, title).html())
     elif not options:
         print(as_text(statement, keys), end="")
     return 1 if problems else 0

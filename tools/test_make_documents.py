@@ -1,4 +1,4 @@
-"""Tests of what makes parts of the documents: the markers, the lists, and that no part of the
+"""Tests of what makes parts of the documents: the markers, the parts, and that no part of the
 repository's documents is stale."""
 import os
 import shutil
@@ -26,76 +26,6 @@ side    the nodes `a`
 A name is short.
 ";
 """
-STATEMENT = """\
-## The statement
-
-### What commands share
-
-`crates/base/specs/Shapes.antt`: Shapes.
-
-- `Kind`: a kind of shape
-
-### go
-
-`crates/base/src/limits.rt`
-
-- `LEAST`
-- `MOST`: The most.
-
-`crates/base/src/line.rt`
-
-- `Line`: A line.
-
-`crates/base/src/source.rt`
-
-- `Source`: What is read.
-- `Source.content`: Its bytes.
-
-`crates/base/specs/Sizes.antt`: Sizes.
-
-- `IsSmall`: a size is small
-
-`crates/base/specs/Shapes.antt`: Shapes.
-
-- `HasRead`: what was read is so
-
-`crates/top/specs/Ends.antt`: What calls come to.
-
-- `GoOutcome`: what `go` comes to
-
-### stay
-
-`crates/base/src/pile.rt`
-
-- `Pile`: Seen as a number.
-
-`crates/base/specs/Shapes.antt`: Shapes.
-
-- `far`: how far one is
-- `Shape`: a record of both
-
-`crates/top/specs/Ends.antt`: What calls come to.
-
-- `StayOutcome`: what `stay` comes to
-
-### Words, and the calls
-
-`crates/base/src/source.rt`
-
-- `Source.faults`: How often it failed.
-
-`crates/top/specs/Ends.antt`: What calls come to.
-
-- `Ends`: one of the two
-
-`crates/top/src/lib.rt`
-
-- `go`: Goes.
-
-## Of proofs alone
-
-- `base`: Shapes 1, Sizes 3"""
-
 
 class Parts(unittest.TestCase):
     def test_replaced(self):
@@ -119,11 +49,10 @@ class Parts(unittest.TestCase):
                              "| Word | Meaning |\n|---|---|\n| order | an admission |\n"
                              "| side | the nodes `a` |")
 
-    def test_the_lists(self):
+    def test_the_length(self):
         with tempfile.TemporaryDirectory() as folder:
             write_tree(folder, TREE)
             made = Statement(Repository(folder), [GO], {"go": "GoOutcome", "stay": "StayOutcome"})
-            self.assertEqual(make_documents.definitions_text(made), STATEMENT)
             self.assertEqual(make_documents.length_text(made),
                              "8 of 12 definitions, 27 of 36 lines")
 
@@ -200,7 +129,7 @@ class Documents(unittest.TestCase):
 
     def test_a_part_that_is_stale_is_told_and_made_anew(self):
         """Over the documents of the repository and the small tree: each part differs, is written,
-        and differs no more; so does one once a comment has changed."""
+        and differs no more; so do those of its length once a definition has come."""
         with tempfile.TemporaryDirectory() as folder:
             write_tree(folder, {**TREE, make_documents.TEXTS: TEXTS})
             for document in make_documents.PARTS:
@@ -218,13 +147,12 @@ class Documents(unittest.TestCase):
             self.assertEqual(stale(write=True), parts)
             self.assertEqual(stale(), [])
             path = os.path.join(folder, "crates/base/specs/Shapes.antt")
-            with open(path, encoding="utf-8") as file:
-                text = file.read()
-            with open(path, "w", encoding="utf-8") as file:
-                file.write(text.replace("-- how far one is", "-- how far it is"))
-            self.assertEqual(stale(write=True), [("docs/DEFINITIONS.md", "definitions")])
-            with open(os.path.join(folder, "docs/DEFINITIONS.md"), encoding="utf-8") as file:
-                self.assertIn("- `far`: how far it is\n", file.read())
+            with open(path, "a", encoding="utf-8") as file:
+                file.write("\nabbrev pub more : ℕ\nmore = 1\n")
+            self.assertEqual(stale(write=True), [("README.md", "statement"),
+                                                 ("docs/PROOFS.md", "statement")])
+            with open(os.path.join(folder, "docs/PROOFS.md"), encoding="utf-8") as file:
+                self.assertIn("-->8 of 13 definitions, 27 of 38 lines<!--", file.read())
 
 
 if __name__ == "__main__":

@@ -258,15 +258,6 @@ class SmallTree(unittest.TestCase):
         self.assertNotIn("nothing", text)
         self.assertIn("Rattle.std.specs.Prelude: List [] map ℕ ◌∷◌ ◌≡◌ ◌≤◌\n", text)
 
-    def test_the_page(self):
-        made = small()
-        page = statement.as_page(made, made.reached, "A & B")
-        self.assertIn("<title>A &amp; B</title>", page)
-        self.assertIn('shapes.<a href="#base-Shapes-far">far</a> kind ≡ shape.far', page)
-        self.assertIn('<pre id="base-Shapes-far">', page)
-        self.assertNotIn('<a href="#base-Sizes-far">', page)
-        self.assertIn("(λ far. ⊥)", page)
-
     def test_files_and_counts(self):
         made = small()
         self.assertEqual(statement.file_table(made), [
