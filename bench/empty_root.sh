@@ -1,8 +1,9 @@
 #!/usr/bin/env bash
 # Installs a release in an empty root folder, upgrades it and goes back, by the very lines of
-# docs/OPERATING.md, "Install": those of the blocks after <!-- empty root -->. In the folder are the
+# docs/OPERATING.md, "Install": those of its blocks after <!-- run: NAME -->. In the folder are the
 # system's shell and its programs for files and users, with their libraries, and nothing else but
-# the archive and the network of demo/star.txt. Between the steps a VPN is admitted by the user whom
+# the archive and the network of demo/star.txt; nothing is served, so its systemctl does nothing
+# (bench/units.py runs all under a systemd). Between the steps a VPN is admitted by the user whom
 # the server has. Looks at the owners and rights of what was made, that each program tells the same
 # book, and that `systemd-analyze verify`, where it is there, finds nothing in the units. NEXT is
 # the archive of the next release; where there is none, the same again. It wants root, for chroot.
@@ -48,11 +49,11 @@ inside() {
         chroot "$root" /usr/bin/bash -euo pipefail -c "cd /root; $1"
 }
 
-# The block of a number, counted from 1, of those that docs/OPERATING.md has for this.
+# The block of a name of docs/OPERATING.md.
 block() {
-    awk -v wanted="$1" '/^<!-- empty root -->$/ { number++; getline; here = 1; next }
+    awk -v mark="<!-- run: $1 -->" '$0 == mark { getline; here = 1; next }
         /^```$/ { here = 0 }
-        here && number == wanted' "$home/docs/OPERATING.md"
+        here' "$home/docs/OPERATING.md"
 }
 
 expect() {
@@ -68,6 +69,8 @@ mkdir -p "$root"/{etc,root,dev,tmp,var/lib,home,bin,sbin,usr/bin}
 for name in "${programs[@]}"; do copy_program "$name"; done
 ln -s ../usr/bin/bash "$root/bin/sh"
 ln -s bin "$root/usr/sbin"
+printf '#!/bin/sh\n' >"$root/usr/bin/systemctl"
+chmod +x "$root/usr/bin/systemctl"
 mknod -m 666 "$root/dev/null" c 1 3 || : >"$root/dev/null"
 echo 'root:x:0:0:root:/root:/bin/sh' >"$root/etc/passwd"
 echo 'root:x:0:' >"$root/etc/group"
@@ -86,7 +89,7 @@ done
 least=$(readelf -V "$root/root/release/hosed" | grep -o 'GLIBC_[0-9.]*' | sort -uV | tail -n 1)
 said=$(grep -o 'the GNU C library, [0-9.]*[0-9]' "$home/docs/OPERATING.md")
 expect "the least C library" "${least#GLIBC_}" "${said##* }"
-expect "the first book" "$(inside "$(block 1)" | tail -n 1)" "live 0 cost 0"
+expect "the first book" "$(inside "$(block install)" | tail -n 1)" "live 0 cost 0"
 owner=$(inside 'id -u hosed'):$(inside 'id -g hosed')
 expect "the journal" "$(stat -c %a:%u:%g "$root$journal")" "600:$owner"
 expect "its folder" "$(stat -c %a:%u:%g "$root/var/lib/hosed")" "700:$owner"
@@ -94,18 +97,18 @@ expect "an order" "$(echo 'acme admit a:3 b:4 c:5' | cat "$home/demo/star.txt" -
     inside "$as_hosed hosed run $journal")" "admitted 1 cost 26 at 1 links 0:3 1:4 2:5"
 book=$(inside "$audit")
 expect "the version" "$(inside 'hosed --version')" "$("$root/root/release/hosed" --version)"
-inside "$(block 2)"
-inside "$(block 3)"
+inside "$(block 'audit the next')"
+inside "$(block upgrade)"
 expect "the next version" "$(inside 'hosed --version')" "$("$root/root/next/hosed" --version)"
 expect "the book after the upgrade" "$(inside "$audit" | sha256sum)" "$(sha256sum <<<"$book")"
 expect "an order after it" "$(echo 'acme admit a:1 b:1' | cat "$home/demo/star.txt" - |
     inside "$as_hosed hosed run $journal")" "admitted 2 cost 3 at 2 links 0:1 1:1"
 book=$(inside "$audit")
-inside 'ln -sfn 0.2.0 /usr/local/lib/hosed/current'
+inside "$(block 'go back')"
 expect "the version after going back" "$(inside 'hosed --version')" \
     "$("$root/root/release/hosed" --version)"
 expect "its book" "$(inside "$audit" | sha256sum)" "$(sha256sum <<<"$book")"
-inside "install -m 600 -o hosed -g hosed before-next.journal $journal"
+inside "$(block 'go back without the orders since')"
 expect "the epoch of the copy from before" "$(inside "$audit" | head -n 1)" "epoch 1"
 if command -v systemd-analyze >/dev/null; then
     for unit in "$root"/root/release/tools/systemd/*.service; do

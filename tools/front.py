@@ -31,11 +31,13 @@ from typing import List, NamedTuple, Optional
 
 import client
 import networks
+import service
+from front_figures import Figures
 from front_lines import NAME
 from front_log import Log
 from front_program import BROKEN, Ended, OUT_OF_STEP, Program
 from front_session import Desk, Door, Session
-from front_standby import Standby
+from front_standby import Patience, Standby
 
 NO_STANDBY, NO_SOCKET, NO_FILE = 22, 23, 6
 EPILOG = f"""\
@@ -55,6 +57,7 @@ status:
 BACKLOG = 4_096  # customers who wait to be let in; the system may allow fewer
 LEAVING = 5.0  # seconds for customers to take what was written, at the end
 SESSIONS = 4_096
+STARTING = 120.0  # seconds for a standby's command to log in, and to read a long journal
 
 
 class End(Exception):
@@ -106,14 +109,6 @@ def tcp_socket(port: int) -> socket.socket:
     return opened
 
 
-def notify(state: str) -> None:
-    """Tells systemd, where it asked for that."""
-    address = os.environ.get("NOTIFY_SOCKET")
-    if address:
-        with socket.socket(socket.AF_UNIX, socket.SOCK_DGRAM) as told:
-            told.sendto(state.encode(), "\0" + address[1:] if address[0] == "@" else address)
-
-
 # ---- The front.
 
 
@@ -126,9 +121,11 @@ class Front:
         self.program = Program([given.program, "run", *tariff, given.journal], topology, log)
         self.standby: Optional[Standby] = None
         if given.standby:
-            self.standby = Standby(given.standby, given.journal, given.standby_seconds,
-                                   given.standby_or_stop, log)
-        self.desk = Desk(self.program, log, self.standby)
+            patience = Patience(given.standby_seconds, given.standby_start_seconds)
+            self.standby = Standby(given.standby, given.journal, patience, given.standby_or_stop,
+                                   log)
+        self.figures = Figures(given.figures, log)
+        self.desk = Desk(self.program, log, self.figures, self.standby)
         self.servers: List[asyncio.AbstractServer] = []
         self.asked_to_end = asyncio.get_event_loop().create_future()
         """The signal that asked for it, once one did."""
@@ -141,6 +138,7 @@ class Front:
             loop.add_signal_handler(number, self._end_by, number)
         loop.add_signal_handler(signal.SIGHUP, self.log.reopen)
         loop.set_exception_handler(self._complain)
+        keeps = asyncio.ensure_future(self.figures.keep(self.desk))
         try:
             await self._begin()
             await self._wait_for_end()
@@ -150,6 +148,7 @@ class Front:
             return await self._drain(end.status)
         finally:
             self._close_doors()
+            keeps.cancel()
 
     def _end_by(self, number: int) -> None:
         if not self.asked_to_end.done():
@@ -177,7 +176,7 @@ class Front:
             await self._open_doors()
             self.log.note("ready")
             print("ready", flush=True)
-            notify("READY=1")
+            service.notify("READY=1")
 
     def _may_serve(self) -> bool:
         ends = [self.program.ended, self.asked_to_end]
@@ -215,7 +214,7 @@ class Front:
     async def _drain(self, status: int) -> int:
         """Takes no line more, and ends once what the program was given is answered and written.
         Gives the status: this one, or where it is 0 the program's."""
-        notify("STOPPING=1")
+        service.notify("STOPPING=1")
         self._close_doors()
         for session in list(self.desk.sessions):
             session.stop()
@@ -294,9 +293,12 @@ def words() -> argparse.Namespace:
     add("--sessions", type=count, default=SESSIONS, metavar="MOST",
         help=f"at each socket at once ({SESSIONS}); who comes beyond is sent away")
     add("--log", metavar="FILE", help="where the log goes (standard error)")
+    add("--figures", metavar="FILE", help="for Prometheus, replaced every few seconds")
     add("--standby", metavar="COMMAND", help="takes packets, and answers as `hosed follow`")
     add("--standby-seconds", type=client.seconds, default=10.0, metavar="SECONDS",
         help="for which a reply waits for the standby (10)")
+    add("--standby-start-seconds", type=client.seconds, default=STARTING, metavar="SECONDS",
+        help=f"in which COMMAND has to tell where the standby is ({STARTING:g})")
     add("--standby-or-stop", action="store_true", help="ends where it is gone for longer")
     given = parser.parse_args()
     if not given.socket and not given.port:

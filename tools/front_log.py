@@ -35,6 +35,8 @@ class Log:
 
     def __init__(self, path: Optional[str] = None):
         self._path, self._lost = path, 0
+        self.lost_in_all = 0
+        """Lines that could not be written."""
         self._ranks = path is None and "JOURNAL_STREAM" in os.environ
         self._file = self._opened()
 
@@ -75,6 +77,7 @@ class Log:
             self._lost = 0
         if not self._put(level, what):
             self._lost += 1
+            self.lost_in_all += 1
 
     def _put(self, level: str, what: str) -> bool:
         rank = f"<{LEVELS[level]}>" if self._ranks else ""

@@ -5,6 +5,7 @@ replies: then nothing more is read of its connection. What it keeps is bounded b
 what came, so many lines and replies, and the replies that the system did not take yet.
 """
 import asyncio
+import time
 from collections import deque
 from typing import Deque, Optional, Set
 
@@ -20,11 +21,12 @@ CLOSING = 60  # seconds in which the customer of a session that is over may take
 class Exchange:
     """A line of a session, and the reply to it once it has come."""
 
-    __slots__ = ("session", "customer", "line", "verb", "reply")
+    __slots__ = ("session", "customer", "line", "verb", "reply", "since")
 
     def __init__(self, session: "Session", customer: bytes, line: bytes, verb: Optional[bytes]):
         self.session, self.customer, self.line, self.verb = session, customer, line, verb
         self.reply: Optional[bytes] = None
+        self.since = time.monotonic()
 
     def is_order(self) -> bool:
         return self.verb in front_lines.ORDERS
@@ -40,6 +42,7 @@ class Exchange:
 
     def deliver(self, reply: bytes) -> None:
         self.reply = reply
+        self.session.desk.figures.replied(self.verb, reply, time.monotonic() - self.since)
         self.session.go_on()
 
 
@@ -62,10 +65,10 @@ class Door:
 
 class Desk:
     """What all sessions share: the program that answers, what stands between it and a customer, the
-    log, and the room that is read into."""
+    log, the figures, and the room that is read into."""
 
-    def __init__(self, program, log, standby=None):
-        self.program, self.log, self.standby = program, log, standby
+    def __init__(self, program, log, figures, standby=None):
+        self.program, self.log, self.figures, self.standby = program, log, figures, standby
         self.room = memoryview(bytearray(ROOM))
         self.sessions: Set["Session"] = set()
 

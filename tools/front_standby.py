@@ -14,6 +14,10 @@ one history, and each answer has to be the `have` of the packet that it is due f
 Where a reply was held for longer than a stated time, or the follower is gone for that long, and at
 once where it is of another history, the front goes on alone, or stops. It takes a follower up again
 once that has all that was told but for the last few orders: then replies wait for these, too.
+
+How long a customer waits says nothing of how long the command takes to begin, as where it has to
+log in and read a long journal: until it has told where it is, it has a time of its own. As long as
+the follower is missing, the log says so once a minute.
 """
 import asyncio
 import os
@@ -26,7 +30,9 @@ from live_journal import JournalFault, LiveJournal
 
 MOST_UNANSWERED = 256  # packets that were sent and have no answer yet, about
 CLOSE = 256  # orders that a follower may lack when replies wait for it again
-PAUSE = 1.0  # seconds until a command that ended is begun again
+PAUSE, MOST_PAUSE = 1.0, 16.0  # seconds until a command that ended is begun again, at first
+LOOK = 1.0  # seconds at most between two looks at how it is
+REMINDER = 60.0  # seconds between two lines of the log that tell that it is missing
 ENDING = 5.0  # seconds for it to end by itself once its input is closed
 
 
@@ -47,6 +53,28 @@ class Held(NamedTuple):
     since: float
 
 
+class Patience(NamedTuple):
+    """For how many seconds at most a reply waits for the follower, and its command begins: until it
+    has told where it is."""
+
+    reply: float
+    start: float
+
+
+class State(NamedTuple):
+    """How the standby is at a moment."""
+
+    holds: bool
+    """Whether replies wait for it."""
+    epoch: int
+    have: int
+    missing: float
+    """For how many seconds it is not followed, or no reply waits for it; 0 where it is well."""
+
+    def orders(self) -> str:
+        return f"{self.have} of {self.epoch} orders"
+
+
 async def begun(command: str) -> asyncio.subprocess.Process:
     """A run of a command for the shell, in a session of its own."""
     return await asyncio.create_subprocess_shell(
@@ -58,7 +86,8 @@ class Link:
     """One run of the operator's command, and the packets and answers on it."""
 
     def __init__(self, process: asyncio.subprocess.Process):
-        self._process, self._cut, self._is_killed = process, b"", False
+        self._process, self._cut = process, b""
+        self._why = ""  # it was killed
         self.answers: Deque[str] = deque()
 
     def send(self, packet: bytes) -> None:
@@ -69,8 +98,7 @@ class Link:
         piece = await self._process.stdout.read(65_536)
         if not piece:
             status = await self._process.wait()
-            why = ", as it did not answer" if self._is_killed else ""
-            raise NoStandby(f"the standby's command has ended with {status}{why}")
+            raise NoStandby(f"the standby's command has ended with {status}{self._why}")
         *lines, self._cut = (self._cut + piece).split(b"\n")
         self.answers += (line.decode("latin-1") for line in lines)
 
@@ -78,7 +106,7 @@ class Link:
         """The answer to a packet where nothing else is due. The command is killed where it takes
         longer."""
         self.send(packet)
-        late = asyncio.get_event_loop().call_later(seconds, self.kill)
+        late = asyncio.get_event_loop().call_later(seconds, self.kill, seconds)
         try:
             while not self.answers:
                 await self.take()
@@ -89,16 +117,17 @@ class Link:
     async def end(self) -> None:
         """Closes its input, and ends it by a signal where it does not end by that."""
         self._process.stdin.close()
-        late = asyncio.get_event_loop().call_later(ENDING, self.kill)
+        late = asyncio.get_event_loop().call_later(ENDING, self.kill, ENDING)
         try:
             await self._process.wait()
         finally:
             late.cancel()
 
-    def kill(self) -> None:
-        """Ends it with all that it began. The number of one that has ended may be another's."""
+    def kill(self, seconds: float) -> None:
+        """Ends it, which did not answer for so long, with all that it began. The number of one that
+        has ended may be another's."""
         if self._process.returncode is None:
-            self._is_killed = True
+            self._why = f", as it did not answer for {seconds:g} s"
             try:
                 os.killpg(self._process.pid, signal.SIGKILL)
             except ProcessLookupError:
@@ -106,8 +135,8 @@ class Link:
 
 
 class Standby:
-    def __init__(self, command: str, journal: str, seconds: float, stops: bool, log):
-        self._command, self._path, self._seconds = command, journal, seconds
+    def __init__(self, command: str, journal: str, patience: Patience, stops: bool, log):
+        self._command, self._path, self._patience = command, journal, patience
         self._stops, self._log = stops, log
         self._loop = asyncio.get_event_loop()
         self._held: Deque[Held] = deque()
@@ -116,7 +145,11 @@ class Standby:
         self._link: Optional[Link] = None
         self._wake, self._moved = asyncio.Event(), asyncio.Event()
         self._told, self._tasks = "", []
+        self._pause = PAUSE
+        self._is_first = True  # whether its first run has neither ended nor told where it is
         self._down_since: Optional[float] = self._loop.time()
+        self._missing_since: Optional[float] = self._down_since
+        self._reminded = self._down_since
         self._heard = self._loop.time()  # when the follower's last answer came, or none was due
         self._is_asked = False  # whether it is asked for a sign of life
         self.epoch = self.have = 0
@@ -158,6 +191,11 @@ class Standby:
             task.cancel()
         await asyncio.gather(*self._tasks, return_exceptions=True)
 
+    def state(self) -> State:
+        since = self._missing_since
+        missing = 0.0 if since is None else self._loop.time() - since
+        return State(self.holds, self.epoch, self.have, missing)
+
     # ---- Whether it keeps up.
 
     def _is_in_step(self) -> bool:
@@ -171,35 +209,58 @@ class Standby:
             held.exchange.deliver(held.reply)
         if not self.holds and self._down_since is None and self.epoch - epoch <= CLOSE:
             self.holds = True
-            has = f"{epoch} of {self.epoch} orders"
-            self._log.note(f"the standby has {has}: replies wait for it again")
+            self._log.note(f"the standby has {self.state().orders()}: replies wait for it again")
+        if self.holds and self._down_since is None:
+            self._missing_since = None
         self._wake.set()
         self._moved.set()
 
     async def _look(self) -> None:
         """Sees now and then whether it is gone."""
         while True:
-            await asyncio.sleep(self._seconds / 20)
+            await asyncio.sleep(min(self._patience.reply / 20, LOOK))
             self._look_at_link()
-            is_late = self._held and self._is_over(self._held[0].since)
-            if self.holds and (is_late or self._is_over(self._down_since)):
-                has = f"{self.have} of {self.epoch} orders"
-                self._go_alone(f"the standby is gone for {self._seconds:g} s, with {has}")
+            # Where its first run begins nobody was let in yet, who would wait.
+            least = self._patience.start if self._is_first else self._patience.reply
+            is_late = self._held and self._is_over(self._held[0].since, self._patience.reply)
+            if self.holds and (is_late or self._is_over(self._down_since, least)):
+                seconds = self._patience.reply if is_late else least
+                has = self.state().orders()
+                self._go_alone(f"the standby is gone for {seconds:g} s, with {has}")
+            self._remind()
 
     def _look_at_link(self) -> None:
         """Ends a command whose answer is due for too long, and asks one that has nothing to answer
-        whether it is there."""
-        if self._link is None:
+        whether it is there. While it begins `ask` does so."""
+        if self._link is None or self._down_since is not None:
             return
         if self._sent or self._is_asked:
-            if self._is_over(self._heard):
-                self._link.kill()
-        elif self._down_since is None and self._loop.time() - self._heard > self._seconds / 2:
+            if self._is_over(self._heard, self._patience.reply):
+                self._link.kill(self._patience.reply)
+        elif self._is_over(self._heard, self._patience.reply / 2):
             self._is_asked, self._heard = True, self._loop.time()
             self._link.send(following.ASK_EPOCH)
 
-    def _is_over(self, since: Optional[float]) -> bool:
-        return since is not None and self._loop.time() - since > self._seconds
+    def _remind(self) -> None:
+        """Logs each minute that it is missing, and why."""
+        now = self._loop.time()
+        if self.holds and self._down_since is None:
+            return
+        if self._missing_since is None:
+            self._missing_since = self._reminded = now
+        elif now - self._reminded >= REMINDER:
+            self._reminded, state = now, self.state()
+            waits = "replies wait for it" if self.holds else "replies do not wait for it"
+            self._log.warning(f"the standby is missing for {state.missing:.0f} s, with "
+                              f"{state.orders()}, and {waits}: {self._reason()}")
+
+    def _reason(self) -> str:
+        if self._down_since is None:
+            return "it takes what it has not"
+        return self._told or "its command has not told yet where it is"
+
+    def _is_over(self, since: Optional[float], seconds: float) -> bool:
+        return since is not None and self._loop.time() - since > seconds
 
     def _go_alone(self, what: str) -> None:
         """Holds nothing any more, or has the front stop."""
@@ -228,9 +289,11 @@ class Standby:
                 self._tell(str(fault))
             except Exception as fault:  # whatever it is, customers are served on
                 self._tell(repr(fault))
+            self._is_first = False
             if self._down_since is None:
                 self._down_since = self._loop.time()
-            await asyncio.sleep(PAUSE)
+            await asyncio.sleep(self._pause)
+            self._pause = min(2 * self._pause, MOST_PAUSE)
 
     def _tell(self, what: str) -> None:
         """Logs why it is not followed, once where that stays so."""
@@ -259,9 +322,9 @@ class Standby:
 
     async def _compare(self, link: Link) -> None:
         """Finds where the follower is, and that it is of this journal's history."""
-        told = await link.ask(following.ASK_EPOCH, self._seconds)
+        told = await link.ask(following.ASK_EPOCH, self._patience.start)
         epoch = following.asked_epoch(told)
-        told = await link.ask(following.ask_value(epoch), self._seconds)
+        told = await link.ask(following.ask_value(epoch), self._patience.reply)
         value = following.asked_value(told, epoch)
         if epoch > self.epoch:
             raise Stranger(f"the standby has {epoch} entries, and the journal {self.epoch}: it is "
@@ -270,7 +333,8 @@ class Standby:
             raise Stranger(f"the standby has other entries up to {epoch} than the journal: it is "
                            "of another history")
         self._log.note(f"the standby has {epoch} of {self.epoch} orders, by its chain value")
-        self._told, self._down_since = "", None
+        self._told, self._down_since, self._is_first = "", None, False
+        self._pause = PAUSE
         self._has(epoch)
 
     async def _value_at(self, epoch: int) -> Optional[bytes]:

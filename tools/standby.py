@@ -9,8 +9,10 @@ the end, the last one is told on standard output: `have N`.
 
 Where the link breaks, COMMAND ends, or the standby's disk or memory fails, that is told on standard
 error, and COMMAND is begun again after 1 second, or up to 60 where it goes on so; its answers tell
-where to go on. A COMMAND that answers nothing for 30 seconds is ended. It ends itself, with a
-sentence, where going on means nothing:
+where to go on. A COMMAND that answers nothing for 30 seconds is ended, or, before its first answer,
+where it may have to log in and to read a long journal, for those of --start-seconds. As long as no
+follower answers, that is told once a minute at least. It ends itself, with a sentence, where going
+on means nothing:
 
 - the journal is damaged, of another network, or cannot be read, at the start or for 5 seconds;
 - the standby has entries that the journal has not, or other ones, in the same way. A follower says
@@ -18,6 +20,9 @@ sentence, where going on means nothing:
 - the standby's words, topology or journal are wrong, or it takes no entry of this journal;
 - with --once, the standby has all that the journal has;
 - with --give-up, no answer came for so many seconds.
+
+To systemd it tells that it has started once the standby was compared with the journal, and then how
+the standby is.
 
 example, with a standby on the same machine:
   python3 tools/standby.py --once demo/star.txt orders.journal hosed follow demo/star.txt s.journal
@@ -31,22 +36,27 @@ status:
 import argparse
 import re
 import sys
-from time import monotonic, sleep
-from typing import List, Optional
+import threading
+from time import monotonic, sleep, time
+from typing import Iterator, List, Optional
 
+import figures
 import following
 import journals
 import networks
+import service
 from follower_link import Ended, FollowerLink
 from live_journal import JournalFault, LiveJournal
 
 LEAST_PAUSE, MOST_PAUSE = 1, 16  # milliseconds between two looks at the journal
 FULL = 262_144  # bytes that are not handed on, with which no more are read
 BEAT, PATIENCE = 10, 30  # seconds without a packet, and without an answer
+STARTING = 120  # seconds until a command's first answer
+REMINDER = 60  # seconds between two sentences, while no follower answers
 SETTLED = 5  # seconds for which a fault of the journal has to stay
 AGAIN, MOST_AGAIN = 1, 60  # seconds before a command is begun again
 UNSOUND = 3  # times in a row
-REPORT = 1  # seconds
+REPORT, EVERY = 1, 5  # seconds between two lines, and between two writings of figures
 REFUSALS = 1, 2, 5  # the statuses of a follower whose words, topology or journal are wrong
 
 
@@ -68,7 +78,7 @@ class Report:
     def __init__(self):
         self.have: Optional[int] = None
         self.told: Optional[int] = None
-        self.heard = self.said = monotonic()
+        self.heard = self.said = self.explained = monotonic()
 
     def takes(self, have: int) -> None:
         """Notes an answer: the standby has so many entries."""
@@ -79,7 +89,39 @@ class Report:
     def tell(self) -> None:
         if self.have != self.told:
             print(f"have {self.have}", flush=True)
+            service.notify(f"STATUS=the follower has {following.counted(self.have)}")
         self.told, self.said = self.have, monotonic()
+
+    def keep(self, path: str) -> None:
+        """Writes the figures to a file again and again, also while nothing answers."""
+        while True:
+            try:
+                figures.put(path, figures.exposed(self.families()))
+            except OSError as fault:
+                told(f"{path} cannot be written: {fault.strerror}")
+            sleep(EVERY)
+
+    def families(self) -> Iterator[figures.Family]:
+        if self.have is not None:
+            yield figures.gauge("hosed_standby_epoch", "Orders that the standby is known to have.",
+                                self.have)
+        yield figures.gauge("hosed_standby_heard_time_seconds",
+                            "When the standby answered last, or else this program began, in "
+                            "seconds since 1970.", f"{time() - self.silence():.3f}")
+
+    def explain(self, sentence: str) -> None:
+        """Tells how it is, to systemd too."""
+        told(sentence)
+        service.notify(f"STATUS={sentence}")
+        self.explained = monotonic()
+
+    def remind(self) -> None:
+        """Tells once a minute that no follower answers."""
+        silence = self.silence()
+        if silence >= REMINDER and monotonic() - self.explained >= REMINDER:
+            has = "nothing is known of it" if self.have is None else \
+                f"it had {following.counted(self.have)}"
+            self.explain(f"the follower is missing for {silence:.0f} s; {has}")
 
     def silence(self) -> float:
         return monotonic() - self.heard
@@ -88,8 +130,10 @@ class Report:
 class Session:
     """One run of the command, over a journal of which nothing was read yet."""
 
-    def __init__(self, journal: LiveJournal, link: FollowerLink, report: Report):
+    def __init__(self, journal: LiveJournal, link: FollowerLink, report: Report,
+                 starting: float = STARTING):
         self.journal, self.link, self.report = journal, link, report
+        self.patience = starting
         self.have = 0
         self.asked = 0  # questions where it is that were not answered yet
         self.waiting = 0  # packets, these among them
@@ -148,10 +192,12 @@ class Session:
         """The lines that came after a while. Raises `Trouble` where they are late."""
         lines = self.link.turn(pause)
         if lines:
-            self.since = monotonic()
+            self.since, self.patience = monotonic(), PATIENCE
             self.waiting -= len(lines)
-        elif self.waiting and monotonic() - self.since >= PATIENCE:
-            raise Trouble(f"it answers nothing for {PATIENCE} seconds")
+        elif self.waiting and monotonic() - self.since >= self.patience:
+            raise Trouble(f"it answers nothing for {self.patience} seconds")
+        else:
+            self.report.remind()
         return lines
 
     def take(self, line: str) -> None:
@@ -189,6 +235,9 @@ class Standby:
     def __init__(self, given: argparse.Namespace, digest: bytes):
         self.given, self.digest = given, digest
         self.report = Report()
+        if given.figures:
+            threading.Thread(
+                target=self.report.keep, args=(given.figures,), daemon=True).start()
         self.again = AGAIN
         self.refused = 0
         self.fault_since: Optional[float] = None
@@ -229,9 +278,11 @@ class Standby:
         """Follows in one session."""
         with LiveJournal(self.given.journal, self.digest, self.given.synced) as journal:
             with begun(self.given.command) as link:
-                session = Session(journal, link, self.report)
+                session = Session(journal, link, self.report, self.given.start_seconds)
                 session.begin()
-                told(f"the follower has {following.counted(session.have)}, as the journal begins")
+                self.report.explain(
+                    f"the follower has {following.counted(session.have)}, as the journal begins")
+                service.notify("READY=1")
                 have, since = session.have, monotonic()
                 try:
                     return session.follow(self.given.once)
@@ -241,7 +292,7 @@ class Standby:
                         self.again, self.refused, self.fault_since = AGAIN, 0, None
 
     def pause(self, why: str) -> None:
-        told(f"{why}; again in {self.again} s")
+        self.report.explain(f"{why}; again in {self.again} s")
         sleep(self.again)
         self.again = min(2 * self.again, MOST_AGAIN)
 
@@ -277,6 +328,10 @@ def main() -> None:
     words.add_argument("--once", action="store_true", help="end where the standby has all")
     words.add_argument("--give-up", metavar="SECONDS", type=seconds_word,
                        help="end where no answer came for so long")
+    words.add_argument("--figures", metavar="FILE",
+                       help="for Prometheus, replaced every few seconds")
+    words.add_argument("--start-seconds", metavar="SECONDS", type=seconds_word, default=STARTING,
+                       help=f"in which COMMAND has to tell where the standby is ({STARTING})")
     words.add_argument("--synced", action="store_true",
                        help="send what is on the disk: it is synced here, too")
     given = networks.add_tariff(words).parse_args()

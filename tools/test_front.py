@@ -2,6 +2,8 @@
 import argparse
 import asyncio
 import os
+import re
+import shlex
 import shutil
 import socket
 import struct
@@ -15,6 +17,8 @@ import front_lines
 import front_log
 import front_program
 import front_session
+import front_standby
+import service
 from fake_run import End, FakeBook, StalledRun
 from front_lines import LONG, LineCutter, NoGreeting, NoReply
 from runs import TOOLS, within
@@ -186,6 +190,9 @@ class FakeStandby:
             exchange.deliver(reply)
         self.moved.set()
 
+    def state(self):
+        return front_standby.State(True, self.have + len(self.held), self.have, 0.0)
+
     async def settle(self):
         while self.held and not self.lost.done():
             self.moved.clear()
@@ -205,10 +212,11 @@ class Trial:
         self.given = argparse.Namespace(**{
             "program": "hosed", "tariff": None, "journal": self.name("journal"), "port": None,
             "socket": [front.Place(self.path, None)], "mode": 0o600, "sessions": 100,
-            "standby": None, "standby_seconds": 1.0, "standby_or_stop": False, **options,
+            "standby": None, "standby_seconds": 1.0, "standby_start_seconds": 1.0,
+            "standby_or_stop": False, "figures": None, **options,
         })
         self.patches = [mock.patch("front_program.started", self.book.start),
-                        mock.patch("builtins.print"), mock.patch("front.notify")]
+                        mock.patch("builtins.print"), mock.patch("service.notify")]
 
     def name(self, name):
         return os.path.join(self.folder.name, name)
@@ -532,7 +540,7 @@ class Sockets(unittest.TestCase):
         with socket.socket(socket.AF_UNIX, socket.SOCK_DGRAM) as told:
             told.bind(self.path)
             with mock.patch.dict("os.environ", {"NOTIFY_SOCKET": self.path}):
-                front.notify("READY=1")
+                service.notify("READY=1")
             self.assertEqual(told.recv(100), b"READY=1")
 
 
@@ -608,21 +616,48 @@ class Words(unittest.TestCase):
             with open(log, encoding="ascii") as file:
                 self.assertIn("error /nowhere/hosed cannot be started", file.readline())
 
+    def given_by_unit(self, *more):
+        """What the unit for systemd gives it, with files beside the unit, and the unit's text."""
+        texts = []
+        for name in ("hosed-front.service", *more):
+            with open(os.path.join(TOOLS, "systemd", name), encoding="ascii") as file:
+                texts.append(file.read().replace("\\\n", ""))
+        set_there = {}
+        for words in re.findall("(?m)^Environment=(.*)", "\n".join(texts)):
+            set_there.update(word.split("=", 1) for word in shlex.split(words))
+        call = re.search("(?m)^ExecStart=(.*)", texts[0])[1].split()
+        self.assertTrue(os.path.exists(os.path.join(TOOLS, os.path.basename(call[1]))))
+        words = [one for word in call[1:]
+                 for one in (shlex.split(set_there[word[1:]]) if word[0] == "$" else [word])]
+        with mock.patch("sys.argv", words):
+            return front.words(), texts[0]
+
     def test_the_unit(self):
         """The unit for systemd calls it by words that it allows."""
         unit = os.path.join(TOOLS, "systemd", "hosed-front.service")
-        with open(unit, encoding="ascii") as file:
-            text = file.read().replace("\\\n", "")
-        call = next(line for line in text.splitlines() if line.startswith("ExecStart=")).split()
-        self.assertTrue(os.path.exists(os.path.join(TOOLS, os.path.basename(call[1]))))
-        with mock.patch("sys.argv", call[1:]):
-            given = front.words()
+        given, text = self.given_by_unit()
         self.assertEqual(given.socket, [front.Place("/run/hosed/front.socket", None)])
+        self.assertEqual((given.port, given.log, given.standby), (7000, None, None))
         for path in (given.topology, given.journal):
             self.assertIn(f"AssertPathExists={path}\n", text)
         if shutil.which("systemd-analyze"):
             done = subprocess.run(["systemd-analyze", "verify", unit], stderr=subprocess.PIPE)
             self.assertEqual((done.returncode, done.stderr), (0, b""))
+
+    def test_the_files_beside_the_unit(self):
+        """All of them at once are words that it allows, too."""
+        given, _ = self.given_by_unit("hosed-customers.conf", "hosed-log.conf",
+                                      "hosed-follower.conf")
+        self.assertEqual(given.socket, [
+            front.Place("/run/hosed/front.socket", None),
+            front.Place("/run/hosed/acme/socket", b"acme"),
+            front.Place("/run/hosed/beta/socket", b"beta")])
+        self.assertEqual((given.port, given.mode), (None, 0o660))
+        self.assertEqual(given.log, "/var/log/hosed/front.log")
+        self.assertEqual(given.standby.split()[0], "/usr/bin/ssh")
+        self.assertEqual(given.standby.split()[-5:], [
+            "standby.example", "hosed", "follow", "/etc/hosed/network.txt",
+            "/var/lib/hosed/orders.journal"])
 
     def test_topologies(self):
         """One in JSON is given to the program as lines."""

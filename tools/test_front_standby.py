@@ -8,7 +8,7 @@ from unittest import mock
 
 import front_log
 import front_standby
-from front_standby import Standby
+from front_standby import Patience, Standby
 
 DIGEST, HEAD = sha256(b"a network").digest(), 38
 SECONDS = 100  # after which a test hangs
@@ -44,6 +44,7 @@ class Follower:
 
     def __init__(self):
         self.bodies, self.runs, self.silent = [], 0, False
+        self.starting = 0.0  # seconds until a run reads its first packet
         self.ends_at = self.says = self.broken = None
         self.packets = 0
 
@@ -58,7 +59,7 @@ class Follower:
         if self.broken:
             raise OSError(2, self.broken)
         self.runs += 1
-        return Run(self)
+        return Run(self, self.starting)
 
     def answer(self, epoch, before, spelled):
         own = len(self.bodies)
@@ -77,14 +78,21 @@ class Follower:
 class Run:
     """A process as the front sees it."""
 
-    def __init__(self, follower):
+    def __init__(self, follower, starting):
         self.follower, self.held, self.pid, self.returncode = follower, b"", 2 ** 22 + 1, None
         self.stdin = self
         self.stdout, self.ended = asyncio.StreamReader(), asyncio.Event()
+        self.starts = bool(starting)
+        if starting:
+            asyncio.get_event_loop().call_later(starting, self.start)
+
+    def start(self):
+        self.starts = False
+        self.write(b"")
 
     def write(self, packets):
         self.held += packets
-        while self.held and not self.ended.is_set():
+        while not self.starts and self.held and not self.ended.is_set():
             end = 38 + int.from_bytes(self.held[:2], "big")
             packet, self.held = self.held[:end], self.held[end:]
             self.take(int.from_bytes(packet[2:6], "big"), packet[6:38], packet[38:])
@@ -118,13 +126,14 @@ class Exchange:
 
 
 class Trial:
-    def __init__(self, entries=(), has=(), seconds=LONG, stops=False):
+    def __init__(self, entries=(), has=(), seconds=LONG, stops=False, start=None, starting=0.0):
         self.folder = tempfile.TemporaryDirectory()
         self.journal = Journal(os.path.join(self.folder.name, "journal"))
         self.journal.add(*entries)
         self.follower, self.told = Follower(), []
         self.follower.bodies = list(map(body, has))
-        self.words = (seconds, stops)
+        self.follower.starting = starting
+        self.words = (Patience(seconds, start or seconds), stops)
         self.patches = [mock.patch("front_standby.begun", self.follower.begin),
                         mock.patch("front_standby.PAUSE", 0.01),
                         mock.patch("os.killpg", lambda *_: self.standby._link._process.close())]
@@ -328,6 +337,59 @@ class Gone(unittest.TestCase):
             self.assertTrue(trial.standby.holds)
             trial.order(999)
             self.assertEqual(len(trial.told), front_standby.CLOSE + 1)
+
+    @run
+    async def test_a_command_that_begins_slowly(self):
+        """Its start has a time of its own, at the front's beginning and after a break, where what
+        was sent before has no answer; nobody waits for it for longer than for any reply."""
+        for stops in (False, True):
+            async with Trial((1, 2), (1,), SHORT, stops, LONG, starting=4 * SHORT) as trial:
+                self.assertEqual((trial.standby.holds, trial.standby.lost.done()), (True, False))
+                self.assertEqual(trial.follower.bodies, list(map(body, (1, 2))))
+        async with Trial((1,), seconds=SHORT, start=LONG) as trial:
+            trial.follower.starting, trial.follower.ends_at = 4 * SHORT, 2
+            trial.order(2)
+            await trial.until(lambda: trial.follower.runs > 1)
+            trial.follower.ends_at = None
+            await trial.until(lambda: not trial.standby.holds)
+            self.assertEqual(trial.told, [2])
+            await trial.until(lambda: trial.standby.holds and len(trial.follower.bodies) == 2)
+            self.assertEqual(trial.follower.runs, 2)
+
+    @run
+    async def test_one_that_does_not_begin(self):
+        """It is ended after the time of a start, and begun again."""
+        async with Trial((1,), seconds=SHORT, start=2 * SHORT, starting=LONG) as trial:
+            self.assertFalse(trial.standby.holds)
+            await trial.until(lambda: trial.follower.runs > 1)
+        # Which time is over first is open: that of its first start, or after its end that of a reply.
+        self.assertRegex("\n".join(trial.lines), "error the standby is gone for 0.0?[15] s, with 0 "
+                         "of 1 orders: replies do not wait for it")
+        self.assertIn("warning the standby's command has ended with 0, as it did not answer for "
+                      "0.1 s", trial.lines)
+
+    @run
+    async def test_a_line_a_minute(self):
+        """As long as it is missing the log says so, and why; and then no more."""
+        with mock.patch("front_standby.REMINDER", SHORT):
+            async with Trial((1,), seconds=SHORT) as trial:
+                self.assertEqual(trial.standby.state(), front_standby.State(True, 1, 1, 0.0))
+                trial.follower.broken = "no such command"
+                trial.standby._link._process.close()
+                trial.order(2)
+                await trial.until(lambda: not trial.standby.holds)
+                await asyncio.sleep(5 * SHORT)
+                self.assertGreater(trial.standby.state().missing, 4 * SHORT)
+                trial.follower.broken = None
+                await trial.until(lambda: trial.standby.holds)
+                await trial.until(lambda: not trial.standby.state().missing)
+                await asyncio.sleep(3 * SHORT)
+        told = [line for line in trial.lines if line.startswith("warning the standby is missing")]
+        self.assertGreaterEqual(len(told), 3)
+        for line in told:
+            self.assertRegex(line, "missing for 0 s, with 1 of 2 orders, and replies do not wait "
+                             r"for it: \[Errno 2\] no such command")
+        self.assertIn("replies wait for it again", trial.lines[-1])
 
     @run
     async def test_stops(self):

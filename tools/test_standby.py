@@ -179,7 +179,7 @@ class Troubles(Trials):
         link = mock.Mock(turn=mock.Mock(return_value=[]))
         with mock.patch("standby.monotonic") as clock:
             clock.return_value = 100
-            session = standby.Session(None, link, None)
+            session = standby.Session(None, link, mock.Mock(), 30)
             clock.return_value = 200
             self.assertEqual(session.turn(1), [])  # nothing was asked
             session.send([b"packet"])
@@ -193,6 +193,76 @@ class Troubles(Trials):
             self.assertEqual(session.turn(1), ["have 1"])
             clock.return_value, link.turn.return_value = 259, []
             self.assertEqual(session.turn(1), [])
+
+    def test_one_that_begins_slowly(self):
+        """Until its first answer a command has a time of its own."""
+        link = mock.Mock(turn=mock.Mock(return_value=[]))
+        with mock.patch("standby.monotonic", return_value=0) as clock:
+            session = standby.Session(None, link, mock.Mock(), 200)
+            session.send([b"packet"])
+            clock.return_value = 199
+            self.assertEqual(session.turn(1), [])
+            link.turn.return_value = ["want 1"]
+            self.assertEqual(session.turn(1), ["want 1"])
+            session.send([b"packet"])
+            link.turn.return_value, clock.return_value = [], 199 + standby.PATIENCE
+            with self.assertRaisesRegex(standby.Trouble, "nothing for 30 seconds"):
+                session.turn(1)
+
+    def test_a_sentence_each_minute(self):
+        """As long as nothing answers, and nothing else was said of it."""
+        with mock.patch("standby.monotonic", return_value=0) as clock, \
+                mock.patch("standby.told") as told, mock.patch("service.notify") as notify, \
+                mock.patch("builtins.print"):
+            report = standby.Report()
+            for second in range(0, 200):
+                clock.return_value = second
+                report.remind()
+            report.takes(7)
+            for second in range(200, 290):
+                clock.return_value = second
+                report.remind()
+                if second == 230:
+                    report.explain("the follower is gone")
+        sentences = [call.args[0] for call in told.call_args_list]
+        self.assertEqual(sentences, [
+            *(f"the follower is missing for {seconds} s; nothing is known of it"
+              for seconds in (60, 120, 180)), "the follower is gone"])
+        statuses = [f"STATUS={sentence}" for sentence in sentences]
+        statuses.insert(3, "STATUS=the follower has 7 entries")
+        self.assertEqual([call.args[0] for call in notify.call_args_list], statuses)
+
+    def test_figures(self):
+        """They are written while nothing answers, too."""
+        def samples():
+            return [f"{family.name} {family.samples[0].value}" for family in report.families()]
+
+        with mock.patch("standby.time", return_value=1_000.0), mock.patch("builtins.print"), \
+                mock.patch("standby.monotonic", return_value=0) as clock:
+            report = standby.Report()
+            clock.return_value = 2
+            self.assertEqual(samples(), ["hosed_standby_heard_time_seconds 998.000"])
+            report.takes(7)
+            clock.return_value = 5
+            self.assertEqual(samples(), ["hosed_standby_epoch 7",
+                                         "hosed_standby_heard_time_seconds 997.000"])
+
+    def test_figures_in_a_file(self):
+        report, path = standby.Report(), os.path.join(self.folder, "standby.prom")
+        with mock.patch("standby.sleep", side_effect=InterruptedError) as sleep, \
+                self.assertRaises(InterruptedError):
+            report.keep(path)
+        sleep.assert_called_once_with(standby.EVERY)
+        self.assertIn(b"\nhosed_standby_heard_time_seconds ", self.held(path))
+
+    def test_systemd_is_told_once_it_was_compared(self):
+        with mock.patch("service.notify") as notify:
+            self.kept(CHAINED, EMPTY, fault=("0", "", "1"))
+        told = [call.args[0] for call in notify.call_args_list]
+        self.assertEqual(told, [
+            "STATUS=the follower is gone: it ended with status 1; again in 1 s",
+            "STATUS=the follower has 0 entries, as the journal begins", "READY=1",
+            "STATUS=the follower has 2 entries"])
 
     def test_pauses_grow(self):
         status, _, told = self.kept(CHAINED, EMPTY, fault=("0", "", "1"), lasts=8)
