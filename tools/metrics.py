@@ -4,16 +4,21 @@
 JOURNAL is read without a lock and without a copy, up to its last entry, as by tools/tail.py: the
 epoch, how many VPNs are live, of all and by customer, load, capacity and state of each link by its
 ends, orders by kind, what is reserved costs, the bytes of the file, and when it was written last.
-They are written once
+Besides, as seen from beside the server: whether a program has the journal open (`hosed_up`) and the
+room of its file system; with --ask whether it answers a question, and in which time, by a session
+of the customer `metrics` that stays open; with --figures what a front, or tools/standby.py, writes
+into a file by its own --figures: sessions, replies, times, the standby. A file older than 30
+seconds is left out, and `hosed_figures_age_seconds` tells its age. They are written once
 
 - as a text for Prometheus, on standard output, or to the file of --write, which is replaced as a
-  whole, as the textfile collector of node_exporter wants it; with --every again and again;
+  whole, as the textfile collector of node_exporter wants it; with --every again and again, and
+  where the journal cannot be read, `hosed_journal_readable 0` alone, until it can;
 - as JSON with --json, or as the page of tools/page.py with --page;
 
 or, with --http PORT, answered at 127.0.0.1 as long as the program runs: `/` is the page, which the
 browser asks for anew every 10 seconds, /metrics the text, and /json the JSON. Where the journal
-cannot be read at that time the status is 503, and the answer says why. Where another journal of the
-same network is put at JOURNAL, that one is told from then on.
+cannot be read at that time, or is gone, the status is 503, and the answer says why. Where another
+journal of the same network is put at JOURNAL, that one is told from then on.
 
 examples:
   python3 tools/metrics.py demo/star.txt orders.journal
@@ -30,13 +35,18 @@ import os
 import re
 import sys
 import time
-from typing import Dict, Iterator, List, Optional, Tuple
+from typing import Iterator, List, Optional
 
+import client
+import figures
 import journals
 import networks
 import page
+import server_state
 from books import Book
+from figures import Family, Sample, gauge
 from live_journal import LiveJournal, Unreadable
+from picture import Picture
 from metrics_server import serve
 
 
@@ -48,6 +58,9 @@ class Watched:
 
     def __init__(self, path: str, topology: networks.Topology):
         self.path, self.topology = path, topology
+        self.picture: Optional[Picture] = None  # which takes seconds, and stays
+        self.question: Optional[server_state.Question] = None
+        self.files = server_state.Figures([])
         self.digest = journals.digest_of(topology)
         self.journal: Optional[LiveJournal] = LiveJournal(path, self.digest)
         self.book = Book(topology)
@@ -61,6 +74,12 @@ class Watched:
             self._read()
         if self.journal.value is None:
             raise Unreadable(f"{self.path} is not begun")
+        try:
+            os.stat(self.path)
+        except OSError as fault:
+            raise Unreadable(f"{self.path} is gone: {fault.strerror}") from None
+        if self.question:
+            self.question.ask()
 
     def _read(self) -> None:
         """Reads up to the last entry. After a fault the next call begins anew."""
@@ -84,47 +103,47 @@ class Watched:
 
 # ---- Figures.
 
-Sample = Tuple[Dict[str, str], object]
+def families(watched: Watched, now: float) -> Iterator[Family]:
+    """Each figure of the journal, and of the server as it is seen from beside."""
+    yield from of_book(watched.book)
+    written = watched.journal.written()
+    yield gauge("hosed_journal_readable", "1 where the journal was read, else 0.", 1)
+    yield gauge("hosed_journal_bytes", "Bytes of the journal.", watched.journal.size())
+    yield gauge("hosed_journal_free_bytes", "Bytes that its file system has left.",
+                server_state.free_bytes(watched.path))
+    yield gauge("hosed_last_entry_time_seconds",
+                "When the journal was written last, in seconds since 1970.", f"{written:.3f}")
+    yield gauge("hosed_last_entry_age_seconds", "How long ago that was when this was written.",
+                f"{max(now - written, 0):.3f}")
+    held = server_state.is_held(watched.path)
+    if held is not None:
+        yield gauge("hosed_up", "1 where a program has the journal open, as a server, else 0.",
+                    int(held))
+    if watched.question:
+        yield from watched.question.families()
+    yield from watched.files.families()
 
 
-def families(watched: Watched, now: float) -> Iterator[Tuple[str, str, str, List[Sample]]]:
-    """Each figure: its name, its type, what it is, and its samples with their labels."""
-    book, written = watched.book, watched.journal.written()
+def of_book(book: Book) -> Iterator[Family]:
     links = [({"link": str(link.number), "a": link.a, "b": link.b}, link) for link in book.links()]
-    yield "hosed_epoch", "gauge", "Orders in the journal.", [({}, book.epoch)]
-    yield ("hosed_orders_total", "counter", "Orders in the journal, by kind.",
-           [({"kind": kind}, count) for kind, count in book.orders.items()])
-    yield "hosed_live_vpns", "gauge", "VPNs that are live.", [({}, len(book.live))]
-    yield ("hosed_customer_vpns", "gauge", "VPNs that are live, of a customer who has one.",
-           [({"customer": name}, count) for name, count in book.customers().items()])
-    yield "hosed_cost", "gauge", "What all that is reserved costs.", [({}, book.cost())]
-    yield ("hosed_link_load", "gauge", "What is reserved on a link.",
-           [(labels, link.load) for labels, link in links])
-    yield ("hosed_link_capacity", "gauge", "What a link can carry.",
-           [(labels, link.capacity) for labels, link in links])
-    yield ("hosed_link_out", "gauge", "1 where a link is out of service, else 0.",
-           [(labels, int(link.out)) for labels, link in links])
-    yield "hosed_journal_bytes", "gauge", "Bytes of the journal.", [({}, watched.journal.size())]
-    yield ("hosed_last_entry_time_seconds", "gauge",
-           "When the journal was written last, in seconds since 1970.", [({}, f"{written:.3f}")])
-    yield ("hosed_last_entry_age_seconds", "gauge",
-           "How long ago that was when this was written.", [({}, f"{max(now - written, 0):.3f}")])
-
-
-def escaped(value: str) -> str:
-    """The value of a label."""
-    return value.replace("\\", "\\\\").replace('"', '\\"').replace("\n", "\\n")
+    yield gauge("hosed_epoch", "Orders in the journal.", book.epoch)
+    yield Family("hosed_orders_total", "counter", "Orders in the journal, by kind.",
+                 [Sample({"kind": kind}, count) for kind, count in book.orders.items()])
+    yield gauge("hosed_live_vpns", "VPNs that are live.", len(book.live))
+    yield Family("hosed_customer_vpns", "gauge", "VPNs that are live, of a customer who has one.",
+                 [Sample({"customer": name}, count) for name, count in book.customers().items()])
+    yield gauge("hosed_cost", "What all that is reserved costs.", book.cost())
+    for name, what, value in (
+            ("load", "What is reserved on a link.", lambda link: link.load),
+            ("capacity", "What a link can carry.", lambda link: link.capacity),
+            ("out", "1 where a link is out of service, else 0.", lambda link: int(link.out))):
+        yield Family(f"hosed_link_{name}", "gauge", what,
+                     [Sample(labels, value(link)) for labels, link in links])
 
 
 def exposed(watched: Watched) -> str:
     """The figures in the text format of Prometheus."""
-    lines = []
-    for name, kind, what, samples in families(watched, time.time()):
-        lines += [f"# HELP {name} {what}", f"# TYPE {name} {kind}"]
-        for labels, value in samples:
-            told = ",".join(f'{label}="{escaped(word)}"' for label, word in labels.items())
-            lines.append(f"{name}{{{told}}} {value}" if told else f"{name} {value}")
-    return "\n".join(lines) + "\n"
+    return figures.exposed(families(watched, time.time())) + watched.files.text()
 
 
 def as_json(watched: Watched) -> str:
@@ -134,6 +153,8 @@ def as_json(watched: Watched) -> str:
         "epoch": book.epoch, "chain": watched.journal.value.hex(),
         "orders": dict(book.orders), "live_vpns": len(book.live), "cost": book.cost(),
         "customers": book.customers(), "journal_bytes": watched.journal.size(),
+        "journal_free_bytes": server_state.free_bytes(watched.path),
+        "up": server_state.is_held(watched.path),
         "last_entry_time_seconds": round(written, 3),
         "last_entry_age_seconds": round(max(time.time() - written, 0), 3),
         "links": [{"link": link.number, "a": link.a, "b": link.b, "capacity": link.capacity,
@@ -145,7 +166,8 @@ def as_json(watched: Watched) -> str:
 def as_page(watched: Watched) -> str:
     book = watched.book
     title = os.path.basename(watched.path)
-    return page.page(title, book.topology, book.audit(), frozenset(book.out))
+    watched.picture = watched.picture or Picture(watched.topology)
+    return page.page(title, book.topology, book.audit(), frozenset(book.out), watched.picture)
 
 
 def renewed(text: str) -> str:
@@ -161,9 +183,7 @@ def renewed(text: str) -> str:
 def put(path: str, text: str) -> None:
     """Replaces a file as a whole."""
     try:
-        with open(path + ".new", "w", encoding="utf-8") as file:
-            file.write(text)
-        os.replace(path + ".new", path)
+        figures.put(path, text)
     except OSError as fault:
         raise networks.WrongInput(f"{path} cannot be written: {fault.strerror}") from None
 
@@ -175,6 +195,24 @@ def write(watched: Watched, given: argparse.Namespace) -> None:
         put(given.write, made(watched))
     else:
         print(made(watched), end="", flush=True)
+
+
+def write_on(watched: Watched, given: argparse.Namespace) -> None:
+    """Writes again and again. Where the journal cannot be read nothing else is told, so that no
+    figure stays as it was."""
+    said = ""
+    while True:
+        time.sleep(given.every)
+        try:
+            write(watched, given)
+            said = ""
+        except networks.WrongInput as fault:
+            if str(fault) != said:
+                networks.told(str(fault))
+            said = str(fault)
+            if given.write and not given.json and not given.page:
+                unread = gauge("hosed_journal_readable", "1 where the journal was read, else 0.", 0)
+                put(given.write, figures.exposed([unread]))
 
 
 def number_word(least: int, most: int):
@@ -196,6 +234,12 @@ def words_of() -> argparse.ArgumentParser:
     forms.add_argument("--http", metavar="PORT", type=number_word(1, 65_535),
                        help="answer at this port of 127.0.0.1")
     words.add_argument("--write", metavar="FILE", help="write to a file, which is replaced")
+    words.add_argument("--ask", metavar="PORT", type=client.place,
+                       help="a port or a Unix socket of the server, which is asked each time")
+    words.add_argument("--as", metavar="NAME", dest="customer", default=server_state.NAME,
+                       help=f"the customer who asks there ({server_state.NAME})")
+    words.add_argument("--figures", metavar="FILE", action="append", default=[],
+                       help="figures of a front or a standby, which are told, too; may come again")
     words.add_argument("--every", metavar="SECONDS", type=number_word(1, 86_400),
                        help="write again and again, with a pause of so long")
     return networks.add_tariff(words)
@@ -207,15 +251,17 @@ def main() -> None:
     if given.http and (given.write or given.every):
         words.error("--http takes neither --write nor --every")
     watched = Watched(given.journal, networks.load_topology(given.topology, given.tariff))
+    watched.files = server_state.Figures(given.figures)
+    if given.ask:
+        watched.question = server_state.Question(given.ask, given.customer)
     if given.http:
         serve(given.http, watched.update, {
             "/": ("text/html; charset=us-ascii", lambda: renewed(as_page(watched))),
             "/metrics": ("text/plain; version=0.0.4; charset=utf-8", lambda: exposed(watched)),
             "/json": ("application/json", lambda: as_json(watched))})
     write(watched, given)
-    while given.every:
-        time.sleep(given.every)
-        write(watched, given)
+    if given.every:
+        write_on(watched, given)
 
 
 if __name__ == "__main__":

@@ -1,4 +1,5 @@
-"""Answers GET at a port of 127.0.0.1 by texts that are made at that time."""
+"""Answers GET and HEAD at a port of 127.0.0.1 by texts that are made at that time."""
+import sys
 import threading
 from http.server import BaseHTTPRequestHandler, ThreadingHTTPServer
 from typing import Callable, Dict, Tuple
@@ -21,6 +22,11 @@ class Server(ThreadingHTTPServer):
         self.update, self.pages, self.lock = update, pages, threading.Lock()
         super().__init__(("127.0.0.1", port), Handler)
 
+    def handle_error(self, request, client_address) -> None:
+        """Somebody who does not wait for the answer is no fault of it."""
+        if not isinstance(sys.exc_info()[1], ConnectionError):
+            super().handle_error(request, client_address)
+
     def answer(self, path: str) -> Tuple[int, str, str]:
         """The status, the type and the text."""
         if path not in self.pages:
@@ -39,6 +45,13 @@ class Handler(BaseHTTPRequestHandler):
     server_version = "hosed-metrics"
 
     def do_GET(self) -> None:
+        self.wfile.write(self.head())
+
+    def do_HEAD(self) -> None:
+        self.head()
+
+    def head(self) -> bytes:
+        """Sends the head of the answer, and gives what follows it."""
         host = self.headers.get("Host", HOSTS[0]).rsplit(":", 1)[0]
         if host not in HOSTS:  # another name that leads here, as from a page elsewhere
             status, kind, text = 403, "text/plain", f"this is {HOSTS[0]}\n"
@@ -50,7 +63,7 @@ class Handler(BaseHTTPRequestHandler):
         self.send_header("Content-Length", str(len(content)))
         self.send_header("Cache-Control", "no-store")
         self.end_headers()
-        self.wfile.write(content)
+        return content
 
     def log_message(self, *_) -> None:
         pass

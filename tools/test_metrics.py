@@ -1,6 +1,7 @@
 """Tests of books.py, metrics.py and metrics_server.py: a journal of version 1 whose bytes are put
 together by hand, and the figures that it makes, worked out by hand."""
 import http.client
+import io
 import json
 import os
 import tempfile
@@ -66,15 +67,28 @@ hosed_link_capacity{link="2",a="c",b="h"} 10
 hosed_link_out{link="0",a="a",b="h"} 0
 hosed_link_out{link="1",a="b",b="h"} 0
 hosed_link_out{link="2",a="c",b="h"} 1
+# HELP hosed_journal_readable 1 where the journal was read, else 0.
+# TYPE hosed_journal_readable gauge
+hosed_journal_readable 1
 # HELP hosed_journal_bytes Bytes of the journal.
 # TYPE hosed_journal_bytes gauge
 hosed_journal_bytes 150
+# HELP hosed_journal_free_bytes Bytes that its file system has left.
+# TYPE hosed_journal_free_bytes gauge
+hosed_journal_free_bytes 8192
 # HELP hosed_last_entry_time_seconds When the journal was written last, in seconds since 1970.
 # TYPE hosed_last_entry_time_seconds gauge
 hosed_last_entry_time_seconds 1000.500
 # HELP hosed_last_entry_age_seconds How long ago that was when this was written.
 # TYPE hosed_last_entry_age_seconds gauge
 hosed_last_entry_age_seconds 1.500
+# HELP hosed_up 1 where a program has the journal open, as a server, else 0.
+# TYPE hosed_up gauge
+hosed_up 1
+"""
+UNREADABLE = """# HELP hosed_journal_readable 1 where the journal was read, else 0.
+# TYPE hosed_journal_readable gauge
+hosed_journal_readable 0
 """
 
 
@@ -89,6 +103,10 @@ class Journals(unittest.TestCase):
         folder = tempfile.TemporaryDirectory()
         self.addCleanup(folder.cleanup)
         self.folder, self.path = folder.name, os.path.join(folder.name, "journal")
+        for name, value in (("free_bytes", 8_192), ("is_held", True)):
+            patch = mock.patch(f"server_state.{name}", return_value=value)
+            patch.start()
+            self.addCleanup(patch.stop)
 
     def put(self, held, path=None):
         with open(path or self.path, "wb") as file:
@@ -139,9 +157,6 @@ class Figures(Journals):
         with mock.patch("time.time", return_value=1002):
             self.assertEqual(metrics.exposed(watched), EXPOSED)
 
-    def test_labels_are_escaped(self):
-        self.assertEqual(metrics.escaped('a\\b"c\nd'), 'a\\\\b\\"c\\nd')
-
     def test_as_json(self):
         watched = self.watched(SEALED)
         watched.update()
@@ -152,8 +167,8 @@ class Figures(Journals):
         self.assertEqual(told, {
             "epoch": 2, "chain": watched.journal.value.hex(), "live_vpns": 0, "cost": 0,
             "orders": {"admit": 1, "release": 1, "down": 0, "up": 0}, "customers": {},
-            "journal_bytes": 174, "last_entry_time_seconds": 1000.5,
-            "last_entry_age_seconds": 1.5, "links": links})
+            "journal_bytes": 174, "journal_free_bytes": 8_192, "up": True,
+            "last_entry_time_seconds": 1000.5, "last_entry_age_seconds": 1.5, "links": links})
 
     def test_as_a_page(self):
         watched = self.watched(journal_of(BODIES))
@@ -224,6 +239,38 @@ class Program(Journals):
         self.assertEqual([line for line in output.splitlines() if line.startswith("hosed_epoch")],
                          ["hosed_epoch 1", "hosed_epoch 4"])
 
+    def test_a_journal_that_goes_and_comes_back(self):
+        """In between the file has no figure but that."""
+        self.put(journal_of(BODIES))
+        path, seen = os.path.join(self.folder, "hosed.prom"), []
+        steps = iter(["rename", "rename back", None])
+
+        def pause(_):
+            with open(path, encoding="ascii") as file:
+                seen.append(file.read())
+            step = next(steps)
+            if step is None:
+                raise KeyboardInterrupt
+            os.rename(*(self.path, f"{self.path}.away")[::1 if step == "rename" else -1])
+
+        with mock.patch("time.sleep", pause), mock.patch("time.time", return_value=1002):
+            status, _, error = self.ended("--every", "5", "--write", path)
+        self.assertEqual((status, seen), (networks.INTERRUPTED, [EXPOSED, UNREADABLE, EXPOSED]))
+        self.assertEqual(error, "metrics.py: J is gone: No such file or directory\n")
+
+    def test_figures_of_a_front(self):
+        """They are told behind those of the journal as long as they are fresh."""
+        self.put(journal_of(BODIES))
+        front, no_file = os.path.join(self.folder, "front.prom"), os.path.join(self.folder, "none")
+        self.put(b"hosed_front_sessions 3\n", front)
+        for now, sessions, age in ((1005.5, "hosed_front_sessions 3\n", "5.000"),
+                                   (1030.75, "", "30.250")):
+            with mock.patch("time.time", return_value=now):
+                _, output, _ = self.ended("--figures", front, "--figures", no_file)
+            ages = (f'hosed_figures_age_seconds{{file="{front}"}} {age}\n'
+                    f'hosed_figures_age_seconds{{file="{no_file}"}} +Inf\n')
+            self.assertTrue(output.endswith(ages + sessions), output)
+
     def test_under_a_tariff_and_in_json(self):
         # With `hops` each link costs 1: 4 + 5 + 5. The digest is that of the star with these costs.
         with open(STAR, encoding="ascii") as file:
@@ -274,11 +321,12 @@ class Http(Journals):
         self.addCleanup(thread.join)
         self.addCleanup(self.server.shutdown)
 
-    def asked(self, path, host="localhost"):
+    def asked(self, path, host="localhost", method="GET"):
         connection = http.client.HTTPConnection(*self.server.server_address, timeout=10)
         self.addCleanup(connection.close)
-        connection.request("GET", path, headers={"Host": host})
+        connection.request(method, path, headers={"Host": host})
         answer = connection.getresponse()
+        self.length = int(answer.getheader("Content-Length"))
         return answer.status, answer.read().decode()
 
     def test_the_text_and_the_page_that_renews_itself(self):
@@ -292,12 +340,38 @@ class Http(Journals):
         self.put(journal_of(BODIES[:2]))
         self.assertIn("at epoch 2: 2 VPNs", self.asked("/")[1])
 
+    def test_the_head_alone(self):
+        with mock.patch("time.time", return_value=1002):
+            self.assertEqual(self.asked("/metrics", method="HEAD"), (200, ""))
+        self.assertEqual(self.length, len(EXPOSED))
+        self.assertEqual(self.asked("/x", method="HEAD"), (404, ""))
+
+    def test_a_journal_that_is_gone(self):
+        self.assertEqual(self.asked("/metrics")[0], 200)
+        os.rename(self.path, f"{self.path}.away")
+        for _ in range(2):
+            gone = f"{self.path} is gone: No such file or directory\n"
+            self.assertEqual(self.asked("/metrics"), (503, gone))
+        os.rename(f"{self.path}.away", self.path)
+        self.assertEqual(self.asked("/metrics")[0], 200)
+
     def test_what_is_not_there(self):
         self.assertEqual(self.asked("/x"), (404, "here are / /metrics\n"))
         self.assertEqual(self.asked("/metrics", "elsewhere.example:80")[0], 403)
         self.put(CHAINED[:100])
         status, text = self.asked("/metrics")
         self.assertEqual((status, text), (503, f"{self.path} is damaged at 38\n"))
+
+    def test_one_who_does_not_wait_is_not_told_of(self):
+        for fault, told in ((BrokenPipeError(), ""), (ValueError("a fault"), "ValueError: a fault")):
+            error = io.StringIO()
+            with mock.patch("sys.stderr", error):
+                try:
+                    raise fault
+                except Exception:
+                    self.server.handle_error(None, ("127.0.0.1", 1))
+            self.assertIn(told, error.getvalue())
+            self.assertEqual(bool(told), bool(error.getvalue()))
 
     def test_a_port_that_another_has(self):
         with self.assertRaises(networks.WrongInput):
