@@ -2,17 +2,19 @@
 """Breaks the connections of customers at random moments, and judges by the program's audit that
 each order stands exactly once.
 
-Between the customers and `hosed serve`, or `tools/front.py` with --front, stands a proxy of this
-script. At a random line it breaks a connection off: before it has sent the line on, within it,
-behind it, or within the reply. Or it holds the line back, breaks off, and sends the line on after
-some lines of the customer's next connections, or at the end. Customers order by `order_once` of
-tools/client.py, each hose once and no two alike. In the audit each hose has to stand once, under
-the number that its customer was told. Then customers who repeat a plain `admit` wherever its reply
-is lost order in the same way, a tenth as long: of these the audit has to tell that some stand
-twice. Prints how many connections were broken off in which way, and what came of the lines that
-were held back; or what differs, and ends with status 1.
+Between the customers and `hosed serve`, a host with --host, or `tools/front.py` with --front,
+stands a proxy of this script. At a random line it breaks a connection off: before it has sent the
+line on, within it, behind it, or within the reply. Or it holds the line back, breaks off, and sends
+the line on after some lines of the customer's next connections, or at the end. Customers order by
+`order_once` of tools/client.py; with --shell by lines that are typed into its shell, which tries no
+connection more than three times and then is told the line again. Each hose is ordered once, and no
+two are alike. In the audit each has to stand once, under the number that its customer was told.
+Then customers who repeat a plain `admit` wherever its reply is lost order in the same way, a tenth
+as long: of these the audit has to tell that some stand twice. Prints how many connections were
+broken off in which way, and what came of the lines that were held back; or what differs, and ends
+with status 1.
 
-usage: bench/lost_replies.py [--front] [PROGRAM [CONNECTIONS [SEED]]]
+usage: bench/lost_replies.py [--host | --front] [--shell] [PROGRAM [CONNECTIONS [SEED]]]
 The PROGRAM (./hosed) is seen from the top of the repository; CONNECTIONS (1,000) are broken off.
 """
 
@@ -26,12 +28,13 @@ import tempfile
 import threading
 from collections import Counter
 
-from histories import HANGS, Differs, start_front
+from histories import HANGS, Differs, way_of
 from hostile import free_port
 from usage import tell_usage
 
 sys.path.insert(0, os.path.join(os.path.dirname(os.path.abspath(__file__)), "..", "tools"))
 import client
+import client_shell
 import networks
 
 CUSTOMERS = ("acme", "beta", "zeta", "operator")
@@ -179,6 +182,29 @@ def order_once(port, name, ends):
     return client.Customer(client.HOST, port, name, HANGS, 1_000, 0).order_once(ends).id
 
 
+SHELLS = {}  # by their ports: each customer's own
+
+
+def order_by_shell(port, name, ends):
+    """The number that the shell shows for an `admit`, which is typed until it shows one."""
+    if port not in SHELLS:
+        SHELLS[port] = client_shell.Shell(
+            name, lambda: client.Session(client.HOST, port, name, HANGS), pause=0)
+        SHELLS[port].tries = 3
+    said = []
+    SHELLS[port].say = said.append
+    while True:
+        SHELLS[port].do(f"admit {client.hose(ends)}")
+        shown = said[-1].split()
+        if shown[0] == "admitted":
+            return int(shown[1])
+        if SHELLS[port].in_doubt:
+            SHELLS[port].do("again")
+            shown = said[-1].split()
+            if shown[0] == "admitted":
+                return int(shown[1])
+
+
 def order_again(port, name, ends):
     """The same by a plain `admit`, which is repeated wherever its reply is lost."""
     while True:
@@ -230,13 +256,13 @@ def start(program, topology, journal):
     raise Differs("no port could be opened")
 
 
-def audited(program, is_front, order, broken, seed):
+def audited(program, way, order, broken, seed):
     """What customers were told who order so, and the audit of what came of it."""
     with tempfile.TemporaryDirectory() as work:
         topology, journal = (os.path.join(work, name) for name in ("topology", "journal"))
         with open(topology, "w", encoding="ascii") as file:
             file.write(TOPOLOGY)
-        begin = start_front if is_front else start
+        begin = way.start if way else start
         server, port = begin(program, topology, journal)
         try:
             customers = [Orders(port, name, order, broken // len(CUSTOMERS), seed)
@@ -274,22 +300,22 @@ def sum_of(counters):
     return sum(counters, Counter())
 
 
-def judge(program, is_front, broken, seed):
-    customers, audit = audited(program, is_front, order_once, broken, seed)
+def judge(program, way, order, broken, seed):
+    customers, audit = audited(program, way, order, broken, seed)
     counts, strangers = standing(customers, audit)
     wrong = {order: count for order, count in counts.items() if count != 1}
     if wrong or strangers:
         raise Differs(f"orders that do not stand once: {wrong}; not under their numbers: "
                       f"{strangers}")
     ways = sum_of(one.proxy.ways for one in customers)
-    for way, count in sorted(ways.items()):
-        print(f"lost_replies: {count} connections broken off {way}"
+    for how, count in sorted(ways.items()):
+        print(f"lost_replies: {count} connections broken off {how}"
               .replace("off holds the line back", "off, whose line is held back"))
     for reply, count in sorted(sum_of(one.proxy.replies for one in customers).items()):
         print(f"lost_replies: {count} lines held back and answered at last: {reply}")
     print(f"lost_replies: {len(counts)} orders stand once each, {sum(ways.values())} connections "
           "broken off")
-    customers, audit = audited(program, is_front, order_again, max(40, broken // 10), seed)
+    customers, audit = audited(program, way, order_again, max(40, broken // 10), seed)
     counts, strangers = standing(customers, audit)
     twice = sum(count > 1 for count in counts.values())
     if strangers or min(counts.values()) < 1:
@@ -301,13 +327,14 @@ def judge(program, is_front, broken, seed):
 
 
 def main():
-    is_front = "--front" in sys.argv
-    words = [word for word in sys.argv[1:] if word != "--front"]
+    by_shell = "--shell" in sys.argv
+    way, words = way_of([word for word in sys.argv[1:] if word != "--shell"])
     program = os.path.abspath(words[0] if words else "./hosed")
     broken, seed = (words[1:] + ["1000", "1"][len(words[1:]):])[:2]
     subprocess.run([program, "--version"], stdout=subprocess.DEVNULL, check=True)
     try:
-        judge(program, is_front, int(broken), seed)
+        order = order_by_shell if by_shell else order_once
+        judge(program, way, order, int(broken), seed)
     except Differs as difference:
         sys.exit(f"lost_replies: {difference}")
 

@@ -24,6 +24,7 @@ from dataclasses import dataclass
 from typing import Callable, ClassVar, Dict, Iterable, Mapping, Optional, Tuple, Union
 
 import networks
+import reply_tables
 
 HOST = "127.0.0.1"
 TIMEOUT = 60.0  # seconds for a connection and for each reply
@@ -552,6 +553,10 @@ class Session:
             raise reply
         return reply
 
+    def break_off(self) -> None:
+        """Ends the session without a word."""
+        self._end()
+
     def _end(self) -> None:
         self._over = True
         self._lines.close()
@@ -653,7 +658,7 @@ class Order:
         """Gives the order in this session, where it does not stand by now."""
         while not self._done:
             if self.is_in_doubt:
-                self._look(session)
+                self.look(session)
             if not self._done:
                 self._try(session)
         return self._done
@@ -672,7 +677,7 @@ class Order:
             self.is_in_doubt = was_in_doubt
             raise
 
-    def _look(self, session: Session) -> None:
+    def look(self, session: Session) -> Optional[Admitted]:
         """Looks whether the first VPN after the one that was known is the one that was ordered."""
         vpns = session.vpns()
         after = [id for id in vpns.ids if id > self.known][:1]
@@ -681,6 +686,7 @@ class Order:
             self._done = Admitted(vpn.id, vpn.cost, vpn.id, vpn.links)
         elif vpns.newest() != self.known:
             self.known, self.is_in_doubt = vpns.newest(), False
+        return self._done
 
 
 # ---- The program.
@@ -688,7 +694,11 @@ class Order:
 DESCRIPTION = """\
 Gives one command to `hosed serve` or `tools/front.py` as a customer, and prints the reply; without
 a COMMAND, each line of standard input up to `bye`, all in one session, as a `take` needs after its
-`quote`. PORT is a number, or the path of a Unix socket, which has a `/` then, as in ./socket.
+`quote`. PORT is a number, or the path of a Unix socket.
+
+Without a COMMAND at a terminal it is a shell: the prompt tells the epoch, Tab completes commands,
+nodes and your VPNs' numbers, `help` tells the commands, and lines are kept in ~/.hosed_history, or
+the file HOSED_HISTORY. Where the connection is lost it is opened anew, and an `admit` stands once.
 """
 EPILOG = """\
 commands:
@@ -717,8 +727,8 @@ def port_number(text: str) -> int:
 
 
 def place(text: str) -> Place:
-    """A port, or a path with a `/`."""
-    return text if "/" in text else port_number(text)
+    """A port, or the path of a Unix socket, which is no number."""
+    return port_number(text) if re.fullmatch("[0-9]*", text) else text
 
 
 def seconds(text: str) -> float:
@@ -736,6 +746,7 @@ def parser_of_words() -> argparse.ArgumentParser:
         "--timeout", type=seconds, default=TIMEOUT, metavar="SECONDS",
         help=f"for the connection and for each reply ({TIMEOUT:g})",
     )
+    parser.add_argument("--table", action="store_true", help="print replies as tables")
     parser.add_argument("--once", action="store_true", help="see below")
     parser.add_argument(
         "--known", type=int, metavar="K", help="with --once, the K of a call that ended in doubt"
@@ -771,15 +782,26 @@ def greeted(given) -> Session:
         raise networks.WrongInput(what) from None
 
 
+def told_as(reply: Reply, is_tabled: bool) -> str:
+    return reply_tables.tabled(reply) if is_tabled else str(reply)
+
+
 def talk(given) -> bool:
     """Whether each command was done."""
     done = True
     with greeted(given) as session:
         for command in commands(given.command):
             reply = session.reply_to(command)
-            print(reply, flush=True)
+            print(told_as(reply, given.table), flush=True)
             done = done and not isinstance(reply, Refusal)
     return done
+
+
+def is_hose(words) -> bool:
+    """Whether words are endpoints by their form: two or more, each of another node."""
+    names = {word.partition(":")[0] for word in words}
+    return (len(words) > 1 and len(names) == len(words)
+            and all(re.fullmatch(f"{NAME}:{NUMBER}", word) for word in words))
 
 
 def ends_of(words) -> Dict[str, int]:
@@ -799,12 +821,13 @@ def order_once(given) -> bool:
     """Whether a VPN came of an order that is to stand once."""
     customer = Customer(given.host, given.port, given.customer, given.timeout)
     try:
-        print(customer.order_once(ends_of(given.command), given.known), flush=True)
+        admitted = customer.order_once(ends_of(given.command), given.known)
+        print(told_as(admitted, given.table), flush=True)
     except InDoubt as fault:
         what = f"it may have been done; --known {fault.known} goes on from there"
         raise networks.WrongInput(f"{fault}; {what}") from None
     except Refusal as refusal:
-        print(refusal, flush=True)
+        print(told_as(refusal, given.table), flush=True)
         return False
     return True
 
@@ -815,11 +838,19 @@ def doubt_of(line: Optional[str]) -> str:
     return f"; {networks.shown(line)} may have been done" if is_order else ""
 
 
+def is_at_terminal() -> bool:
+    return all(stream is not None and stream.isatty() for stream in (sys.stdin, sys.stdout))
+
+
 def main() -> None:
     parser = parser_of_words()
     given = parser.parse_args()
     if any("\n" in word for word in given.command):
         parser.error("a command is one line")
+    if not given.once and not given.command and is_at_terminal():
+        import client_shell  # which imports this module
+        client_shell.run(given)
+        return
     try:
         done = order_once(given) if given.once else talk(given)
     except (ConnectionLost, MalformedReply) as fault:
@@ -831,4 +862,5 @@ def main() -> None:
 
 
 if __name__ == "__main__":
+    from client import main  # the module that the shell imports, too
     sys.exit(networks.status_of(main))

@@ -1,6 +1,6 @@
 #!/usr/bin/env python3
 """Customers who order, ask and give up at a running server for a given time, and how fast it is.
-PORT is a number, or the path of a Unix socket, which has a `/` then, as in ./socket.
+PORT is a number, or the path of a Unix socket.
 
 Each customer is a process with one session, who waits for each reply before the next command.
 Which commands come how often is told by `--mix`, with `admit-after` and `vpns` where it has them;
