@@ -95,6 +95,13 @@ class Browser:
                 self.receive()
         return self.settled()
 
+    def reload(self):
+        self.seen.clear()
+        self.ask("Page.reload")
+        while "Page.loadEventFired" not in self.seen:
+            self.receive()
+        self.settled()
+
     def settled(self):
         """The milliseconds since the page began to open, once it is drawn."""
         return self.value("new Promise(done => requestAnimationFrame(() => "
@@ -128,6 +135,29 @@ class Browser:
         box = self.point(script)
         for kind in ("mousePressed", "mouseReleased"):
             self.ask("Input.dispatchMouseEvent", type=kind, button="left", clickCount=1, **box)
+        self.settled()
+
+    def wheel(self, down, x, y):
+        self.ask("Input.dispatchMouseEvent", type="mouseWheel", x=x, y=y, deltaX=0, deltaY=down)
+        self.settled()
+
+    def drag(self, right, down, x, y):
+        """Presses the button at a place, and lets it go so many pixels from there."""
+        for kind, share in (("mousePressed", 0), ("mouseMoved", 0.5), ("mouseMoved", 1),
+                            ("mouseReleased", 1)):
+            self.ask("Input.dispatchMouseEvent", type=kind, button="left", buttons=1, clickCount=1,
+                     x=x + share * right, y=y + share * down)
+        self.settled()
+
+    def pinch(self, before, after, x, y):
+        """Two fingers go from a distance of so many pixels, round a place, to another one."""
+        def points(apart):
+            return [{"x": x + side * apart / 2, "y": y, "id": number}
+                    for number, side in enumerate((-1, 1))]
+
+        for kind, there in (("touchStart", points(before)), ("touchMove", points(after)),
+                            ("touchEnd", [])):
+            self.ask("Input.dispatchTouchEvent", type=kind, touchPoints=there)
         self.settled()
 
     def screenshot(self, path):

@@ -8,7 +8,7 @@ is the great circle between its nodes in whole km, at least 1, by their `Longitu
 where one of them has none, it is that of --length. Its capacity is its `LinkSpeedRaw`, in bits a
 second, in whole Mbit/s rounded down, at least 1; else that of --capacity. Loops, and edges to nodes
 that are not there, are dropped. The places of nodes stand in comment lines
-`# at NAME LONGITUDE LATITUDE`.
+`# at NAME LONGITUDE LATITUDE`, with --json in a member `places`; the server passes both over.
 
 example:
   python3 tools/from_graphml.py demo/alps.graphml > alps.txt

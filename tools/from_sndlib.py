@@ -8,7 +8,8 @@ between its nodes in whole km, at least 1, where the coordinates of both are lon
 latitudes; else that of --length. Where those of any node are none, as those of a picture, no node
 has a place. A link's capacity is the one that is installed, else its greatest module, rounded down,
 at least 1; else that of --capacity. Loops are dropped. The places of nodes stand in comment lines
-`# at NAME LONGITUDE LATITUDE`. Costs, demands and paths are passed over.
+`# at NAME LONGITUDE LATITUDE`, with --json in a member `places`. Costs, demands and paths are
+passed over.
 
 example:
   python3 tools/from_sndlib.py polska.txt > topology.txt

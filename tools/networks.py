@@ -64,7 +64,8 @@ class Topology:
     nodes: List[str]
     links: List[Link]
     places: Dict[str, Tuple[float, float]] = field(default_factory=dict)
-    """Of the nodes that a comment line `# at NAME X Y` gives a place; Y grows upward."""
+    """Of the nodes that a comment line `# at NAME X Y`, or a member `places` of JSON, gives one; Y
+    grows upward."""
 
 
 @dataclass(frozen=True)
@@ -204,7 +205,20 @@ def read_json(text: str) -> Topology:
         known.add(name)
     if not isinstance(links, list):
         raise WrongJson("links: there is no array of links")
-    return Topology(nodes, [json_link(at, link, known) for at, link in enumerate(links)])
+    return Topology(nodes, [json_link(at, link, known) for at, link in enumerate(links)],
+                    json_places(told.get("places"), nodes))
+
+
+def json_places(told, nodes: List[str]) -> Dict[str, Tuple[float, float]]:
+    """The places of nodes, as a member `places` has them, which the server passes over: an object
+    with a pair of numbers for each node that has one. What is no such pair is passed over here."""
+    found = told if isinstance(told, dict) else {}
+    return {name: tuple(map(float, found[name])) for name in nodes if is_place(found.get(name))}
+
+
+def is_place(told) -> bool:
+    return (isinstance(told, list) and len(told) == 2
+            and all(type(number) in (int, float) and abs(number) < 1e9 for number in told))
 
 
 def no_number(word: str) -> None:

@@ -1,10 +1,13 @@
-"use strict";
 // The page's tables, and what is chosen and pointed at. It reads the two texts that page.py leaves
 // in the page: the network, by numbers of nodes and links, and a line for each VPN.
 
 const PAGE_ROWS = 25;
 const NEAR = 10; // pixels
 const EDGE = 4;
+const LISTED = 4; // endpoints that a cell names
+const BUSIEST = [300, 100, 30, 10]; // links, of which so many may be shown before the others
+const MANY = 400; // links, above which this is so from the beginning, with FIRST of them
+const FIRST = 100;
 const BELOW = 16;
 const AWAY = 14;
 const SVG = "http://www.w3.org/2000/svg";
@@ -12,9 +15,10 @@ const SVG = "http://www.w3.org/2000/svg";
 const find = (choice) => document.querySelector(choice);
 const network = JSON.parse(find("#network").textContent);
 const picture = find("svg");
-const groups = [...document.querySelectorAll(".link")];
+const drawnOrder = [...document.querySelectorAll(".link")]; // the busiest last
+const groups = [...drawnOrder].sort((one, other) => one.dataset.link - other.dataset.link);
 const circles = [...document.querySelectorAll(".node")];
-const names = [...document.querySelectorAll(".name")]; // none where there are many nodes
+const names = [...document.querySelectorAll(".name")];
 
 const nodes = network.nodes.map(([name, x, y], number) => ({ number, name, x, y, links: 0 }));
 const links = network.links.map(([a, b, capacity, length, cost, load, out, x, y], number) => {
@@ -41,6 +45,8 @@ const vpnsOver = (link) => vpns.filter((vpn) => `,${vpn.amounts}`.includes(`,${l
 // What is used in whole percent: 0 and 100 are told of what is empty and what is full alone.
 const percent = (link) =>
   `${link.load && Math.max(1, Math.floor(100 * link.load / link.capacity))} %`;
+const byUseFirst = [...links].sort((one, other) =>
+  other.use - one.use || other.load - one.load || one.number - other.number);
 const between = (link) => `${link.a.name} \u2013 ${link.b.name}`;
 const outWord = (link) => (link.out ? "out" : "");
 
@@ -208,20 +214,77 @@ function plainTable(heads, rows) {
     made("tbody", {}, ...rows.map((row) => made("tr", {}, ...cells("td", row))))));
 }
 
+// What is lost with a link: a way round it leads over links in service, whatever these carry.
+
+const beside = nodes.map(() => []);
+for (const link of links) {
+  if (link.out) continue;
+  beside[link.a.number].push([link.b.number, link.number]);
+  beside[link.b.number].push([link.a.number, link.number]);
+}
+
+// The nodes that one reaches over some links, by their numbers, up to one that is looked for.
+function reached(from, waysFrom, wanted) {
+  const found = new Set([from]);
+  for (const node of found) {
+    if (node === wanted) break;
+    for (const other of waysFrom(node)) found.add(other);
+  }
+  return found;
+}
+
+const waysRound = new Map(); // those that were looked for
+
+function hasWayRound(link) {
+  if (!waysRound.has(link)) {
+    const waysFrom = (node) =>
+      beside[node].filter(([, number]) => number !== link.number).map(([other]) => other);
+    waysRound.set(link, reached(link.a.number, waysFrom, link.b.number).has(link.b.number));
+  }
+  return waysRound.get(link);
+}
+
+// The endpoints of a VPN on the side of a link of its tree that has fewer of them.
+function cutOff(vpn, link) {
+  const tree = amountsOf(vpn).map(([one]) => one).filter((one) => one !== link);
+  const waysFrom = (node) => tree.filter((one) => one.a.number === node || one.b.number === node)
+    .map((one) => (one.a.number === node ? one.b.number : one.a.number));
+  const side = reached(link.a.number, waysFrom);
+  const ends = endsOf(vpn).map(([node]) => node);
+  const here = ends.filter((node) => side.has(node.number));
+  const there = ends.filter((node) => !side.has(node.number));
+  return here.length <= there.length ? here : there;
+}
+
+function listed(those) {
+  const more = those.length - LISTED;
+  const some = those.slice(0, LISTED).map((node) => node.name).join(", ");
+  return more > 0 ? `${some} and ${more} more` : some;
+}
+
+function lossWords(vpn, link) {
+  return hasWayRound(link) ? "a way round" : `cuts off ${listed(cutOff(vpn, link))}`;
+}
+
 function vpnWords(vpn) {
   const ends = plainTable([["Endpoint", ""], ["Rate", "number"]],
     endsOf(vpn).map(([node, rate]) => [node.name, rate]));
   const amounts = plainTable(
     [["Link", "number"], ["Between", ""], ["Reserved", "number"], ["Load", "number"],
-      ["Capacity", "number spare"]],
+      ["Capacity", "number spare"], ["Without it", ""]],
     amountsOf(vpn).map(([link, amount]) => [anchor("link", link.number),
-      `${between(link)}${link.out ? " (out)" : ""}`, amount, link.load, link.capacity]));
-  return [made("section", {}, made("h3", {}, "Endpoints"), ends),
+      `${between(link)}${link.out ? " (out)" : ""}`, amount, link.load, link.capacity,
+      lossWords(vpn, link)]));
+  const cuts = amountsOf(vpn).filter(([link]) => !hasWayRound(link)).length;
+  const said = cuts === 0 ? "Round each link of its tree leads a way."
+    : `Links of its tree round which no way leads, drawn double: ${cuts}.`;
+  return [made("p", {}, said), made("section", {}, made("h3", {}, "Endpoints"), ends),
     made("section", {}, made("h3", {}, "Reservations"), amounts)];
 }
 
 function linkWords(link) {
-  const words = [made("p", {}, linkNumbers(link))];
+  const round = hasWayRound(link) ? "A way leads round it." : "No way leads round it.";
+  const words = [made("p", {}, `${linkNumbers(link)}. ${round}`)];
   if (network.audit) {
     const users = vpnsOver(link);
     const rows = users.map((vpn) => [anchor("vpn", vpn.id), vpn.customer,
@@ -248,9 +311,12 @@ function label(node, words) {
 }
 
 // Shows links alone, with what `marks` makes over them; all links where there are none.
+let drawnOver = [];
 function draw(shown, marks) {
-  groups.forEach((group) => group.classList.remove("on"));
-  names.forEach((name) => name.classList.remove("replaced"));
+  for (const group of groups) group.classList.remove("on", "cuts");
+  for (const name of names) name.classList.remove("replaced");
+  if (drawnOver.length) drawnOrder[0].parentNode.append(...drawnOrder);
+  drawnOver = shown;
   for (const link of shown) {
     const group = groups[link.number];
     group.classList.add("on");
@@ -283,6 +349,9 @@ function drawVpn(vpn) {
     ...amounts.map(([link, amount]) => drawn("text", { x: link.x, y: link.y }, amount)),
     ...endsOf(vpn).flatMap(([node, rate]) =>
       [drawn("rect", { x: node.x, y: node.y }), label(node, `${node.name}:${rate}`)])]);
+  for (const [link] of amounts) {
+    groups[link.number].classList.toggle("cuts", !hasWayRound(link));
+  }
 }
 
 const drawLink = (link) =>
@@ -291,7 +360,9 @@ const drawAll = () => draw([], () => []);
 
 function tell(title, words) {
   const all = made("button", { type: "button", onclick: clear }, "Show all");
-  find("#title").replaceChildren(...(title ? [title, " ", all] : []));
+  const near = made("button", { type: "button", onclick: zoomToChosen }, "Zoom to it");
+  find("#title").replaceChildren(
+    ...(title ? [title, " ", all, ...(drawnOver.length ? [" ", near] : [])] : []));
   find("#chosen").replaceChildren(...words);
 }
 
@@ -376,18 +447,80 @@ function hidePointed() {
 }
 
 function choosePointed(event) {
+  if (view.isDragged) return;
   const at = inPicture(event);
   const link = nodeAt(at) ? undefined : linkAt(at);
   if (link) location.hash = `#link=${link.number}`;
 }
 
-// The beginning.
+// What is seen of the picture, and which links.
 
 function resize() {
   picture.style.setProperty("--unit", pictureUnit());
-  keepInside(names);
-  keepInside(find("#over").children);
+  const { x, y, width, height } = view.part;
+  const seen = nodes.filter((node) =>
+    node.x >= x && node.x <= x + width && node.y >= y && node.y <= y + height);
+  picture.classList.toggle("named", seen.length <= NAMED);
+  if (view.isWhole()) {
+    if (nodes.length <= NAMED) keepInside(names);
+    keepInside(find("#over").children);
+  }
 }
+
+function zoomToChosen() {
+  view.showAll(drawnOver.flatMap((link) => [link.a, link.b, link]));
+}
+
+function showBusiest(count) {
+  const busiest = new Set(byUseFirst.slice(0, count));
+  for (const link of links) groups[link.number].classList.toggle("idle", !busiest.has(link));
+}
+
+function viewTools() {
+  const button = (word, title, onclick) => made("button", { type: "button", title, onclick }, word);
+  const element = made("div", { className: "turn" },
+    button("+", "Zoom in", () => view.zoomMiddle(STEP)),
+    button("\u2212", "Zoom out", () => view.zoomMiddle(1 / STEP)),
+    button("Whole", "Show the whole picture", () => view.showWhole()));
+  const counts = BUSIEST.filter((count) => network.audit && count < links.length);
+  if (counts.length) {
+    const choice = made("select", { onchange: () => showBusiest(+choice.value) },
+      ...[links.length, ...counts].map((count, place) =>
+        made("option", { value: count }, place ? `the ${count} busiest` : `all ${count}`)));
+    if (links.length > MANY) choice.value = FIRST;
+    choice.onchange();
+    element.append(made("label", {}, "Links ", choice));
+  }
+  return element;
+}
+
+// A page that is loaded again, as one that renews itself, shows what it showed.
+
+const KEPT = "view";
+
+function keepView() {
+  const choice = find("select");
+  sessionStorage.setItem(KEPT, JSON.stringify({ ...view.part, links: choice && choice.value }));
+}
+
+function takeViewUp() {
+  const kept = JSON.parse(sessionStorage.getItem(KEPT));
+  if (performance.getEntriesByType("navigation")[0].type !== "reload" || !kept) return;
+  view.show(kept.x, kept.y, kept.width);
+  const choice = find("select");
+  if (choice && kept.links) {
+    choice.value = kept.links;
+    choice.onchange();
+  }
+}
+
+const KEYS = { "+": () => view.zoomMiddle(STEP), "-": () => view.zoomMiddle(1 / STEP),
+  0: () => view.showWhole() };
+
+// The beginning.
+
+const view = new View(picture, resize);
+picture.after(viewTools());
 
 if (network.audit) {
   vpnTable.tools.prepend(customerFilter());
@@ -400,8 +533,12 @@ picture.addEventListener("pointermove", showPointed);
 picture.addEventListener("pointerleave", hidePointed);
 picture.addEventListener("click", choosePointed);
 addEventListener("keydown", (event) => {
-  if (event.key === "Escape" && event.target.tagName !== "INPUT" && location.hash) clear();
+  if (/INPUT|SELECT/.test(event.target.tagName) || event.ctrlKey || event.metaKey) return;
+  if (event.key === "Escape" && location.hash) clear();
+  else if (KEYS[event.key]) KEYS[event.key]();
 });
 addEventListener("hashchange", showChoice);
+addEventListener("pagehide", keepView);
 new ResizeObserver(resize).observe(picture);
+takeViewUp();
 showChoice();

@@ -10,17 +10,24 @@ and, where links may be out of service, with LAST for the last link's number,
     seq 0 LAST | sed 's/^/x link /' | cat TOPOLOGY - | hosed run JOURNAL > REPLIES
     python3 tools/page.py TOPOLOGY AUDIT REPLIES > PAGE.html
 
-A link is drawn as wide as it can carry and filled as far as it is used, the darker the fuller; the
-numbers are under the pointer. The tables sort by any column, and that of the VPNs filters by
-customer. A VPN or a link that is chosen, in a table, in the picture or by the end of the page's
-address, as PAGE.html#vpn=1 or PAGE.html#link=5, is shown in the picture and in numbers; Escape
-shows all again.
+A link is drawn as wide as it can carry and filled as far as it is used, the darker the fuller, and
+the busiest over the others; the numbers are under the pointer. In a network of more than 400 links
+the 100 busiest are filled, until more or fewer are chosen. The wheel, two fingers, the buttons and
+the keys +, - and 0 zoom, and what is zoomed is dragged. The tables sort by any column, and that of
+the VPNs filters by customer. A VPN or a link that is chosen, in a table, in the picture or by the
+end of the page's address, as PAGE.html#vpn=1 or PAGE.html#link=5, is shown in the picture and in
+numbers; Escape shows all again. Of each link of a VPN's tree is told whether without it a way leads
+round, over links in service, whatever these carry, or which endpoints it cuts off; such a link is
+drawn double.
 
 TOPOLOGY is JSON where its name ends in `.json`. The costs are those of the audit, which have to be
 the network's own or those of a tariff; of the one that --tariff names, where it is given.
 
-Nodes stand where comment lines `# at NAME X Y` of the topology put them, with Y growing upward, and
-the others where springs along the links pull them, in the same way each time.
+Nodes stand where comment lines `# at NAME X Y` of the topology put them, with Y growing upward, or
+where a member `places` of one in JSON does, as {"NAME": [X, Y]}; tools/from_graphml.py and
+tools/from_sndlib.py write these. Of more than 80 nodes without a place Graphviz's `sfdp` makes the
+picture, where it is there. Otherwise nodes stand where springs along the links pull them. Each of
+these does so in the same way each time.
 """
 import argparse
 import html
@@ -113,12 +120,13 @@ def legend(audit, out):
     return f'<ul class="legend" aria-label="Links">{"".join(keys)}</ul>' if keys else ""
 
 
-def page(title, topology, audit=None, out=frozenset()):
-    """The page as a text in ASCII."""
-    picture = Picture(topology)
+def page(title, topology, audit=None, out=frozenset(), picture=None):
+    """The page as a text in ASCII; the picture is that of the topology, made before or not."""
+    picture = picture or Picture(topology)
     loads = [link.load for link in audit.links] if audit else None
     text = PAGE.format(
-        title=html.escape(title), style=beside("page.css"), script=beside("page.js"),
+        title=html.escape(title), style=beside("page.css"),
+        script=beside("page_view.js") + beside("page.js"),
         summary=summary(topology, audit, out), legend=legend(audit, out),
         picture="\n".join(svg(picture, loads, out)),
         network=json.dumps(network_of(picture, loads, out), separators=(",", ":")),

@@ -11,7 +11,7 @@ ONE_PLACE = 4  # nodes that are nearer stand at one place
 APART = 64  # between two nodes of one place; half of it is more than 10 pixels on a telephone
 EDGE = 6
 GAP = 22  # between two links that join the same nodes, where these are not nearer than 3 of it
-NAMED = 80  # nodes, of which no more are named in the picture
+NAMED = 80  # nodes, of which no more are named at once; page_view.js has the same
 SHARED = 60  # links, of which no more have their use beside them
 DIRECTIONS = ("e", "ne", "n", "nw", "w", "sw", "s", "se")
 
@@ -97,17 +97,21 @@ def svg(picture, loads, out):
     yield (f'<svg viewBox="0 0 {WIDTH} {picture.height:.0f}" role="img" aria-label="The network" '
            f'class="{"small" if len(topology.nodes) <= NAMED else "large"}">')
     yield "<g>"
-    for link in topology.links:
+    for link in busiest_last(topology.links, loads):
         width = max(2.5, widest * math.sqrt(link.capacity / most))
         yield drawn_link(picture, link, width, loads and loads[link.number], link.number in out)
     yield "</g>"
     for x, y in picture.nodes:
         yield f'<circle class="node" cx="{x:.1f}" cy="{y:.1f}" r="4"/>'
-    if len(topology.nodes) <= NAMED:
-        yield from names(picture)
+    yield from names(picture)
     if loads and len(topology.links) <= SHARED:
         yield from shares(picture, loads)
     yield '<g id="over"></g></svg>'
+
+
+def busiest_last(links, loads):
+    """The links, so that the busiest are drawn over the others."""
+    return sorted(links, key=lambda link: loads[link.number] / link.capacity) if loads else links
 
 
 def drawn_link(picture, link, width, load, out):

@@ -1,14 +1,22 @@
 """Where a picture of a network has its nodes: at the places that its topology gives, and elsewhere
-by springs between all pairs of nodes, each as long as the least number of links between the two.
+by springs.
 
-The springs are relaxed pair by pair in an order at random, with a seed that is fixed, so that the
-same network has the same picture.
+A network of many nodes, of which none has a place, is laid out by Graphviz's `sfdp` where that is
+there. All others have springs between all pairs of nodes, each as long as the least number of links
+between the two, which are relaxed pair by pair in an order at random. Both begin with a seed that
+is fixed, so that the same network has the same picture.
 """
 import math
 import random
+import subprocess
 from collections import deque
 
 SEED = 1
+MANY = 80  # nodes, above which `sfdp` is asked
+SFDP = ("sfdp", f"-Gstart={SEED}", "-Goverlap=prism", "-Nshape=point", "-Tplain")
+SFDP_SECONDS = 60
+BROAD = 1.75  # how many times as broad as high its pictures are made, as a screen is
+MOST_STRETCH = 2.0
 ROUNDS = 15  # for a network of many nodes; for few there are more, which take no time
 MOST_ROUNDS = 150
 MOVES = 200000
@@ -22,7 +30,29 @@ def places_of(topology):
     fixed = {number[name]: place for name, place in topology.places.items()}
     if len(fixed) == len(number):
         return [fixed[node] for node in range(len(number))]
-    return relaxed(len(number), pairs, fixed)
+    by_sfdp = None if fixed or len(number) <= MANY else laid_out(len(number), pairs)
+    return by_sfdp or relaxed(len(number), pairs, fixed)
+
+
+def laid_out(count, pairs, words=SFDP):
+    """Places of nodes by `sfdp`; none where it is not there, or fails."""
+    text = "\n".join(["graph {", *map(str, range(count)), *(f"{a}--{b}" for a, b in pairs), "}\n"])
+    try:
+        done = subprocess.run(words, input=text, stdout=subprocess.PIPE, stderr=subprocess.DEVNULL,
+                              universal_newlines=True, timeout=SFDP_SECONDS)
+        lines = [line.split() for line in done.stdout.splitlines()]
+        found = {int(line[1]): (float(line[2]), float(line[3])) for line in lines
+                 if line[0] == "node"}
+    except (OSError, subprocess.TimeoutExpired, ValueError, IndexError):
+        return None
+    return broad(level([found[node] for node in range(count)])) if len(found) == count else None
+
+
+def broad(places):
+    """The places, stretched to the form of a picture; they mean no distances."""
+    width, height = (max(values) - min(values) or 1e-9 for values in zip(*places))
+    stretch = min(MOST_STRETCH, max(1.0, BROAD * height / width))
+    return [(x * stretch, y) for x, y in places]
 
 
 def relaxed(count, pairs, fixed):

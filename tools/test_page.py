@@ -88,9 +88,10 @@ class Pages(unittest.TestCase):
         loads = [link.load for link in audit.links]
         drawn = picture.svg(picture.Picture(topology), loads, out)
         links = [element for element in drawn if "data-link" in element]
-        for words, element in zip((("full", "--width:7.0", "--width:7.0"),
-                                   ("used2", "--width:14.0", "--width:3.5"),
-                                   ("link out", "--width:14.0")), links):
+        # The busiest link is drawn last, over the others.
+        for words, element in zip((('data-link="2"', "link out", "--width:14.0"),
+                                   ('data-link="1"', "used2", "--width:14.0", "--width:3.5"),
+                                   ('data-link="0"', "full", "--width:7.0", "--width:7.0")), links):
             for word in words:
                 self.assertIn(word, element)
 
@@ -153,11 +154,35 @@ class Places(unittest.TestCase):
             self.assertAlmostEqual(math.dist(at[one], at[other]), length, delta=0.05)
         self.assertEqual(at, places.places_of(networks.read_topology(text)))
 
+    def test_many_nodes_are_laid_out_by_another_program(self):
+        """A program that puts the nodes 0, 1 and 2 at (0, 0), (1, 1) and (2, 0)."""
+        echo = ("sed", "-n", "s/^1$/node 1 1 1/p; s/^[02]$/node & & 0/p")
+        at = places.laid_out(3, [(0, 1), (1, 2)], echo)
+        for (x, y), place in zip(at, ((0, 0), (1, 1), (2, 0))):
+            self.assertAlmostEqual(math.dist((x - at[0][0], y - at[0][1]), place), 0)
+        for words in (("sfdp-that-is-not-there",), ("false",), ("echo", "node 0 0 0"),
+                      ("echo", "node a b c")):
+            self.assertIsNone(places.laid_out(3, [(0, 1), (1, 2)], words), words)
+
+    def test_what_is_laid_out_is_as_broad_as_a_picture(self):
+        for before, after in (([(0, 0), (1, 1)], 1.75), ([(0, 0), (1, 4)], 0.5),
+                              ([(0, 0), (9, 1)], 9)):
+            (left, low), (right, high) = places.broad(before)
+            self.assertAlmostEqual((right - left) / (high - low), after)
+
     def test_what_has_a_place_stays_there(self):
         text = STAR.replace("# at b 20 0\n", "")
         at = places.places_of(networks.read_topology(text))
         self.assertEqual((at[0], at[2]), ((0, 0), (10, 5)))
         self.assertAlmostEqual(math.dist(at[1], at[2]), math.hypot(10, 5), delta=0.5)
+
+    def test_the_places_of_a_topology_in_json(self):
+        links = '"links": [{"a": "a", "b": "b", "capacity": 1, "length": 1}]'
+        topology = networks.read_json(f"""{{"nodes": ["a", "b", "c", "d"], {links}, "places":
+            {{"a": [8.5, -47], "b": ["8", 47], "c": [1], "d": [true, 1], "e": [1, 2]}}}}""")
+        self.assertEqual(topology.places, {"a": (8.5, -47.0)})
+        self.assertEqual(networks.read_json(f'{{"nodes": ["a", "b"], {links}, "places": 7}}').places,
+                         {})
 
     def test_networks_that_have_no_extent(self):
         for text in ("node a\nend\n", "node a\nnode b\nend\n",
@@ -202,7 +227,9 @@ class Tariffs(unittest.TestCase):
         """The page of demo/alps.json has the links of demo/alps.txt, with the costs of `hops`."""
         topology = networks.load_topology(os.path.join(HERE, "..", "demo", "alps.json"))
         text = networks.load_topology(os.path.join(HERE, "..", "demo", "alps.txt"))
-        self.assertEqual((topology.nodes, topology.links), (text.nodes, text.links))
+        self.assertEqual((topology.nodes, topology.links, topology.places),
+                         (text.nodes, text.links, text.places))
+        self.assertEqual(len(topology.places), len(topology.nodes))
         lines = "".join(f"link {link.number} {link.a} {link.b} capacity {link.capacity} cost 1 "
                         "load 0\n" for link in text.links)
         with tempfile.NamedTemporaryFile("w") as audit:

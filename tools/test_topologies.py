@@ -299,6 +299,7 @@ class Programs(unittest.TestCase):
                 {"a": "aa", "b": "bb-1-2", "capacity": 622, "length": 111},
                 {"a": "bb-1", "b": "bb-1-2", "capacity": 3, "length": 157},
             ],
+            "places": {"aa": [0, 0], "bb-1": [1, 0], "bb-1-2": [0, -1]},
         }))
 
     def test_one_sentence_and_status_2(self):

@@ -99,7 +99,8 @@ class WhatIf(unittest.TestCase):
                              ["audit", "--tariff", "hops", alps])
             words = folder.read("given_run").splitlines()
             self.assertEqual(words[:3], ["run", "--tariff", "hops"])
-            self.assertEqual(words[3].split()[0], "node")
+            lines = [line for line in words[3:] if not line.startswith("#")]
+            self.assertEqual(lines[0], "node zurich")
 
     def test_one_sentence_and_status_2(self):
         folder = Folder(["down 0 at 1", "cabinet"])

@@ -162,14 +162,24 @@ class Draft:
 
 
 def json_of(topology: networks.Topology) -> str:
-    """A topology in JSON, a line for each link."""
+    """A topology in JSON, a line for each link, and one for each place of a node."""
     links = [
         json.dumps({"a": link.a, "b": link.b, "capacity": link.capacity, "length": link.length})
         for link in topology.links
     ]
-    rows = ",\n    ".join(links)
-    body = f"[\n    {rows}\n  ]" if links else "[]"
-    return f'{{\n  "nodes": {json.dumps(topology.nodes)},\n  "links": {body}\n}}\n'
+    places = [
+        f"{json.dumps(name)}: [{', '.join(map(networks.decimal, place))}]"
+        for name, place in topology.places.items()
+    ]
+    members = [f'"nodes": {json.dumps(topology.nodes)}', f'"links": {listed("[]", links)}']
+    members += [f'"places": {listed("{}", places)}'] if places else []
+    return "{\n  " + ",\n  ".join(members) + "\n}\n"
+
+
+def listed(brackets: str, rows: List[str]) -> str:
+    """Rows between brackets, a line each."""
+    inside = ",\n    ".join(rows)
+    return f"{brackets[0]}\n    {inside}\n  {brackets[1]}" if rows else brackets
 
 
 def read_bytes(path: str) -> bytes:

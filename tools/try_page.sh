@@ -3,6 +3,7 @@
 # at. Ends with status 1 where something is wrong, and 2 where there is no Chromium.
 #
 # usage: tools/try_page.sh [FOLDER]     FOLDER: out/page where it is not given
+[ "${1-}" != --help ] || exec sed -n '2,/^[^#]/s/^# \{0,1\}//p' "$0"
 set -u
 tools=$(dirname "$0")
 folder=${1:-$tools/../out/page}
