@@ -5,8 +5,9 @@ crates/hosed_program/src/texts.rt, as it answers `--help`, laid out as a page.
     python3 tools/man.py > hosed.1; man ./hosed.1
 
 Each line of the page is one of the text, so it says what the program says. With --check FILE it
-writes nothing, and ends with status 1 where FILE is another page. SOURCE is texts.rt, or what
-`hosed --help` wrote; the version is that of `hosed --version` in texts.rt, or that of --version.
+writes nothing, and ends with status 1 where FILE is another page; with --usage it writes the text
+itself. SOURCE is texts.rt, or what `hosed --help` wrote; the version is that of `hosed --version`
+in texts.rt, or that of --version.
 
 status:
   0 the page is written, or FILE is it; 1 FILE is another page; 2 these words are not allowed, or
@@ -114,10 +115,14 @@ def main() -> None:
     words.add_argument("source", metavar="SOURCE", nargs="?", default=TEXTS,
                        help="texts.rt, a usage text, or `-`; else that of this repository")
     words.add_argument("--version", metavar="VERSION", help="as `hosed 1.2.3`")
+    words.add_argument("--usage", action="store_true", help="writes the usage text itself")
     words.add_argument("--check", metavar="FILE", help="compares FILE with the page")
     given = words.parse_args()
-    made = page(read_usage(networks.read_file(given.source), given.version))
-    if given.check is None:
+    usage = read_usage(networks.read_file(given.source), given.version)
+    made = page(usage)
+    if given.usage:
+        print(usage.text, end="")
+    elif given.check is None:
         print(made, end="")
     elif networks.read_file(given.check) != made:
         raise SystemExit(f"{words.prog}: {given.check} is another page")

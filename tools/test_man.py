@@ -106,6 +106,11 @@ class Program(unittest.TestCase):
     def run_on(self, *words):
         return within("man.py", man.main, *words)
 
+    def test_the_text_itself(self):
+        status, output, _ = within("man.py", man.main, "--usage")
+        self.assertEqual((status, output[:17]), (0, "usage: hosed run "))
+        self.assertTrue(output.endswith("\n"))
+
     def test_the_check_of_a_page(self):
         with tempfile.TemporaryDirectory() as folder:
             texts, page = os.path.join(folder, "texts.rt"), os.path.join(folder, "hosed.1")
