@@ -1,8 +1,9 @@
 #!/usr/bin/env bash
 # Makes the archive of a release, hosed-VERSION-x86_64.tar.gz, in FOLDER: the proved program, a man
-# page, completion for bash, units for systemd, the tools, the demo networks and the documents, with
-# SHA256SUMS of all of them. Prints the digests of the program and of the archive, and the least C
-# library that the program needs. The same commit and program give the same archive.
+# page, completion for bash, units for systemd, the tools, the demo networks, the documents and the
+# page of the statement, with SHA256SUMS of all of them. Prints the digests of the program and of
+# the archive, and the least C library that the program needs. The same commit and program give the
+# same archive.
 #
 # The program is that of ./hosed, which proves and builds it where it is not built, or a source is
 # newer: from nothing in some 14 minutes, else by what the gate kept. The files are those of the
@@ -57,10 +58,13 @@ name=${version// /-}-x86_64
 root=$work/$name
 mkdir "$root"
 git archive "$commit" README.md CHANGELOG.md docs demo tools | tar -x -C "$root"
-rm -rf "$root"/tools/test_*.py "$root/tools/data" "$root"/tools/{fake_server,runs,made_network}.py \
-    "$root"/tools/{browser.py,try_page.py,try_page.sh,package.sh,man.py}
+# What tries the tools, and what wants the sources of the crates, as all that makes documents.
+(cd "$root/tools" && rm -rf -- test_*.py data fake_*.py runs.py made_network.py browser.py try_* \
+    package.sh man.py make_documents.py statement* chapters.py markdown.py definitions.py \
+    resolve.py rust_source.py imports.py)
 mv "$root/tools/hosed.bash" "$root/hosed.bash"
 python3 tools/man.py --version "$version" >"$root/hosed.1"
+python3 tools/statement.py --html "$root/statement.html"
 install -m 755 "$program" "$root/hosed"
 (cd "$root" && find . -type f -printf '%P\n' | sort | xargs -d '\n' sha256sum) >"$work/sums"
 mv "$work/sums" "$root/SHA256SUMS"

@@ -1,9 +1,11 @@
 """Tests of package.sh in a small repository, whose ./hosed builds a program that needs no proof."""
 import os
+import re
 import subprocess
 import tarfile
 import tempfile
 import unittest
+from fnmatch import fnmatch
 
 TOP = os.path.join(os.path.dirname(os.path.abspath(__file__)), "..")
 # Builds a program where there is none, as ./hosed does; MORE says what is written behind it.
@@ -13,6 +15,10 @@ made=$home/crates/hosed_main/out/hosed_main
 mkdir -p "${made%/*}"
 [ -e "$made" ] || { cp /bin/true "$made"; echo "MORE" >>"$made"; }
 echo "hosed 7.8.9"
+"""
+STATEMENT = """import sys
+with open(sys.argv[2], "w") as file:
+    file.write(f"{sys.argv[1]} is asked for\\n")
 """
 AS = ["-c", "user.name=tests", "-c", "user.email=tests@localhost", "-c", "init.defaultBranch=main"]
 
@@ -31,10 +37,12 @@ def make(folder, more=""):
         with open(os.path.join(TOP, name), encoding="utf-8") as file:
             write(folder, name, file.read())
     for name in ("README.md", "CHANGELOG.md", "docs/GUIDE.md", "demo/star.txt",
-                 "tools/test_man.py", "tools/systemd/hosed.service", "bench/examples.py"):
+                 "tools/test_man.py", "tools/systemd/hosed.service", "bench/examples.py",
+                 "tools/fake_run.py", "tools/make_documents.py", "tools/try_page.sh"):
         write(folder, name, f"{name}\n")
     write(folder, ".gitignore", "out/\n__pycache__/\n")
     write(folder, "hosed", HOSED.replace("MORE", more))
+    write(folder, "tools/statement.py", STATEMENT)
     for name in ("hosed", "tools/package.sh"):
         os.chmod(os.path.join(folder, name), 0o755)
     for words in (["init", "-q"], ["add", "-A"], ["commit", "-qm", "All"]):
@@ -70,7 +78,7 @@ class Packages(unittest.TestCase):
                                  {(0, 0, "")})
             self.assertEqual(sorted(names), sorted([
                 "CHANGELOG.md", "README.md", "SHA256SUMS", "demo/star.txt", "docs/GUIDE.md",
-                "hosed", "hosed.1", "hosed.bash", "tools/networks.py",
+                "hosed", "hosed.1", "hosed.bash", "statement.html", "tools/networks.py",
                 "tools/systemd/hosed.service"]))
             subprocess.run(["tar", "-xzf", path, "-C", folder], check=True)
             release = os.path.join(folder, "hosed-7.8.9-x86_64")
@@ -78,8 +86,22 @@ class Packages(unittest.TestCase):
                 self.assertEqual([line.split()[1] for line in file],
                                  sorted(set(names) - {"SHA256SUMS"}))
             subprocess.run(["sha256sum", "--quiet", "-c", "SHA256SUMS"], cwd=release, check=True)
+            with open(os.path.join(release, "statement.html"), encoding="ascii") as file:
+                self.assertEqual(file.read(), "--html is asked for\n")
             with open(os.path.join(release, "hosed.1"), encoding="ascii") as file:
                 self.assertIn('"hosed 7.8.9"', file.read())
+
+    def test_each_tool_has_what_it_imports(self):
+        with open(os.path.join(TOP, "tools", "package.sh"), encoding="utf-8") as file:
+            left_out = re.search(r"rm -rf -- (test_[^)]*)\)", file.read())[1].split()
+        names = [name for name in os.listdir(os.path.join(TOP, "tools")) if name.endswith(".py")]
+        kept = {name for name in names if not any(fnmatch(name, one) for one in left_out)}
+        for name in kept:
+            with open(os.path.join(TOP, "tools", name), encoding="utf-8") as file:
+                imported = re.findall(r"^ *(?:import|from) ([a-z_]+)", file.read(), re.MULTILINE)
+            missing = {f"{one}.py" for one in imported} & set(names) - kept
+            self.assertFalse(missing, name)
+        self.assertTrue({"client.py", "front.py", "metrics.py", "page.py"} <= kept)
 
     def test_what_is_changed_is_not_packaged(self):
         with tempfile.TemporaryDirectory() as folder:
