@@ -40,7 +40,8 @@ import definitions  # noqa: E402
 import rust_source  # noqa: E402
 
 NOT_PRODUCT = ("cases_common", "cases_files", "cases_stage", "cases_parts", "cases_plans",
-               "cases_disks", "cases_program", "cases_words", "tests_threads")
+               "cases_disks", "cases_program", "cases_words", "cases_host",
+               "tests_threads", "hose_star")
 PARTS = definitions.ENDINGS
 CRATES = definitions.crates_of(TOP)
 PRODUCT = [crate for crate in CRATES if crate not in NOT_PRODUCT]

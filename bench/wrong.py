@@ -62,6 +62,11 @@ sys.dont_write_bytecode = True
 RT, BODIES = loaded("rt"), loaded("rt-plant-bodies")
 
 
+def touched(crate):
+    """When each file of the crate changed last."""
+    return {it: os.stat(it).st_mtime_ns for it in RT.rtlib.files_of(crate.folder)}
+
+
 class Tries:
     """The tries of a crate's edits, over what the check of the crate as it stands proved."""
 
@@ -174,7 +179,7 @@ class Tries:
     def over_kept(self, call, *given):
         """What a call gives over a copy of what the crate's own check kept."""
         with tempfile.TemporaryDirectory(prefix="wrong-") as room:
-            RT.linked(f"{self.crate.folder}/out/incremental", f"{room}/kept")
+            shutil.copytree(f"{self.crate.folder}/out/incremental", f"{room}/kept")
             return call(self.crate, *given, f"{room}/kept")
 
     def told(self, batch):
@@ -218,7 +223,7 @@ def stands(crate):
 
 def tried(crate):
     """What each edit of the crate comes to, and the processor's seconds of the tries."""
-    were, said = RT.touched(crate), stands(crate)
+    were, said = touched(crate), stands(crate)
     began, tries, found = os.times(), Tries(crate, said), {}
     for batch in tries.batches() if said else []:
         found.update(tries.told(batch))
@@ -228,7 +233,7 @@ def tried(crate):
     for edit in tries.edits:
         without = "the crate as it stands is not proved"
         found[edit] = found.get(edit) or (tries.alone(edit) if said else without)
-    if RT.touched(crate) != were:
+    if touched(crate) != were:
         found = dict.fromkeys(found, "a file of the crate changed meanwhile")
     return found, round(sum(os.times()[:4]) - sum(began[:4]))
 

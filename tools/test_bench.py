@@ -8,7 +8,7 @@ from concurrent.futures import ThreadPoolExecutor
 TOP = os.path.join(os.path.dirname(os.path.abspath(__file__)), "..")
 # Files of bench/ that other ones take.
 PARTS = {"bench/setup.sh", "bench/place.sh", "bench/usage.py", "bench/star_model.py",
-         "bench/disk_loop.py"}
+         "bench/disk_loop.py", "bench/machines.py"}
 
 
 def told(path):

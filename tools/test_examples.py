@@ -170,7 +170,8 @@ class Sections(unittest.TestCase):
 
     def test_units_name_what_is_installed(self):
         """docs/OPERATING.md, "Install", makes the program's name and a link to a release."""
-        installed = re.compile(r"/usr/local/(bin/hosed|lib/hosed/current/(tools/\w+\.py))")
+        installed = re.compile(
+            r"/usr/local/(bin/hosed|lib/hosed/current/(tools/\w+\.py|docs/\w+\.md))")
         for name in os.listdir(os.path.join(TOP, "tools", "systemd")):
             for path in re.findall(r"/usr/local/[^\s'\"]+", text_of(f"tools/systemd/{name}")):
                 found = installed.fullmatch(path)
