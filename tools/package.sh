@@ -58,13 +58,11 @@ name=${version// /-}-x86_64
 root=$work/$name
 mkdir "$root"
 git archive "$commit" README.md CHANGELOG.md docs demo tools | tar -x -C "$root"
-# What tries the tools, and what wants the sources of the crates, as all that makes documents.
-(cd "$root/tools" && rm -rf -- test_*.py data fake_*.py runs.py made_network.py browser.py try_* \
-    package.sh man.py make_documents.py statement* chapters.py markdown.py definitions.py \
-    resolve.py rust_source.py imports.py)
+# What tries the tools, and what wants the sources of the crates.
+(cd "$root/tools" && rm -r -- tests documents package.sh)
 mv "$root/tools/hosed.bash" "$root/hosed.bash"
-python3 tools/man.py --version "$version" >"$root/hosed.1"
-python3 tools/statement.py --html "$root/statement.html"
+python3 tools/documents/man.py --version "$version" >"$root/hosed.1"
+python3 tools/documents/statement.py --html "$root/statement.html"
 install -m 755 "$program" "$root/hosed"
 (cd "$root" && find . -type f -printf '%P\n' | sort | xargs -d '\n' sha256sum) >"$work/sums"
 mv "$work/sums" "$root/SHA256SUMS"

@@ -1,0 +1,596 @@
+#!/usr/bin/env python3
+"""Judges concurrent random sessions of `hosed serve`, a host or `tools/front.py` from outside.
+
+Each run serves some customers at once over a random network of up to 9 nodes. Its history is read
+off the replies: each epoch is that of one admission, release or change of a link's service, which
+the slow planner of planner.py then makes again. The book of each epoch has to explain each
+reply that tells that epoch, the places of a session may not go back, and the audit has to be that
+of the last book. Prints how many runs, sessions and replies of each kind there were; or the first
+difference, and ends with status 1.
+
+With --host the sessions are those of a host. With --front they are those of a front over the
+PROGRAM. There a quote is its customer's, and not its session's. So the lines of all sessions of a
+customer are put into one order that explains the numbers of quotes, in which no line comes before
+one that was answered before it was said.
+
+usage: bench/judge/histories.py [--host | --front] [PROGRAM [RUNS [SEED]]]
+The PROGRAM (./hosed) is seen from the top of the repository.
+"""
+
+import os
+import random
+import signal
+import socket
+import subprocess
+import sys
+import tempfile
+import threading
+import time
+from collections import Counter
+from typing import NamedTuple
+
+sys.path.insert(0, os.path.join(os.path.dirname(os.path.abspath(__file__)), "..", "parts"))
+from usage import tell_usage
+
+import client
+from planner import COMPARED, OPERATOR, QUOTES, Vpn, decide, grounds, in_service, pairs_text
+from planner import plan_cost, random_hose, random_network, topology_lines
+
+SESSIONS, WORKERS, COMMANDS = 12, 6, 40
+NAMES = ("acme", "beta", "zeta", OPERATOR)  # some sessions have one customer
+KINDS = {
+    "admit": 12, "admit-after": 8, "quote": 16, "take": 14, "release": 12, "show": 4, "vpns": 6,
+    "link": 4, "down": 2, "up": 6,
+}
+TRIES = 10  # at ports that another program may take meanwhile
+HANGS = 60  # seconds
+
+
+class Differs(Exception):
+    pass
+
+
+def same(got, want, where):
+    if got != want:
+        raise Differs(f"{where}\ntold:     {got}\nexpected: {want}")
+
+
+# ---- Sessions.
+
+
+class Session(threading.Thread):
+    """One customer's lines and replies, one after the other."""
+
+    def __init__(self, port, network, seed):
+        super().__init__()
+        self.port, self.network, self.draw = port, network, random.Random(seed)
+        self.customer = self.draw.choice(NAMES)
+        self.said, self.fault = [], None  # pairs of a command and its reply
+        self.times = []  # when each was said, and answered
+        self.out = set()  # the links that it took out of service and has not put back
+        self.known = 0  # the customer's newest VPN, as far as this session was told
+
+    def line(self, own):
+        draw = self.draw
+        kind = draw.choices(list(KINDS), list(KINDS.values()))[0]
+        if kind in ("admit", "quote"):
+            hose = random_hose(draw, self.network, COMPARED)
+            return kind, hose, self.ends(hose)
+        if kind == "admit-after":
+            known = self.known if draw.random() < 0.8 else draw.choice([0, *own])
+            hose = random_hose(draw, self.network, COMPARED)
+            return kind, (known, hose), f"{known} {self.ends(hose)}"
+        if kind == "vpns":
+            return kind, None, ""
+        if kind == "up" and self.out and draw.random() < 0.8:
+            number = draw.choice(sorted(self.out))
+        elif kind in ("link", "down", "up"):
+            number = draw.randrange(len(self.network.links))
+        elif kind == "take":
+            number = draw.randint(1, 4)
+        else:
+            number = draw.choice(own) if own and draw.random() < 0.8 else draw.randint(0, 60)
+        return kind, number, str(number)
+
+    def ends(self, hose):
+        return " ".join(f"{self.network.nodes[n]}:{rate}" for n, rate in hose)
+
+    def run(self):
+        try:
+            self.said.append(("hello", None, ""))
+            begun = time.monotonic()
+            with client.Session("127.0.0.1", self.port, self.customer, HANGS) as session:
+                self.times.append((begun, time.monotonic()))
+                self.said[-1] = ("hello", None, str(session.welcome))
+                own = []
+                for _ in range(COMMANDS):
+                    reply = self.ask(session, *self.line(own))
+                    if isinstance(reply, client.Admitted):
+                        own.append(reply.id)
+                self.ask(session, "bye", None, "")
+        except client.FAULTS as fault:
+            self.fault = fault
+
+    def ask(self, session, kind, value, text):
+        """The reply to a line; what was said has none where the server is gone before it."""
+        self.said.append((kind, value, ""))
+        begun = time.monotonic()
+        reply = session.reply_to(f"{kind} {text}")
+        self.times.append((begun, time.monotonic()))
+        self.said[-1] = (kind, value, str(reply))
+        if isinstance(reply, client.Down):
+            self.out.add(value)
+        elif isinstance(reply, client.Up):
+            self.out.discard(value)
+        elif isinstance(reply, (client.Admitted, client.Newest)):
+            self.known = reply.id
+        elif isinstance(reply, client.Vpns):
+            self.known = reply.newest()
+        return reply
+
+
+# ---- Books.
+
+
+def place_of(reply):
+    """The epoch that a reply tells, if it tells one."""
+    words = reply.split()
+    if words[0] == "stale":
+        return int(words[2])
+    return int(words[words.index("at") + 1]) if "at" in words else None
+
+
+class Book(NamedTuple):
+    live: dict  # of VPNs by their numbers
+    out: frozenset  # of links
+
+
+class History:
+    """The book of each epoch."""
+
+    def __init__(self, network):
+        self.network, self.books = network, [Book({}, frozenset())]
+
+    def loads(self, epoch):
+        loads = [0] * len(self.network.links)
+        for vpn in self.books[epoch].live.values():
+            for number, amount in vpn.plan:
+                loads[number] += amount
+        return loads
+
+    def decided(self, epoch, hose):
+        service = in_service(self.network, self.books[epoch].out)
+        return decide(self.network, service, self.loads(epoch), sorted(hose))
+
+    def vpns_of(self, epoch, customer):
+        """The numbers of a customer's live VPNs, in the order of admission."""
+        live = self.books[epoch].live
+        return [number for number, vpn in live.items() if vpn.customer == customer]
+
+    def grounds(self, epoch, hose):
+        service = in_service(self.network, self.books[epoch].out)
+        return grounds(self.network, service, self.loads(epoch), hose)
+
+    def ends(self, hose):
+        return " ".join(f"{self.network.nodes[node]}:{rate}" for node, rate in hose)
+
+    def admit(self, customer, hose, plan):
+        live = dict(self.books[-1].live)
+        number, cost = len(self.books), plan_cost(self.network, plan)
+        live[number] = Vpn(customer, hose, plan, cost)
+        self.books.append(self.books[-1]._replace(live=live))
+        return f"admitted {number} cost {cost} at {number} links {pairs_text(plan)}"
+
+    def release(self, customer, number):
+        live = dict(self.books[-1].live)
+        vpn = live.pop(number, None)
+        if vpn is None or vpn.customer != customer:
+            raise Differs(f"{customer} released {number}, which is not theirs")
+        self.books.append(self.books[-1]._replace(live=live))
+        return f"released {number} at {len(self.books) - 1}"
+
+    def change(self, customer, command, number):
+        out = self.books[-1].out
+        if customer != OPERATOR or (number in out) == (command == "down"):
+            raise Differs(f"{customer} had link {number} {command}, where {sorted(out)} were out")
+        self.books.append(self.books[-1]._replace(out=out ^ {number}))
+        return f"{command} {number} at {len(self.books) - 1}"
+
+    def audit(self):
+        network, live, epoch = self.network, self.books[-1].live, len(self.books) - 1
+        loads, lines = self.loads(epoch), [f"epoch {epoch}"]
+        for number, link in enumerate(network.links):
+            a, b = network.nodes[link.a], network.nodes[link.b]
+            rest = f"capacity {link.capacity} cost {link.cost} load {loads[number]}"
+            lines.append(f"link {number} {a} {b} {rest}")
+        for number, vpn in sorted(live.items()):
+            ends, links = self.ends(vpn.hose), pairs_text(vpn.plan)
+            lines.append(f"vpn {number} {vpn.customer} cost {vpn.cost} ends {ends} links {links}")
+        total = sum(load * link.cost for load, link in zip(loads, network.links))
+        return lines + [f"live {len(live)} cost {total}"]
+
+
+ENTERED = ("admitted", "released", "down", "up")  # the first words of what an entry is told by
+
+
+class Judge:
+    """One session against the books. `held` are the quotes of its customer, or its own."""
+
+    def __init__(self, history, session, held):
+        self.history, self.session, self.last, self.held = history, session, 0, held
+
+    def refused(self, epoch, hose):
+        kind, side = self.history.decided(epoch, hose)
+        if kind != "refused":
+            return None
+        return f"refused at {epoch} side {' '.join(self.history.network.nodes[n] for n in side)}"
+
+    def expected(self, kind, value, reply, epoch):
+        network, (live, out) = self.history.network, self.history.books[epoch]
+        customer = self.session.customer
+        if kind == "hello":
+            return f"welcome at {epoch}"
+        if kind == "vpns":
+            own = self.history.vpns_of(epoch, customer)
+            return " ".join(["vpns", *map(str, own), f"at {epoch}"])
+        if kind == "admit-after":
+            known, hose = value
+            newest = (self.history.vpns_of(epoch, customer) or [0])[-1]
+            return f"newest {newest} at {epoch}" if newest != known else self.refused(epoch, hose)
+        if kind == "admit":
+            return self.refused(epoch, value)
+        if kind == "quote":
+            free = [number for number in range(1, QUOTES + 1) if number not in self.held]
+            if not free:
+                return f"too many quotes at {epoch}"
+            if self.refused(epoch, value):
+                return self.refused(epoch, value)
+            plan = self.history.decided(epoch, value)[1]
+            self.held[free[0]] = (sorted(value), epoch)
+            cost = plan_cost(network, plan)
+            return f"quoted {free[0]} cost {cost} at {epoch} links {pairs_text(plan)}"
+        if kind == "take":
+            if value not in self.held:
+                return f"no quote {value} at {epoch}"
+            hose, seen = self.held.pop(value)
+            if self.history.grounds(seen, hose) == self.history.grounds(epoch, hose):
+                return None
+            return f"stale {seen} {epoch}"
+        if kind in ("down", "up"):
+            if customer != OPERATOR:
+                return f"denied at {epoch}"
+            is_so = (value in out) == (kind == "down")
+            return f"already {value} at {epoch}" if is_so else None
+        if kind == "link":
+            link, load = network.links[value], self.history.loads(epoch)[value]
+            a, b = network.nodes[link.a], network.nodes[link.b]
+            told = f"capacity {link.capacity} cost {link.cost} load {load}"
+            return f"link {value} {a} {b} {told}{' out' if value in out else ''} at {epoch}"
+        vpn = live.get(value)
+        if vpn is None or vpn.customer != customer:
+            return f"no vpn {value} at {epoch}"
+        if kind == "release":
+            return None
+        ends, links = self.history.ends(vpn.hose), pairs_text(vpn.plan)
+        return f"vpn {value} cost {vpn.cost} at {epoch} ends {ends} links {links}"
+
+    def judge(self, kind, value, reply, kinds):
+        """The next line of the session."""
+        where = f"{self.session.customer}, {kind} {value}, after {self.last}"
+        if kind == "bye":
+            same(reply, "bye", where)
+            return
+        place, before = place_of(reply), before_of(reply)
+        if before < self.last:
+            raise Differs(f"{where}\nwent back: {reply}")
+        if reply.split()[0] not in ENTERED:
+            same(reply, self.expected(kind, value, reply, place), where)
+        elif kind in ("take", "admit-after"):
+            # What was quoted is admitted only on equal grounds, and what is bound to a VPN only
+            # while that is the newest.
+            same(self.expected(kind, value, reply, before), None, where)
+        self.last = place
+        kinds[" ".join(word for word in reply.split()[:2] if word.isalpha())] += 1
+
+
+def before_of(reply):
+    """The epoch before what a reply tells."""
+    return place_of(reply) - (reply.split()[0] in ENTERED)
+
+
+# ---- The order of a customer's lines.
+
+
+def by_session(sessions):
+    """The lines of each session with the session, in their order: a quote is a session's own."""
+    return [[(session, *line) for line in session.said] for session in sessions]
+
+
+def by_customer(sessions):
+    """The lines of each customer, in an order that explains the quotes."""
+    names = sorted({session.customer for session in sessions})
+    return [Order([one for one in sessions if one.customer == name]).found() for name in names]
+
+
+def what_is_quoted(reply):
+    """What a quote and its take both tell: the cost, and the links."""
+    words = reply.split()
+    return words[words.index("cost") + 1], tuple(words[words.index("links"):])
+
+
+class Order:
+    """Looks for one order of the lines of some sessions: a step is the next line of one of them. A
+    `bye` tells no epoch, and comes last."""
+
+    def __init__(self, sessions):
+        self.sessions = sessions
+        self.said = [[line for line in one.said if line[0] != "bye"] for one in sessions]
+        self.seen = set()
+
+    def found(self):
+        """Depth first; what was tried once is not tried again."""
+        stack = [(tuple(0 for _ in self.sessions), (), None)]
+        while stack:
+            at, held, line = stack.pop()
+            if all(place == len(said) for place, said in zip(at, self.said)):
+                return self.lines(line)
+            if (at, held) not in self.seen:
+                self.seen.add((at, held))
+                stack += self.steps(at, held, line)
+        raise Differs(f"no order of the lines of {self.sessions[0].customer} explains the quotes")
+
+    def steps(self, at, held, line):
+        """Where each next line leads; one alone where it changes no quotes."""
+        after = []
+        for number in self.next_ones(at):
+            kept = self.quotes_after(number, at[number], dict(held))
+            if kept is None:
+                continue
+            there = tuple(place + (one == number) for one, place in enumerate(at))
+            step = (there, tuple(sorted(kept.items())), (line, number, at[number]))
+            if step[1] == held:
+                return [step]
+            after.append(step)
+        return after
+
+    def next_ones(self, at):
+        """The sessions whose next line may come now: those that enter nothing come before the one
+        that enters something at their epoch."""
+        heads = [number for number, said in enumerate(self.said) if at[number] < len(said)]
+        first_told = min(self.sessions[number].times[at[number]][1] for number in heads)
+        places = {number: self.place(number, at[number]) for number in heads}
+        least = min(places.values())
+        return [number for number in heads
+                if self.sessions[number].times[at[number]][0] <= first_told
+                and places[number] == least]
+
+    def place(self, number, at):
+        """The epoch before a line, and whether it enters something."""
+        reply = self.said[number][at][2]
+        return before_of(reply), reply.split()[0] in ENTERED
+
+    def quotes_after(self, number, at, held):
+        """The quotes that are held after a line, or none where its reply does not fit to them."""
+        kind, value, reply = self.said[number][at]
+        free = [one for one in range(1, QUOTES + 1) if one not in held]
+        words = reply.split()
+        if words[0] == "quoted":
+            if free[:1] != [int(words[1])]:
+                return None
+            held[free[0]] = (what_is_quoted(reply), int(words[5]))
+        elif reply.startswith("too many"):
+            return None if free else held
+        elif reply.startswith("no quote"):
+            return None if value in held else held
+        elif kind == "take":
+            what, epoch = held.pop(value, (None, None))
+            fits = str(epoch) == words[1] if words[0] == "stale" else what == what_is_quoted(reply)
+            return held if fits else None
+        return held
+
+    def lines(self, line):
+        found = [(one, *line) for one in self.sessions for line in one.said if line[0] == "bye"]
+        while line:
+            line, number, at = line
+            found.append((self.sessions[number], *self.said[number][at]))
+        return found[::-1]
+
+
+def hose_of(kind, value, quoted):
+    """The hose of an admission, or the number of another order."""
+    if kind == "take":
+        return quoted[value]
+    return value[1] if kind == "admit-after" else value
+
+
+def entries(orders):
+    """The entries of all lines by their epochs."""
+    found = {}
+    for lines in orders:
+        quoted = {}
+        for session, kind, value, reply in lines:
+            words = reply.split()
+            if words[0] == "quoted":
+                quoted[int(words[1])] = value
+            if words[0] in ENTERED:
+                hose = hose_of(kind, value, quoted)
+                if place_of(reply) in found:
+                    raise Differs(f"two entries at one epoch: {reply}")
+                found[place_of(reply)] = (session, words[0], hose, reply)
+    return found
+
+
+def judge(network, orders, audit, kinds):
+    history, found = History(network), entries(orders)
+    same(sorted(found), list(range(1, len(found) + 1)), "the epochs of all entries")
+    for epoch in sorted(found):
+        session, what, value, reply = found[epoch]
+        if what == "released":
+            same(reply, history.release(session.customer, value), f"epoch {epoch}")
+            continue
+        if what in ("down", "up"):
+            same(reply, history.change(session.customer, what, value), f"epoch {epoch}")
+            continue
+        hose = sorted(value)
+        kind, plan = history.decided(epoch - 1, hose)
+        if kind == "refused":
+            raise Differs(f"epoch {epoch}: {reply}\nwhere the planner refuses")
+        same(reply, history.admit(session.customer, hose, plan), f"epoch {epoch}")
+    for lines in orders:
+        judges, held = {}, {}
+        for session, *line in lines:
+            judges.setdefault(session, Judge(history, session, held)).judge(*line, kinds)
+    same(audit, history.audit(), "the audit")
+
+
+# ---- Runs.
+
+
+def write_topology(network, name):
+    with open(name, "w", encoding="ascii") as text:
+        text.write("".join(line + "\n" for line in topology_lines(network)))
+
+
+def start(program, topology, journal, connections):
+    """A server that is ready, and its port."""
+    for _ in range(TRIES):
+        with socket.socket() as probe:
+            probe.bind(("127.0.0.1", 0))
+            port = probe.getsockname()[1]
+        words = [topology, journal, str(port), str(connections), str(WORKERS)]
+        server = subprocess.Popen([program, "serve", *words], stdout=subprocess.PIPE, text=True)
+        first = server.stdout.readline()
+        if first != "door\n":
+            same(first, "ready\n", "the first line")
+            return server, port
+        server.wait(HANGS)
+    raise Differs("no port could be opened")
+
+
+def start_front(program, topology, journal, *options, files=None):
+    """A front that is ready, and its port. Its log is beside the journal."""
+    words = [sys.executable, "tools/front.py", "--program", program, "--log", f"{journal}.log"]
+    for _ in range(TRIES):
+        with socket.socket() as probe:
+            probe.bind(("127.0.0.1", 0))
+            port = probe.getsockname()[1]
+        front = subprocess.Popen([*words, "--port", str(port), *options, topology, journal],
+                                 stdout=subprocess.PIPE, text=True, preexec_fn=files)
+        first = front.stdout.readline()
+        if first:
+            same(first, "ready\n", "the first line")
+            return front, port
+        same(front.wait(HANGS), 23, "the status where a port is taken")
+    raise Differs("no port could be opened")
+
+
+def start_host(program, topology, journal, doors=(), files=None, environment=None):
+    """A host that is ready, and its port. Its operator's door is beside the journal."""
+    operator = ["--operator", f"{journal}.operator"]
+    for _ in range(TRIES):
+        with socket.socket() as probe:
+            probe.bind(("127.0.0.1", 0))
+            port = probe.getsockname()[1]
+        words = [program, "host", "--quiet", *operator, topology, journal, str(port), *doors]
+        host = subprocess.Popen(words, stdout=subprocess.PIPE, text=True, preexec_fn=files,
+                                env=environment)
+        first = host.stdout.readline()
+        if not first.startswith("door"):
+            same(first, "ready\n", "the first line")
+            return host, port
+        host.wait(HANGS)
+    raise Differs("no port could be opened")
+
+
+def told_of_host(host, _program, _topology, journal):
+    """Ends a host by its operator, and gives its status and the audit that it wrote."""
+    with socket.socket(socket.AF_UNIX) as operator:
+        operator.settimeout(HANGS)
+        operator.connect(f"{journal}.operator")
+        operator.sendall(b"hello operator\nend\n")
+        while operator.recv(4096):
+            pass
+    audit = host.stdout.read()
+    status = host.wait(HANGS)
+    host.stdout.close()
+    same(os.path.exists(f"{journal}.operator"), False, "whether the operator's door is left")
+    return status, audit
+
+
+def audit_of(program, topology, journal):
+    words = [program, "audit", topology, journal]
+    return subprocess.run(words, stdout=subprocess.PIPE, text=True, check=True).stdout
+
+
+def told_of_front(front, program, topology, journal):
+    """Ends a front, and gives its status and the audit of its journal."""
+    front.send_signal(signal.SIGTERM)
+    status = front.wait(HANGS)
+    front.stdout.close()
+    return status, audit_of(program, topology, journal)
+
+
+class Way(NamedTuple):
+    """How customers are served who come as long as they like."""
+    name: str
+    start: object  # of a program, a topology and a journal: what serves, and its port
+    ended: object  # of what serves and these: its status and the audit
+    orders: object  # the lines of all sessions, as those whose quotes are the same
+
+
+WAYS = {"--front": Way("a front", start_front, told_of_front, by_customer),
+        "--host": Way("a host", start_host, told_of_host, by_session)}
+
+
+def way_of(words):
+    """How customers are served, if not by `hosed serve`; and the other words."""
+    way = next((WAYS[word] for word in words if word in WAYS), None)
+    return way, [word for word in words if word not in WAYS]
+
+
+def serve(program, work, seed, kinds, way):
+    draw = random.Random(seed)
+    network = random_network(draw, COMPARED)
+    topology, journal = os.path.join(work, f"{seed}.txt"), os.path.join(work, f"{seed}.journal")
+    write_topology(network, topology)
+    if way:
+        server, port = way.start(program, topology, journal)
+    else:
+        server, port = start(program, topology, journal, SESSIONS)
+    sessions = [Session(port, network, f"{seed} {number}") for number in range(SESSIONS)]
+    for session in sessions:
+        session.start()
+    for session in sessions:
+        session.join()
+        if session.fault:
+            raise Differs(f"a session failed: {session.fault}")
+    if way:
+        status, audit = way.ended(server, program, topology, journal)
+    else:
+        audit, status = server.stdout.read(), server.wait(HANGS)
+    same(status, 0, "the status")
+    orders = way.orders(sessions) if way else by_session(sessions)
+    judge(network, orders, audit.splitlines(), kinds)
+
+
+def main():
+    way, words = way_of(sys.argv[1:])
+    program = os.path.abspath(words[0] if words else "./hosed")
+    runs = int(words[1]) if len(words) > 1 else 100
+    seed = words[2] if len(words) > 2 else "1"
+    kinds = Counter()
+    with tempfile.TemporaryDirectory() as work:
+        for number in range(runs):
+            try:
+                serve(program, work, f"{seed}-{number}", kinds, way)
+            except Differs as difference:
+                sys.exit(f"run {number} of seed {seed}: {difference}")
+    by = way.name if way else f"{WORKERS} workers"
+    print(f"{runs} runs of {SESSIONS} sessions with {by} agree")
+    for kind, count in sorted(kinds.items()):
+        print(f"{count:8} {kind}")
+
+
+if __name__ == "__main__":
+    tell_usage(__doc__)
+    main()

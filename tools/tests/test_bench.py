@@ -1,0 +1,40 @@
+"""Each script of bench/ answers `--help` with how it is used, and does nothing else."""
+import glob
+import os
+import subprocess
+import unittest
+from concurrent.futures import ThreadPoolExecutor
+
+TOP = os.path.join(os.path.dirname(os.path.abspath(__file__)), "..", "..")
+# Of bench/parts/ what is called as a program; all else is what other files take.
+CALLED = {"bench/parts/measure.py", "bench/parts/reference.py"}
+
+
+def all_scripts():
+    """The paths of the scripts of bench/, from the top of the repository."""
+    found = {os.path.relpath(path, TOP) for pattern in ("*/*.py", "*/*.sh", "*/figures/*.sh")
+             for path in glob.glob(os.path.join(TOP, "bench", pattern))}
+    return {path for path in found if not path.startswith("bench/parts/")} | CALLED
+
+
+def told(path):
+    """A script's status, and what it writes."""
+    done = subprocess.run(
+        [os.path.join(TOP, path), "--help"], stdin=subprocess.DEVNULL, stdout=subprocess.PIPE,
+        stderr=subprocess.STDOUT, universal_newlines=True, timeout=60)
+    return done.returncode, done.stdout
+
+
+class Help(unittest.TestCase):
+    def test_each_script(self):
+        scripts = sorted(all_scripts())
+        self.assertGreater(len(scripts), 40)
+        for path in scripts:  # before any is run, which would do what it does
+            with open(os.path.join(TOP, path), encoding="utf-8") as file:
+                self.assertRegex(file.read(), r"tell_usage\(__doc__\)|!= --help \]", path)
+        with ThreadPoolExecutor(4) as pool:
+            for path, (status, text) in zip(scripts, pool.map(told, scripts)):
+                with self.subTest(path=path):
+                    self.assertEqual(status, 0, text)
+                    self.assertIn(f"usage: {path}", text)
+                    self.assertNotIn("Traceback", text)

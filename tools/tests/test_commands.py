@@ -1,0 +1,170 @@
+"""The commands of a customer, and those of the program: the table of the reader, its meaning, and
+the usage text say one thing of each."""
+import os
+import re
+import unittest
+
+TOP = os.path.join(os.path.dirname(os.path.abspath(__file__)), "..", "..")
+
+# How the usage text tells the fields that may follow a command's first word.
+TOLD = {
+    "the_hose": "NAME:RATE ..",
+    "an_id": "(?:K|Q|ID)",
+    "one_link": "L",
+    "nothing": "",
+}
+
+# How the usage text tells what is no word of its own in the table of the program.
+ENDS = "NAME:RATE .."
+ABOUT_ITSELF = "--help | --version"
+# The definitions that put operands together, and the parameter for those that follow.
+JOINS = {"next_word", "name_and", "number_and"}
+FOLLOWING = "more"
+
+
+def read(*path):
+    with open(os.path.join(TOP, "crates", *path), encoding="utf-8") as file:
+        return file.read()
+
+
+class Commands(unittest.TestCase):
+    def setUp(self):
+        source = read("hose_proto", "src", "verb.rt")
+        self.usage = re.findall(r"// `(.*)`\n    (\w+),", source)
+        self.words = dict(re.findall(r'\(Verb::(\w+), b"(\S+)"\)', source))
+        meaning = read("hose_proto", "specs", "Command.antt")
+        self.lines = {verb: (word, fields.split()) for verb, word, fields in
+                      re.findall(r'verb_line verb\.(\w+) = \(codes "(\S+)", (.*)\)', meaning)}
+        self.help = [line.strip() for line in read("hosed_program", "src", "texts.rt").splitlines()]
+
+    def test_each_command_is_in_each_table(self):
+        names = [name for _, name in self.usage]
+        self.assertEqual(names, list(self.words))
+        self.assertEqual(names, list(self.lines))
+
+    def test_the_usage_of_a_command_is_its_word_and_its_fields(self):
+        for usage, name in self.usage:
+            word, fields = self.lines[name]
+            self.assertEqual(word, self.words[name])
+            told = " ".join([re.escape(word), *filter(None, (TOLD[field] for field in fields))])
+            self.assertRegex(usage, "^(CUSTOMER|operator) " + told + "$")
+
+    def test_the_usage_text_has_each_command_and_no_other(self):
+        told = [line for line in self.help if re.match("(CUSTOMER|operator) [a-z-]", line)]
+        self.assertEqual(len(told), len(self.usage))
+        for line, (usage, _) in zip(told, self.usage):
+            self.assertRegex(line, "^" + re.escape(usage) + "(  .*| the same.*|)$")
+
+
+def definition(text, name):
+    """The parameters and the right side of a definition that has one clause."""
+    found = re.search(rf"^{name}((?: \w+)*) =\s(.*?)(?=\n\n)", text, re.S | re.M)
+    return (found[1].split(), found[2]) if found else None
+
+
+def operands_of(text, row):
+    """The operands of a row, by the names that their values have there, in order."""
+    found = []
+    for bound, word in re.findall(r"λ (\w+)\.|([a-z]\w*)", row):
+        named = definition(text, word) if word and word not in JOINS else None
+        if bound:
+            found.append(bound.upper())
+        elif word == "end_words":
+            found.append(ENDS)
+        elif named:
+            found += [name.upper() for name in named[0] if name != FOLLOWING]
+            found += operands_of(text, named[1])
+    return found
+
+
+def options_of(text, kind):
+    """How options of a kind are told, in their order."""
+    tariff, live = (definition(text, f"{name}_option")[1].split('"')[1]
+                    for name in ("tariff", "live"))
+    told = [f"[{tariff} NAME]", f"[{live}]"]
+    return told[:["without", "by_tariff", "by_tariff_and_live"].index(kind)]
+
+
+def usage_of(text, word, row):
+    """The usage of a command, by its row: its word, its options, and its operands."""
+    kind, _, rest = row.partition(" ")
+    if kind == "tariff_and_any_file":
+        told = [*options_of(text, "by_tariff"), "[JOURNAL]"]
+    elif kind == "options_and_file":
+        options, _, operands = rest.partition(" ")
+        told = [*options_of(text, options), *operands_of(text, operands)]
+    else:
+        assert kind == "only_operands", row
+        told = operands_of(text, rest)
+    return " ".join([word, *told])
+
+
+def without_streams(usage):
+    """A usage without what it says of the input and of the output."""
+    return re.sub(r" [<>] [A-Z]+$", "", usage)
+
+
+class Program:
+    """What each file says of the commands of the program, in its order."""
+
+    def __init__(self, verb, meaning, texts):
+        self.usage = re.findall(r"/// `(.*)`\n    (\w+),", verb)
+        self.words = re.findall(r'\(ProgramVerb::(\w+), b"(\S+)"\)', verb)
+        rows = re.findall(r'^program_line command\.(\w+) =\s+\(\s*codes "(\S+)",\s+(.*?),?\s*\)$',
+                          meaning, re.S | re.M)
+        self.row_words = [(name, word) for name, word, _ in rows]
+        self.row_usage = [usage_of(meaning, word, " ".join(row.split())) for _, word, row in rows]
+        told = re.search(r'HELP: &str = "\\\n(.*?)\n\n', texts, re.S)[1]
+        self.help = [re.sub("^(usage:|      ) hosed ", "", line) for line in told.split("\n")]
+
+    def pairs(self):
+        """What has to be the same, two by two."""
+        names = [name for _, name in self.usage]
+        return {"words": (names, [name for name, _ in self.words]),
+                "words of rows": (self.words, self.row_words),
+                "usage of rows": ([without_streams(usage) for usage, _ in self.usage],
+                                  self.row_usage),
+                "usage text": ([*(usage for usage, _ in self.usage), ABOUT_ITSELF], self.help)}
+
+
+# A change of each file that makes it say another thing than the others.
+CHANGES = {
+    "verb": [("`audit [--tariff", "`audits [--tariff"), ("FROM > PACKETS", "[FROM] > PACKETS"),
+             ("TOPOLOGY < SHEET", "TOPOLOGY < SHEETS"), ('b"gen"', 'b"make"'),
+             ("(ProgramVerb::Ship", "(ProgramVerb::Follow")],
+    "meaning": [('codes "--live"', 'codes "--alive"'), ('codes "--tariff"', 'codes "--prices"'),
+                ("(λ from. no_more)", "no_more"), ("(λ from. no_more)", "(λ since. no_more)"),
+                ("by_tariff_and_live moved_names", "by_tariff moved_names"),
+                ("without (λ topology. no_more)", "by_tariff (λ topology. no_more)"),
+                ("(λ topology. end_words)", "(λ topology. no_more)"),
+                ('"serve", options', '"server", options'), ("λ new_journal.", "λ journal."),
+                ('"run", tariff_and_any_file', '"run", only_operands no_more'),
+                ("(λ nodes.\n", "(λ links.\n")],
+    "texts": [("[--tariff NAME] [--live]", "[--live] [--tariff NAME]"), ("RATE ..\n", "RATE\n"),
+              ("[JOURNAL] <", "JOURNAL <"), ("CONNECTIONS WORKERS", "WORKERS CONNECTIONS"),
+              ("       hosed price TOPOLOGY < SHEET\n", ""), ("check [--tariff NAME]", "check"),
+              ("usage: hosed run", "usage: hosed fly")],
+}
+
+
+class ProgramCommands(unittest.TestCase):
+    def setUp(self):
+        self.files = {"verb": read("hosed", "src", "verb.rt"),
+                      "meaning": read("hosed", "specs", "ProgramWords.antt"),
+                      "texts": read("hosed_program", "src", "texts.rt")}
+
+    def test_table_and_usage_text_say_one_thing(self):
+        program = Program(**self.files)
+        self.assertGreater(len(program.usage), 1)
+        for what, (one, other) in program.pairs().items():
+            with self.subTest(what):
+                self.assertEqual(one, other)
+
+    def test_a_change_of_one_of_them_is_found(self):
+        for name, changes in CHANGES.items():
+            for old, new in changes:
+                with self.subTest(name, old=old, new=new):
+                    self.assertIn(old, self.files[name])
+                    changed = {**self.files, name: self.files[name].replace(old, new, 1)}
+                    pairs = Program(**changed).pairs().values()
+                    self.assertTrue(any(one != other for one, other in pairs))

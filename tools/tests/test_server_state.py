@@ -1,0 +1,72 @@
+"""Tests of server_state.py, by locks and a server of this process."""
+import fcntl
+import os
+import tempfile
+import unittest
+from unittest import mock
+
+import server_state
+from tests.fake_server import FakeServer
+
+WELCOME, LINK = b"welcome at 0\n", b"link 0 a b capacity 9 cost 1 load 0 at 0\n"
+LOCKS = """1: FLOCK  ADVISORY  WRITE 77 {other} 0 EOF
+2: FLOCK  ADVISORY  WRITE 78 {one} 0 EOF
+2: -> FLOCK  ADVISORY  WRITE 79 {one} 0 EOF
+"""
+
+
+class Held(unittest.TestCase):
+    def setUp(self):
+        folder = tempfile.TemporaryDirectory()
+        self.addCleanup(folder.cleanup)
+        self.path, self.locks = (os.path.join(folder.name, name) for name in ("journal", "locks"))
+        with open(self.path, "w", encoding="ascii"):
+            self.inode = os.stat(self.path).st_ino
+
+    def told(self, major, minor, locks):
+        """Whether the file is held where it is on this device and these are the locks."""
+        with open(self.locks, "w", encoding="ascii") as file:
+            file.write(locks)
+        state = mock.Mock(st_dev=os.makedev(major, minor), st_ino=self.inode)
+        with mock.patch("os.stat", return_value=state):
+            return server_state.is_held(self.path, self.locks)
+
+    def test_locks_as_the_system_tells_them(self):
+        one, other = f"fe:01:{self.inode}", f"fe:01:{self.inode + 1}"
+        for major, minor, held in ((0xfe, 1, True), (0xfe, 2, False), (0, 44, True)):
+            self.assertEqual(self.told(major, minor, LOCKS.format(one=one, other=other)), held)
+        self.assertIs(self.told(0xfe, 1, LOCKS.format(one=other, other=other)), False)
+        self.assertIs(self.told(0xfe, 1, ""), False)
+        self.assertIs(self.told(0xfe, 1, "what is no lock\n"), False)
+        self.assertIsNone(server_state.is_held(self.path, f"{self.locks}.none"))
+        self.assertIsNone(server_state.is_held(f"{self.path}.none", self.locks))
+
+    @unittest.skipUnless(os.path.exists(server_state.LOCKS), "this system tells no locks")
+    def test_a_lock(self):
+        with open(self.path, encoding="ascii") as file:
+            self.assertIs(server_state.is_held(self.path), False)
+            fcntl.flock(file, fcntl.LOCK_EX)
+            self.assertIs(server_state.is_held(self.path), True)
+        self.assertIs(server_state.is_held(self.path), False)
+
+
+class Questions(unittest.TestCase):
+    def test_a_session_that_stays_and_one_that_is_lost(self):
+        with FakeServer([WELCOME, LINK, b"memory\n"], [WELCOME, LINK]) as server:
+            question = server_state.Question(server.port, "metrics", 5)
+            self.addCleanup(question.close)
+            told = []
+            for _ in range(4):
+                question.ask()
+                told.append((question.answers, question.seconds.samples()[-1].value))
+        # A refusal is an answer, too; the third question has none, and the fourth a new session.
+        self.assertEqual(told, [(True, 1), (True, 2), (False, 2), (True, 3)])
+        self.assertEqual(server.lines, ["hello metrics", "link 0", "link 0", "hello metrics",
+                                        "link 0"])
+
+    def test_nobody_is_there(self):
+        question = server_state.Question("/nowhere/socket", "metrics", 5)
+        question.ask()
+        names = [family.name for family in question.families()]
+        self.assertEqual((question.answers, names),
+                         (False, ["hosed_answers", "hosed_answer_seconds"]))
