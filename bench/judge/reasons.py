@@ -10,7 +10,7 @@ Files that no words name lie beside, and have to stay as they are. Ends with sta
 status, a sentence, an output that is written here or such a file is another one. The gate runs it,
 since no clause says what `main` does around the one call that it makes.
 
-usage: bench/reasons.py [PROGRAM]
+usage: bench/judge/reasons.py [PROGRAM]
 
 The PROGRAM is crates/hosed_main/out/hosed_main where none is named. It listens at a port of
 127.0.0.1 at most, and its files lie in a folder that is removed at the end. One trial reads 1 GiB,
@@ -24,9 +24,9 @@ import subprocess
 import sys
 import tempfile
 
-from usage import tell_usage
+sys.path.insert(0, os.path.join(os.path.dirname(os.path.abspath(__file__)), "..", "parts"))
+from usage import TOP, tell_usage
 
-TOP = os.path.join(os.path.dirname(os.path.abspath(__file__)), "..")
 PROGRAM = os.path.join(TOP, "crates", "hosed_main", "out", "hosed_main")
 SECONDS = 120  # after which a program hangs
 NOBODY = 65_534  # a user without rights
