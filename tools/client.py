@@ -25,6 +25,7 @@ from typing import Callable, ClassVar, Dict, Iterable, Mapping, Optional, Tuple,
 
 import networks
 import reply_tables
+from lines import COMMANDS, FIELD_KINDS, ORDERS, PARTS, fields_of, first_word, told
 
 HOST = "127.0.0.1"
 TIMEOUT = 60.0  # seconds for a connection and for each reply
@@ -37,12 +38,12 @@ PAUSE = 0.2  # seconds before the second of them, and twice as long before each 
 
 
 class Reply:
-    """What the server answers to a line. In `form` a field stands for its value's text."""
+    """What the server answers to a line; `line` is its name in the table of lines.py."""
 
-    form: ClassVar[str] = ""
+    line: ClassVar[str] = ""
 
     def __str__(self):
-        return FIELD.sub(lambda found: spelled(getattr(self, found[1])), self.form)
+        return told(self.line, *(getattr(self, name) for name in fields_of(self.line)))
 
 
 class Refusal(Reply, Exception):
@@ -51,13 +52,13 @@ class Refusal(Reply, Exception):
 
 @dataclass
 class Welcome(Reply):
-    form = "welcome at <epoch>"
+    line = "Welcome"
     epoch: int
 
 
 @dataclass
 class Admitted(Reply):
-    form = "admitted <id> cost <cost> at <epoch> links <links>"
+    line = "Admitted"
     id: int
     cost: int
     epoch: int
@@ -67,7 +68,7 @@ class Admitted(Reply):
 
 @dataclass
 class Quoted(Reply):
-    form = "quoted <quote> cost <cost> at <epoch> links <links>"
+    line = "Quoted"
     quote: int
     cost: int
     epoch: int
@@ -76,14 +77,14 @@ class Quoted(Reply):
 
 @dataclass
 class Released(Reply):
-    form = "released <id> at <epoch>"
+    line = "Released"
     id: int
     epoch: int
 
 
 @dataclass
 class Vpn(Reply):
-    form = "vpn <id> cost <cost> at <epoch> ends <ends> links <links>"
+    line = "Shown"
     id: int
     cost: int
     epoch: int
@@ -94,7 +95,7 @@ class Vpn(Reply):
 
 @dataclass
 class Vpns(Reply):
-    form = "vpns<ids> at <epoch>"
+    line = "Vpns"
     ids: Tuple[int, ...]
     """The numbers of the customer's live VPNs, ascending."""
     epoch: int
@@ -106,7 +107,7 @@ class Vpns(Reply):
 
 @dataclass
 class LinkState(Reply):
-    form = "link <link> <a> <b> capacity <capacity> cost <cost> load <load><out> at <epoch>"
+    line = "LinkState"
     link: int
     a: str
     b: str
@@ -120,26 +121,26 @@ class LinkState(Reply):
 
 @dataclass
 class Down(Reply):
-    form = "down <link> at <epoch>"
+    line = "Down"
     link: int
     epoch: int
 
 
 @dataclass
 class Up(Reply):
-    form = "up <link> at <epoch>"
+    line = "Up"
     link: int
     epoch: int
 
 
 @dataclass
 class Bye(Reply):
-    form = "bye"
+    line = "Bye"
 
 
 @dataclass(eq=False)
 class Refused(Refusal):
-    form = "refused at <epoch> side <side>"
+    line = "Refused"
     epoch: int
     side: Tuple[str, ...]
     """The nodes that the lowest-numbered endpoint reaches over links with enough room."""
@@ -147,7 +148,7 @@ class Refused(Refusal):
 
 @dataclass(eq=False)
 class Stale(Refusal):
-    form = "stale <quoted_at> <epoch>"
+    line = "Stale"
     quoted_at: int
     epoch: int
 
@@ -156,7 +157,7 @@ class Stale(Refusal):
 class Newest(Refusal):
     """Another VPN is the customer's newest than was known when the order was given."""
 
-    form = "newest <id> at <epoch>"
+    line = "Newest"
     id: int
     """The newest live VPN of the customer; 0 where there is none."""
     epoch: int
@@ -164,21 +165,21 @@ class Newest(Refusal):
 
 @dataclass(eq=False)
 class NoVpn(Refusal):
-    form = "no vpn <id> at <epoch>"
+    line = "NoVpn"
     id: int
     epoch: int
 
 
 @dataclass(eq=False)
 class NoQuote(Refusal):
-    form = "no quote <quote> at <epoch>"
+    line = "NoQuote"
     quote: int
     epoch: int
 
 
 @dataclass(eq=False)
 class TooManyQuotes(Refusal):
-    form = "too many quotes at <epoch>"
+    line = "TooMany"
     epoch: int
 
 
@@ -186,7 +187,7 @@ class TooManyQuotes(Refusal):
 class Already(Refusal):
     """The link is out of service, or in service, as was asked for."""
 
-    form = "already <link> at <epoch>"
+    line = "Already"
     link: int
     epoch: int
 
@@ -195,19 +196,19 @@ class Already(Refusal):
 class Denied(Refusal):
     """Only the customer `operator` may ask for this."""
 
-    form = "denied at <epoch>"
+    line = "Denied"
     epoch: int
 
 
 @dataclass(eq=False)
 class Full(Refusal):
-    form = "full at <epoch>"
+    line = "Full"
     epoch: int
 
 
 @dataclass(eq=False)
 class Spent(Refusal):
-    form = "spent at <epoch>"
+    line = "Spent"
     epoch: int
 
 
@@ -215,25 +216,25 @@ class Spent(Refusal):
 class DiskFailed(Refusal):
     """Nothing was entered; until the next order a stop may leave the entry all the same."""
 
-    form = "disk at <epoch>"
+    line = "Disk"
     epoch: int
 
 
 @dataclass(eq=False)
 class OutOfMemory(Refusal):
-    form = "memory"
+    line = "Memory"
 
 
 @dataclass(eq=False)
 class Bad(Refusal):
-    form = "bad <word>"
+    line = "Bad"
     word: int
     """The first word that is not allowed, counted from 1."""
 
 
 @dataclass(eq=False)
 class TooLong(Refusal):
-    form = "long"
+    line = "Long"
 
 
 class ConnectionLost(ConnectionError):
@@ -259,17 +260,17 @@ class MalformedReply(Exception):
 FAULTS = (Refusal, ConnectionLost, MalformedReply)
 """All that a session raises of what the server does."""
 
-FIELD = re.compile("<([a-z_]+)>")
 NUMBER = "(?:0|[1-9][0-9]{0,19})"
 NAME = "[a-z0-9-]{1,16}"
+# Of each kind of field a pattern with the space before it, as there may be no number and no flag.
 TEXTS = {
-    "a": NAME,
-    "b": NAME,
-    "out": "(?: out)?",
-    "side": f"{NAME}(?: {NAME})*",
-    "ids": f"(?: {NUMBER})*",
-    "ends": f"{NAME}:{NUMBER}(?: {NAME}:{NUMBER})*",
-    "links": f"{NUMBER}:{NUMBER}(?: {NUMBER}:{NUMBER})*",
+    "number": f" ({NUMBER})",
+    "name": f" ({NAME})",
+    "flag out": "((?: out)?)",
+    "names": f" ({NAME}(?: {NAME})*)",
+    "numbers": f"((?: {NUMBER})*)",
+    "ends": f" ({NAME}:{NUMBER}(?: {NAME}:{NUMBER})*)",
+    "amounts": f" ({NUMBER}:{NUMBER}(?: {NUMBER}:{NUMBER})*)",
 }
 
 
@@ -291,33 +292,22 @@ def ascending(text: str) -> Tuple[int, ...]:
 
 
 VALUES = {
-    "a": str,
-    "b": str,
-    "out": bool,
-    "side": lambda text: tuple(text.split(" ")),
-    "ids": ascending,
+    "number": int,
+    "name": str,
+    "flag out": bool,
+    "names": lambda text: tuple(text.split(" ")),
+    "numbers": ascending,
     "ends": lambda text: table(text, str),
-    "links": lambda text: table(text, int),
+    "amounts": lambda text: table(text, int),
 }
-
-
-def spelled(value) -> str:
-    """The text of a field."""
-    if isinstance(value, bool):
-        return " out" if value else ""
-    if isinstance(value, dict):
-        return " ".join(f"{one}:{amount}" for one, amount in value.items())
-    if not isinstance(value, tuple):
-        return str(value)
-    # Of numbers there may be none, so a space stands before each.
-    is_numbers = all(isinstance(one, int) for one in value)
-    return "".join(f" {one}" for one in value) if is_numbers else " ".join(value)
 
 
 def reader_of(kind):
     """A kind of reply with the pattern of its lines, and how each field is read."""
-    pattern = FIELD.sub(lambda found: f"({TEXTS.get(found[1], NUMBER)})", kind.form)
-    return kind, re.compile(pattern), [VALUES.get(name, int) for name in FIELD.findall(kind.form)]
+    parts = [(FIELD_KINDS.get(word, "number") if is_field else None, word)
+             for word, is_field in PARTS[kind.line]]
+    pattern = "".join(TEXTS[what] if what else f" {word}" for what, word in parts)
+    return kind, re.compile(pattern[1:]), [VALUES[what] for what, _ in parts if what]
 
 
 KINDS = [
@@ -326,7 +316,7 @@ KINDS = [
 ]
 READERS = {}  # by the first word
 for _kind in KINDS:
-    READERS.setdefault(re.split("[ <]", _kind.form)[0], []).append(reader_of(_kind))
+    READERS.setdefault(first_word(_kind.line), []).append(reader_of(_kind))
 
 
 def read_reply(line: str) -> Optional[Reply]:
@@ -436,17 +426,21 @@ class Lines:
 
 # ---- Sessions.
 
-# The reply to each command where it is not refused, and the field that repeats a reply's number.
-DONE = {
-    "hello": Welcome, "admit": Admitted, "admit-after": Admitted, "quote": Quoted,
-    "take": Admitted, "release": Released, "show": Vpn, "vpns": Vpns, "link": LinkState,
-    "down": Down, "up": Up, "bye": Bye,
-}
+
+
+def done(command: str):
+    """The kind of reply to a command where it is not refused."""
+    (kind,) = (kind for kind in KINDS
+               if kind.line in COMMANDS[command].replies and not issubclass(kind, Refusal))
+    return kind
+
+
+DONE = {"hello": Welcome, **{command: done(command) for command in COMMANDS}, "bye": Bye}
+# The field that repeats the number of a command.
 REPEATS = {
     Released: "id", Vpn: "id", NoVpn: "id", NoQuote: "quote",
     LinkState: "link", Down: "link", Up: "link", Already: "link",
 }
-ORDERS = ("admit", "admit-after", "take", "release", "down", "up")
 
 
 def answers(reply: Reply, line: str) -> bool:

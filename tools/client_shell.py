@@ -12,6 +12,7 @@ from typing import Callable, Dict, List, NamedTuple, Optional
 
 import client
 import networks
+from lines import COMMANDS, ENDS, ORDERS, usage
 from reply_tables import tabled
 
 try:
@@ -30,26 +31,27 @@ class Help(NamedTuple):
     what: str
 
 
-ENDS = "NAME:RATE ..: 2 to 64 nodes, each with the rate that it sends and is sent together."
-COMMANDS: Dict[str, Help] = {
-    "admit": Help("admit NAME:RATE ..", f"""{ENDS}
+HOSE = f"{ENDS}: 2 to 64 nodes, each with the rate that it sends and is sent together."
+OPERATOR = "for the customer `operator` alone."
+HELPS: Dict[str, Help] = {
+    "admit": Help(usage("admit"), f"""{HOSE}
 Admits a VPN: `admitted ID cost C at N links L:R ..`, or `refused at N side ..` where the links that
 lead out of the side are too full. Here it is given as `admit-after`, so that one VPN comes of it
 also where the connection is lost."""),
-    "admit-after": Help("admit-after K NAME:RATE ..", f"""{ENDS}
+    "admit-after": Help(usage("admit-after"), f"""{HOSE}
 Admits a VPN where K is your newest one, or 0 and you have none; else `newest M at N`, and nothing
 is done."""),
-    "quote": Help("quote NAME:RATE ..", f"""{ENDS}
+    "quote": Help(usage("quote"), f"""{HOSE}
 Plans as `admit` does, and reserves nothing: `quoted Q cost C at N links L:R ..`. 16 are held."""),
-    "take": Help("take Q", """\
+    "take": Help(usage("take"), """\
 Admits what was quoted under the number Q, or says `stale S N` where what decides has changed."""),
-    "release": Help("release ID", "Gives your VPN ID up, and frees what it reserved."),
-    "show": Help("show ID", "Your VPN ID: what it costs, its endpoints, its links."),
-    "vpns": Help("vpns", "The numbers of your live VPNs, in the order of their admission."),
-    "link": Help("link L", """\
+    "release": Help(usage("release"), "Gives your VPN ID up, and frees what it reserved."),
+    "show": Help(usage("show"), "Your VPN ID: what it costs, its endpoints, its links."),
+    "vpns": Help(usage("vpns"), "The numbers of your live VPNs, in the order of their admission."),
+    "link": Help(usage("link"), """\
 The link L: its nodes, capacity, cost and load, and `out` where it is out of service."""),
-    "down": Help("down L", "Takes the link L out of service; for the customer `operator` alone."),
-    "up": Help("up L", "Puts the link L back into service; for the customer `operator` alone."),
+    "down": Help(usage("down"), f"Takes the link L out of service; {OPERATOR}"),
+    "up": Help(usage("up"), f"Puts the link L back into service; {OPERATOR}"),
     "help": Help("help [COMMAND]", "The commands, or one of them."),
     "table": Help("table", "Replies as tables, or as lines again."),
     "again": Help("again", """\
@@ -94,20 +96,21 @@ class Known:
     def offered(self, words: List[str]) -> List[str]:
         """What may stand behind words of a line."""
         if not words:
-            return [f"{name} " for name in COMMANDS]
-        command = words[0]
+            return [f"{name} " for name in HELPS]
+        command, *said = words
         if command == "help":
-            return [name for name in COMMANDS if len(words) == 1]
-        if command == "admit-after" and len(words) == 1:
-            return [f"{self.vpns[-1] if self.vpns else 0} "]
-        if command in ("admit", "admit-after", "quote"):
-            named = {word.partition(":")[0] for word in words[1:]}
+            return [name for name in HELPS if not said]
+        fields = COMMANDS[command].fields if command in COMMANDS else ()
+        field = fields[min(len(said), len(fields) - 1)] if fields else None
+        if field == ENDS:
+            named = {word.partition(":")[0] for word in said}
             return [f"{name}:" for name in self.nodes if name not in named]
-        if len(words) > 1:
+        if len(said) >= len(fields):
             return []
-        numbers = {"release": self.vpns, "show": self.vpns, "take": self.quotes,
-                   "link": range(self.links), "down": range(self.links), "up": range(self.links)}
-        return [str(number) for number in numbers.get(command, ())]
+        if field == "K":
+            return [f"{self.vpns[-1] if self.vpns else 0} "]
+        numbers = {"ID": self.vpns, "Q": self.quotes, "L": range(self.links)}
+        return [str(number) for number in numbers[field]]
 
 
 # ---- The shell.
@@ -170,17 +173,17 @@ class Shell:
         """What is to be said of a line whose reply did not come."""
         if self.in_doubt:
             return "; it may have been done: `again` goes on with it"
-        is_order = words[0] in client.ORDERS
+        is_order = words[0] in ORDERS
         return f"; `{' '.join(words)}` may have been done" if is_order else ""
 
     def help(self, words: List[str]) -> None:
-        if words and words[0] in COMMANDS:
-            self.say(f"{COMMANDS[words[0]].usage}\n{COMMANDS[words[0]].what}")
+        if words and words[0] in HELPS:
+            self.say(f"{HELPS[words[0]].usage}\n{HELPS[words[0]].what}")
             return
         if words:
             self.say(f"there is no command {words[0]}")
-        for name in COMMANDS:
-            self.say(f"  {COMMANDS[name].usage}")
+        for name in HELPS:
+            self.say(f"  {HELPS[name].usage}")
         self.say("`help COMMAND` tells more; docs/GUIDE.md has every reply")
 
     def show(self, reply: client.Reply) -> None:
@@ -295,11 +298,11 @@ class Shell:
 
     def learn(self, command: str) -> None:
         """Asks for what the words of a command are."""
-        if command in ("release", "show", "admit-after"):
+        fields = COMMANDS[command].fields if command in COMMANDS else ()
+        if "ID" in fields or "K" in fields:
             self.known.take(self._session.vpns())
-        if command in ("admit", "admit-after", "quote", "link", "down", "up"):
-            if not self.known.nodes:
-                self.known.learn_network(self._session)
+        if (ENDS in fields or "L" in fields) and not self.known.nodes:
+            self.known.learn_network(self._session)
 
 
 # ---- At a terminal.

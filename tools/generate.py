@@ -28,6 +28,7 @@ from typing import Iterator, List, NamedTuple
 
 import client
 import networks
+from lines import COMMANDS
 
 CUSTOMERS = 8
 
@@ -46,6 +47,7 @@ SEEDS = Range(0, 2**64 - 1)
 NODES = Range(6, 512)
 MOST_LINKS = 2048
 HOSES = Range(0, 20_000)
+WANTS = ("Spent", "Full", "Disk", "Memory")  # of what a generated script has enough
 
 
 class Sizes(NamedTuple):
@@ -131,11 +133,9 @@ def script(sizes: Sizes) -> List[str]:
     return list(lines(sizes))[sizes.nodes + sizes.links + 1:]
 
 
-def answers(command: str):
-    """The kinds of replies that a command may have."""
-    if command == "admit":
-        return client.Admitted, client.Refused
-    return client.Released, client.NoVpn
+def answers(command: str) -> List[str]:
+    """The names of the replies that a command of the script may have."""
+    return [reply for reply in COMMANDS[command].replies if reply not in WANTS]
 
 
 def summary(sizes: Sizes, output: str) -> str:
@@ -144,7 +144,7 @@ def summary(sizes: Sizes, output: str) -> str:
     admitted, counts, epoch = [], {client.Refused: 0, client.Released: 0, client.NoVpn: 0}, 0
     for at, (line, reply_line) in enumerate(zip(asked, told), 1):
         reply = client.read_reply(reply_line)
-        if not isinstance(reply, answers(line.split(" ")[1])):
+        if reply is None or reply.line not in answers(line.split(" ")[1]):
             what = f"{networks.shown(reply_line)} is no reply to {networks.shown(line)}"
             raise networks.WrongText(at, what)
         epoch = reply.epoch

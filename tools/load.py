@@ -38,12 +38,13 @@ from typing import Callable, Dict, List, NamedTuple, Optional
 
 import client
 import networks
+from lines import COMMANDS, has_hose
 
 MOST_CUSTOMERS = 256
 MOST_HELD, MOST_QUOTES = 100, 16  # of each customer
 MOST_ENDS, MOST_RATE = 4, 10  # of each hose
 MIX = "admit:4,quote:3,take:3,release:4,show:3,link:3"
-KINDS = ("admit", "admit-after", "quote", "take", "release", "show", "vpns", "link")
+KINDS = tuple(word for word, command in COMMANDS.items() if command.who == "CUSTOMER")
 FORK = multiprocessing.get_context("fork")
 
 
@@ -176,24 +177,24 @@ class Customer:
             kind = "admit" if kind == "release" else "link"
         if kind == "quote" and len(self.quotes) == MOST_QUOTES:
             kind = "take"
-        if kind in ("admit", "admit-after", "take") and len(self.held) == MOST_HELD:
+        if COMMANDS[kind].entered == "Admitted" and len(self.held) == MOST_HELD:
             kind = "release"
         return kind
 
     def line(self, kind: str) -> str:
-        draw = self.draw
-        if kind in ("admit", "admit-after", "quote"):
+        draw, fields = self.draw, COMMANDS[kind].fields
+        if has_hose(kind):
             most = min(MOST_ENDS, len(self.network.nodes))
             nodes = draw.sample(self.network.nodes, draw.randint(2, most))
             ends = client.hose({node: draw.randint(1, MOST_RATE) for node in nodes})
-            return f"{kind} {self.known} {ends}" if kind == "admit-after" else f"{kind} {ends}"
-        if kind == "vpns":
+            return f"{kind} {self.known} {ends}" if "K" in fields else f"{kind} {ends}"
+        if not fields:
             return kind
-        if kind == "link":
-            return f"link {draw.randrange(self.network.links)}"
-        if kind == "show":
-            return f"show {draw.choice(self.held)}"
-        numbers = self.quotes if kind == "take" else self.held
+        if fields == ("L",):
+            return f"{kind} {draw.randrange(self.network.links)}"
+        numbers = self.quotes if fields == ("Q",) else self.held
+        if not COMMANDS[kind].entered:
+            return f"{kind} {draw.choice(numbers)}"
         return f"{kind} {numbers.pop(draw.randrange(len(numbers)))}"
 
     def step(self, session: client.Session) -> None:

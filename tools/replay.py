@@ -42,6 +42,7 @@ from typing import List, NamedTuple, Tuple, Union
 
 import client
 import networks
+from lines import COMMANDS
 
 
 class Move(NamedTuple):
@@ -73,8 +74,7 @@ def may_answer(reply, vpn: networks.Vpn) -> bool:
     """Whether a reply may be that to the VPN's line."""
     if isinstance(reply, client.Bad):
         return 1 <= reply.word <= 2 + len(vpn.ends)
-    kinds = (client.Admitted, client.Refused, client.Full, client.Spent, client.DiskFailed)
-    return isinstance(reply, (*kinds, client.OutOfMemory, client.TooLong))
+    return reply is not None and reply.line in (*COMMANDS["admit"].replies, "Long")
 
 
 def moves(audit: networks.Audit, output: str) -> List[Move]:

@@ -6,9 +6,10 @@
   CONTRIBUTING.md        the files that name a reply, a command and an entry
   README.md, docs/PROOFS.md
                          how long the statement is
+  tools/lines.py         the tables of commands and replies
 
 A made part stands between `<!-- made: NAME -->` and `<!-- end of NAME -->`, on lines of their own
-or within one. All else is written by hand, and stays. Run it after each change of a comment, an
+or within one, and in Python between `# ---- made: NAME` and `# ---- end of NAME`. All else is written by hand, and stays. Run it after each change of a comment, an
 import or a usage text, and after each merge, whose conflicts within a made part are gone then: the
 tests of tools/ fail where a made part is not what it makes. Ends with status 1 where `--check`
 finds such a part, or a marker is missing.
@@ -21,6 +22,7 @@ import re
 import sys
 
 import imports
+import line_tables
 from definitions import ENDINGS, TOP, crates_of, files_of
 from resolve import Repository
 from statement import Statement
@@ -28,7 +30,8 @@ from statement import Statement
 TEXTS = "crates/hosed_program/src/texts.rt"
 PARTS = {"README.md": ["statement"], "docs/PROOFS.md": ["statement"],
          "docs/ARCHITECTURE.md": ["crates", "imports"], "docs/GUIDE.md": ["glossary", "usage"],
-         "CONTRIBUTING.md": ["places"]}
+         "CONTRIBUTING.md": ["places"], "tools/lines.py": ["lines"]}
+MARKERS = {".md": "<!-- {} -->", ".py": "# ---- {}"}
 EXAMPLES = [("Reply", "NoQuote"), ("Command", "Take"), ("Command", "Vpns"), ("Entry", "Release")]
 
 
@@ -36,9 +39,9 @@ class MarkerMissing(Exception):
     """A document has not just one pair of the markers of a part."""
 
 
-def replaced(text, name, made):
+def replaced(text, name, made, marker="<!-- {} -->"):
     """The text with a made part between its markers."""
-    begin, end = f"<!-- made: {name} -->", f"<!-- end of {name} -->"
+    begin, end = marker.format(f"made: {name}"), marker.format(f"end of {name}")
     if text.count(begin) != 1 or text.count(end) != 1 or text.index(begin) > text.index(end):
         raise MarkerMissing(f"{begin} or {end} does not stand there once")
     before, _, rest = text.partition(begin)
@@ -131,6 +134,11 @@ def glossary_text(top):
                       *(f"| {word} | {meaning} |" for word, meaning in rows)])
 
 
+def lines_text(top):
+    """The tables of commands and replies."""
+    return "\n".join([line_tables.commands_text(top), line_tables.replies_text(top)])
+
+
 def cell(text):
     """Text as it may stand in a line of a list."""
     return text.replace("<", "&lt;") if re.search(r"<[a-zA-Z/!]", text) else text
@@ -144,7 +152,8 @@ def made_parts(top, statement):
               "imports": lambda: imports.table(top),
               "usage": lambda: usage_text(top),
               "glossary": lambda: glossary_text(top),
-              "places": lambda: places_text(top)}
+              "places": lambda: places_text(top),
+              "lines": lambda: lines_text(top)}
     made = {name: make() for name, make in makers.items()}
     problems = statement.problems()
     if problems:
@@ -161,7 +170,7 @@ def stale_parts(top=TOP, write=False, statement=None):
         if document not in texts:
             with open(os.path.join(top, document), encoding="utf-8") as file:
                 texts[document] = file.read()
-        text = replaced(texts[document], name, made)
+        text = replaced(texts[document], name, made, MARKERS[document[-3:]])
         if text != texts[document]:
             found.append((document, name))
             texts[document] = text

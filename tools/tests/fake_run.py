@@ -3,6 +3,10 @@ import os
 import threading
 from typing import NamedTuple, Optional
 
+from lines import COMMANDS, told
+
+HOSE, LINKS = {"a": 1, "b": 1}, {0: 1}  # of each VPN that is told
+
 
 class End(NamedTuple):
     """In place of a reply: the run ends, with a status and perhaps a last line."""
@@ -34,30 +38,31 @@ class FakeBook:
         number = words[2] if len(words) > 2 else ""
         held = self.quotes.setdefault(customer, [])
         own = [one for one, name in self.live.items() if name == customer]
-        if command == "admit-after" and number != (own or ["0"])[-1]:
-            return f"newest {(own or ['0'])[-1]} at {self.epoch}"
-        if command in ("admit", "admit-after") or command == "take" and number in held:
+        newest, is_own = (own or ["0"])[-1], self.live.get(number) == customer
+        if command == "admit-after" and number != newest:
+            return told("Newest", newest, self.epoch)
+        entered = COMMANDS[command].entered if command in COMMANDS else None
+        if entered == "Admitted" and (command != "take" or number in held):
             self.epoch += 1
             self.live[str(self.epoch)] = customer
             if command == "take":
                 held.remove(number)
-            return f"admitted {self.epoch} cost 1 at {self.epoch} links 0:1"
+            return told(entered, self.epoch, 1, self.epoch, LINKS)
         if command == "quote":
             held.append(str(len(held) + 1))
-            return f"quoted {held[-1]} cost 1 at {self.epoch} links 0:1"
-        if command == "release" and self.live.get(number) == customer:
+            return told("Quoted", held[-1], 1, self.epoch, LINKS)
+        if entered == "Released" and is_own:
             self.epoch += 1
             del self.live[number]
-            return f"released {number} at {self.epoch}"
-        if command == "show" and self.live.get(number) == customer:
-            return f"vpn {number} cost 1 at {self.epoch} ends a:1 b:1 links 0:1"
+            return told(entered, number, self.epoch)
         return {
-            "take": f"no quote {number} at {self.epoch}",
-            "release": f"no vpn {number} at {self.epoch}",
-            "vpns": " ".join(["vpns", *own, f"at {self.epoch}"]),
-            "show": f"no vpn {number} at {self.epoch}",
-            "link": f"link 0 a b capacity 9 cost 1 load 0 at {self.epoch}",
-        }.get(command, "bad 2")
+            "take": told("NoQuote", number, self.epoch),
+            "release": told("NoVpn", number, self.epoch),
+            "vpns": told("Vpns", own, self.epoch),
+            "show": (told("Shown", number, 1, self.epoch, HOSE, LINKS) if is_own
+                     else told("NoVpn", number, self.epoch)),
+            "link": told("LinkState", 0, "a", "b", 9, 1, 0, False, self.epoch),
+        }.get(command, told("Bad", 2))
 
 
 class FakeRun:

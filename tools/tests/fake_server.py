@@ -2,6 +2,10 @@
 import socket
 import threading
 
+from lines import COMMANDS, told
+
+HOSE, LINKS = {"a": 1, "b": 1}, {0: 1}  # of each VPN that is told
+
 
 class FakeServer:
     """Accepts connections one after the other. In each it reads a line, says the next text of that
@@ -96,22 +100,23 @@ class FakeHosed(FakeServer):
     def reply(self, command, number="1"):
         newest = max(self.live, default=0)
         if command == "admit-after" and number != str(newest):
-            return f"newest {newest} at {self.epoch}"
-        if command in ("admit", "admit-after", "take"):
+            return told("Newest", newest, self.epoch)
+        entered = COMMANDS[command].entered if command in COMMANDS else None
+        if entered == "Admitted":
             self.epoch += 1
             self.live.add(self.epoch)
-            return f"admitted {self.epoch} cost 1 at {self.epoch} links 0:1"
-        if command == "release":
+            return told(entered, self.epoch, 1, self.epoch, LINKS)
+        if entered == "Released":
             self.epoch += 1
             self.live.remove(int(number))
-            return f"released {number} at {self.epoch}"
+            return told(entered, number, self.epoch)
         if command == "link" and number != "0":
-            return "bad 2"
+            return told("Bad", 2)
         return {
-            "hello": f"welcome at {self.epoch}",
-            "vpns": " ".join(["vpns", *map(str, sorted(self.live)), f"at {self.epoch}"]),
-            "quote": f"quoted 1 cost 1 at {self.epoch} links 0:1",
-            "show": f"vpn {number} cost 1 at {self.epoch} ends a:1 b:1 links 0:1",
-            "link": f"link 0 a b capacity 9 cost 1 load 0 at {self.epoch}",
-            "bye": "bye",
+            "hello": told("Welcome", self.epoch),
+            "vpns": told("Vpns", sorted(self.live), self.epoch),
+            "quote": told("Quoted", 1, 1, self.epoch, LINKS),
+            "show": told("Shown", number, 1, self.epoch, HOSE, LINKS),
+            "link": told("LinkState", 0, "a", "b", 9, 1, 0, False, self.epoch),
+            "bye": told("Bye"),
         }[command]

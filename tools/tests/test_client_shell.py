@@ -9,7 +9,7 @@ import time
 import unittest
 
 import client
-from client_shell import COMMANDS, Known, Shell
+from client_shell import HELPS, Known, Shell
 from reply_tables import tabled
 from tests.fake_server import FakeServer
 from tests.runs import TOOLS, within
@@ -145,14 +145,14 @@ class Lines(unittest.TestCase):
     def test_help(self):
         with FakeServer([WELCOME, BYE]) as server:
             said, _ = typed(server, "help", "help take", "help fly")
-        for name in COMMANDS:
-            self.assertIn(f"  {COMMANDS[name].usage}", said)
+        for name in HELPS:
+            self.assertIn(f"  {HELPS[name].usage}", said)
         self.assertTrue(any(line.startswith("take Q\nAdmits what was quoted") for line in said))
         self.assertIn("there is no command fly", said)
 
     def test_each_command_has_help(self):
         self.assertEqual(set(client.DONE) - {"hello"},
-                         set(COMMANDS) - {"help", "table", "again"})
+                         set(HELPS) - {"help", "table", "again"})
 
 
 class Completion(unittest.TestCase):

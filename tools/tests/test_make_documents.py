@@ -11,6 +11,7 @@ import make_documents
 from definitions import TOP
 from resolve import Repository
 from statement import Statement
+from tests.test_lines import write_lines
 from tests.test_statement import GO, TREE, whole, write_tree
 
 TEXTS = """\
@@ -132,6 +133,7 @@ class Documents(unittest.TestCase):
         and differs no more; so do those of its length once a definition has come."""
         with tempfile.TemporaryDirectory() as folder:
             write_tree(folder, {**TREE, make_documents.TEXTS: TEXTS})
+            write_lines(folder)
             for document in make_documents.PARTS:
                 os.makedirs(os.path.join(folder, os.path.dirname(document)), exist_ok=True)
                 shutil.copy(os.path.join(TOP, document), os.path.join(folder, document))
