@@ -34,7 +34,6 @@ from usage import TOP, tell_usage
 
 TOOLS = os.path.join(TOP, "tools")
 sys.path.insert(0, TOOLS)
-import client
 import journals
 import networks
 

@@ -20,6 +20,7 @@ usage: bench/judge/certificates.py [-n COUNT] [-s SEED] [-j JOBS] [PROGRAM]
     SEED (1), JOBS (2)  the first network's seed, and how many networks at once
     PROGRAM (./hosed)   as seen from the top of the repository
 """
+import collections
 import json
 import multiprocessing
 import os
@@ -34,8 +35,8 @@ from usage import TOP, search_of, tell_usage
 import check_certificate
 import networks
 from certificate_lines import TARIFFS, certificate
-from planner import COMPARED, Link, Network, canonical_plan, random_hose, random_network
-from planner import topology_lines
+from planner import COMPARED, Link, Network, canonical_plan, plan_cost, random_hose
+from planner import random_network, topology_lines
 
 os.chdir(TOP)
 

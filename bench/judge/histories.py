@@ -33,10 +33,12 @@ sys.path.insert(0, os.path.join(os.path.dirname(os.path.abspath(__file__)), ".."
 from usage import tell_usage
 
 import client
-from planner import COMPARED, OPERATOR, QUOTES, Vpn, decide, grounds, in_service, pairs_text
-from planner import plan_cost, random_hose, random_network, topology_lines
+from lines import COMMANDS, ENDS, ENTERED, told
+from planner import COMPARED, OPERATOR, QUOTES, Vpn, audit_lines, decide, ends_of, ends_text
+from planner import grounds, in_service, link_told, loads_of, plan_cost, random_hose
+from planner import random_network, refusal_told, topology_lines
 
-SESSIONS, WORKERS, COMMANDS = 12, 6, 40
+SESSIONS, WORKERS, LINES = 12, 6, 40
 NAMES = ("acme", "beta", "zeta", OPERATOR)  # some sessions have one customer
 KINDS = {
     "admit": 12, "admit-after": 8, "quote": 16, "take": 14, "release": 12, "show": 4, "vpns": 6,
@@ -73,27 +75,28 @@ class Session(threading.Thread):
     def line(self, own):
         draw = self.draw
         kind = draw.choices(list(KINDS), list(KINDS.values()))[0]
-        if kind in ("admit", "quote"):
+        fields = COMMANDS[kind].fields
+        if fields == (ENDS,):
             hose = random_hose(draw, self.network, COMPARED)
             return kind, hose, self.ends(hose)
-        if kind == "admit-after":
+        if ENDS in fields:
             known = self.known if draw.random() < 0.8 else draw.choice([0, *own])
             hose = random_hose(draw, self.network, COMPARED)
             return kind, (known, hose), f"{known} {self.ends(hose)}"
-        if kind == "vpns":
+        if not fields:
             return kind, None, ""
         if kind == "up" and self.out and draw.random() < 0.8:
             number = draw.choice(sorted(self.out))
-        elif kind in ("link", "down", "up"):
+        elif fields == ("L",):
             number = draw.randrange(len(self.network.links))
-        elif kind == "take":
+        elif fields == ("Q",):
             number = draw.randint(1, 4)
         else:
             number = draw.choice(own) if own and draw.random() < 0.8 else draw.randint(0, 60)
         return kind, number, str(number)
 
     def ends(self, hose):
-        return " ".join(f"{self.network.nodes[n]}:{rate}" for n, rate in hose)
+        return ends_text(self.network, hose)
 
     def run(self):
         try:
@@ -103,7 +106,7 @@ class Session(threading.Thread):
                 self.times.append((begun, time.monotonic()))
                 self.said[-1] = ("hello", None, str(session.welcome))
                 own = []
-                for _ in range(COMMANDS):
+                for _ in range(LINES):
                     reply = self.ask(session, *self.line(own))
                     if isinstance(reply, client.Admitted):
                         own.append(reply.id)
@@ -152,11 +155,7 @@ class History:
         self.network, self.books = network, [Book({}, frozenset())]
 
     def loads(self, epoch):
-        loads = [0] * len(self.network.links)
-        for vpn in self.books[epoch].live.values():
-            for number, amount in vpn.plan:
-                loads[number] += amount
-        return loads
+        return loads_of(self.network, self.books[epoch].live.values())
 
     def decided(self, epoch, hose):
         service = in_service(self.network, self.books[epoch].out)
@@ -171,15 +170,12 @@ class History:
         service = in_service(self.network, self.books[epoch].out)
         return grounds(self.network, service, self.loads(epoch), hose)
 
-    def ends(self, hose):
-        return " ".join(f"{self.network.nodes[node]}:{rate}" for node, rate in hose)
-
     def admit(self, customer, hose, plan):
         live = dict(self.books[-1].live)
         number, cost = len(self.books), plan_cost(self.network, plan)
         live[number] = Vpn(customer, hose, plan, cost)
         self.books.append(self.books[-1]._replace(live=live))
-        return f"admitted {number} cost {cost} at {number} links {pairs_text(plan)}"
+        return told("Admitted", number, cost, number, plan)
 
     def release(self, customer, number):
         live = dict(self.books[-1].live)
@@ -187,30 +183,18 @@ class History:
         if vpn is None or vpn.customer != customer:
             raise Differs(f"{customer} released {number}, which is not theirs")
         self.books.append(self.books[-1]._replace(live=live))
-        return f"released {number} at {len(self.books) - 1}"
+        return told("Released", number, len(self.books) - 1)
 
     def change(self, customer, command, number):
         out = self.books[-1].out
         if customer != OPERATOR or (number in out) == (command == "down"):
             raise Differs(f"{customer} had link {number} {command}, where {sorted(out)} were out")
         self.books.append(self.books[-1]._replace(out=out ^ {number}))
-        return f"{command} {number} at {len(self.books) - 1}"
+        return told(COMMANDS[command].entered, number, len(self.books) - 1)
 
     def audit(self):
-        network, live, epoch = self.network, self.books[-1].live, len(self.books) - 1
-        loads, lines = self.loads(epoch), [f"epoch {epoch}"]
-        for number, link in enumerate(network.links):
-            a, b = network.nodes[link.a], network.nodes[link.b]
-            rest = f"capacity {link.capacity} cost {link.cost} load {loads[number]}"
-            lines.append(f"link {number} {a} {b} {rest}")
-        for number, vpn in sorted(live.items()):
-            ends, links = self.ends(vpn.hose), pairs_text(vpn.plan)
-            lines.append(f"vpn {number} {vpn.customer} cost {vpn.cost} ends {ends} links {links}")
-        total = sum(load * link.cost for load, link in zip(loads, network.links))
-        return lines + [f"live {len(live)} cost {total}"]
-
-
-ENTERED = ("admitted", "released", "down", "up")  # the first words of what an entry is told by
+        live = dict(sorted(self.books[-1].live.items()))
+        return audit_lines(self.network, len(self.books) - 1, live)
 
 
 class Judge:
@@ -221,64 +205,56 @@ class Judge:
 
     def refused(self, epoch, hose):
         kind, side = self.history.decided(epoch, hose)
-        if kind != "refused":
-            return None
-        return f"refused at {epoch} side {' '.join(self.history.network.nodes[n] for n in side)}"
+        return refusal_told(self.history.network, side, epoch) if kind == "refused" else None
 
     def expected(self, kind, value, reply, epoch):
         network, (live, out) = self.history.network, self.history.books[epoch]
         customer = self.session.customer
         if kind == "hello":
-            return f"welcome at {epoch}"
+            return told("Welcome", epoch)
         if kind == "vpns":
-            own = self.history.vpns_of(epoch, customer)
-            return " ".join(["vpns", *map(str, own), f"at {epoch}"])
+            return told("Vpns", self.history.vpns_of(epoch, customer), epoch)
         if kind == "admit-after":
             known, hose = value
             newest = (self.history.vpns_of(epoch, customer) or [0])[-1]
-            return f"newest {newest} at {epoch}" if newest != known else self.refused(epoch, hose)
+            return told("Newest", newest, epoch) if newest != known else self.refused(epoch, hose)
         if kind == "admit":
             return self.refused(epoch, value)
         if kind == "quote":
             free = [number for number in range(1, QUOTES + 1) if number not in self.held]
             if not free:
-                return f"too many quotes at {epoch}"
+                return told("TooMany", epoch)
             if self.refused(epoch, value):
                 return self.refused(epoch, value)
             plan = self.history.decided(epoch, value)[1]
             self.held[free[0]] = (sorted(value), epoch)
-            cost = plan_cost(network, plan)
-            return f"quoted {free[0]} cost {cost} at {epoch} links {pairs_text(plan)}"
+            return told("Quoted", free[0], plan_cost(network, plan), epoch, plan)
         if kind == "take":
             if value not in self.held:
-                return f"no quote {value} at {epoch}"
+                return told("NoQuote", value, epoch)
             hose, seen = self.held.pop(value)
             if self.history.grounds(seen, hose) == self.history.grounds(epoch, hose):
                 return None
-            return f"stale {seen} {epoch}"
+            return told("Stale", seen, epoch)
         if kind in ("down", "up"):
             if customer != OPERATOR:
-                return f"denied at {epoch}"
+                return told("Denied", epoch)
             is_so = (value in out) == (kind == "down")
-            return f"already {value} at {epoch}" if is_so else None
+            return told("Already", value, epoch) if is_so else None
         if kind == "link":
-            link, load = network.links[value], self.history.loads(epoch)[value]
-            a, b = network.nodes[link.a], network.nodes[link.b]
-            told = f"capacity {link.capacity} cost {link.cost} load {load}"
-            return f"link {value} {a} {b} {told}{' out' if value in out else ''} at {epoch}"
+            return link_told(network, value, self.history.loads(epoch)[value], value in out, epoch)
         vpn = live.get(value)
         if vpn is None or vpn.customer != customer:
-            return f"no vpn {value} at {epoch}"
+            return told("NoVpn", value, epoch)
         if kind == "release":
             return None
-        ends, links = self.history.ends(vpn.hose), pairs_text(vpn.plan)
-        return f"vpn {value} cost {vpn.cost} at {epoch} ends {ends} links {links}"
+        return told("Shown", value, vpn.cost, epoch, ends_of(network, vpn.hose), vpn.plan)
 
     def judge(self, kind, value, reply, kinds):
         """The next line of the session."""
         where = f"{self.session.customer}, {kind} {value}, after {self.last}"
         if kind == "bye":
-            same(reply, "bye", where)
+            same(reply, told("Bye"), where)
             return
         place, before = place_of(reply), before_of(reply)
         if before < self.last:

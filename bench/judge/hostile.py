@@ -32,6 +32,7 @@ sys.path.insert(0, os.path.join(os.path.dirname(os.path.abspath(__file__)), ".."
 from usage import TOP, tell_usage
 
 from histories import WAYS, Differs, same, way_of
+from lines import COMMANDS, ENDS, told
 from planner import FORCED, WEIGHTS, Server, audit_lines, random_command, random_network
 from planner import topology_lines
 
@@ -92,54 +93,41 @@ class Desk(Server):
             raise Refused(before + len(ends) + 1)
         return ends
 
-    def one_number(self, words, before, most):
+    def number(self, words, before, most):
         number = number_of(words[0], most) if words else None
         if number is None:
             raise Refused(before + 1)
-        if len(words) > 1:
-            raise Refused(before + 2)
         return number
-
-    def admit_after_words(self, customer, words, before):
-        """The reply to the words behind an `admit-after`."""
-        known = number_of(words[0], MOST) if words else None
-        if known is None:
-            raise Refused(before + 1)
-        return self.admit_after(customer, known, self.hose_of(words[1:], before + 1))
 
     def command(self, customer, words, before):
         """The reply to the words of a command, before which so many stand."""
-        word, rest = words[0] if words else b"", words[1:]
-        if word in (b"admit", b"quote"):
-            hose = self.hose_of(rest, before + 1)
-            return (self.admit if word == b"admit" else self.quote)(customer, hose)
-        if word == b"admit-after":
-            return self.admit_after_words(customer, rest, before + 1)
-        if word == b"vpns":
-            if rest:
-                raise Refused(before + 2)
-            return self.vpns(customer)
-        if word == b"link":
-            return self.link(self.one_number(rest, before + 1, len(self.network.links) - 1))
-        if word in (b"down", b"up"):
-            link = self.one_number(rest, before + 1, len(self.network.links) - 1)
-            return self.change(word.decode(), customer, link)
-        if word not in (b"take", b"release", b"show"):
+        word, rest = words[0].decode("latin-1") if words else "", words[1:]
+        if word not in COMMANDS:
             raise Refused(before + 1)
-        number = self.one_number(rest, before + 1, MOST)
-        return getattr(self, word.decode())(customer, number)
+        said, before = [], before + 1
+        for field in COMMANDS[word].fields:
+            if field == ENDS:
+                said.append(self.hose_of(rest, before))
+                rest = []
+            else:
+                most = len(self.network.links) - 1 if field == "L" else MOST
+                said.append(self.number(rest, before, most))
+                rest, before = rest[1:], before + 1
+        if rest:
+            raise Refused(before + 1)
+        return self.answer(customer, word, said)
 
     def line(self, line):
         """The reply to a line of a run."""
         if len(line) > MOST_LINE:
-            return "long"
+            return told("Long")
         words = [word for word in line.split(b" ") if word]
         try:
             if not words or not is_name(words[0]):
                 raise Refused(1)
             return self.command(words[0].decode(), words[1:], 1)
         except Refused as refused:
-            return f"bad {refused}"
+            return told("Bad", refused)
 
     def session(self, text, session):
         """The replies to all that a session says, of which the last line may have no line feed."""
@@ -149,34 +137,34 @@ class Desk(Server):
             return []
         words = [word for word in lines[0].split(b" ") if word]
         if len(lines[0]) > MOST_LINE:
-            return ["long"]
+            return [told("Long")]
         if not words or words[0] != b"hello":
-            return ["bad 1"]
+            return [told("Bad", 1)]
         if len(words) < 2 or not is_name(words[1]):
-            return ["bad 2"]
+            return [told("Bad", 2)]
         if len(words) > 2:
-            return ["bad 3"]
+            return [told("Bad", 3)]
         customer = words[1].decode()
         session = customer if self.shares_quotes else session
         self.customer_of[session] = customer
-        replies = [f"welcome at {self.epoch}"]
+        replies = [told("Welcome", self.epoch)]
         for line in lines[1:]:
             reply = self.later(line, session)
             replies.append(reply)
-            if reply == "bye":
+            if reply == told("Bye"):
                 break
         return replies
 
     def later(self, line, session):
         if len(line) > MOST_LINE:
-            return "long"
+            return told("Long")
         words = [word for word in line.split(b" ") if word]
         if words == [b"bye"]:
-            return "bye"
+            return told("Bye")
         try:
             return self.command(session, words, 0)
         except Refused as refused:
-            return f"bad {refused}"
+            return told("Bad", refused)
 
     # A session's quotes may be its own; its VPNs and its right to change links are its customer's.
 

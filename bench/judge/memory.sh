@@ -30,7 +30,7 @@ import threading
 import time
 from collections import Counter
 
-sys.path[:0] = ["bench/judge", "bench/parts"]
+sys.path[:0] = ["bench/judge", "bench/parts", "tools"]
 from planner import Link, Network
 from forged import CHAINED, journal_of, judged
 from generated import Sizes, planned

@@ -39,7 +39,7 @@ sys.path.insert(0, os.path.join(os.path.dirname(os.path.abspath(__file__)), ".."
 from usage import TOP, tell_usage
 
 import journals
-from forged import CHAINED, PLAIN, Book, canonical, entry_of, journal_of, spelled
+from forged import CHAINED, PLAIN, Book, entry_of, journal_of, spelled
 from planner import FORCED, Link, Network, Server, random_network, topology_lines
 from schedules import HANGS, WORKERS, Differs, History, at_most, begun, ordered, same, stopped
 

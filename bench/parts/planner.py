@@ -1,12 +1,15 @@
 """A slow and plain planner, and a server over it, which the scripts that judge the program share.
 
-It follows the rules word by word and shares no code with the crates. `Server` says what is replied
-to each command; `least_cost` is a search by force; random networks, hoses and commands are drawn of
-a `random.Random`. compare_planner.py tries it on rows that were worked out by hand.
+It follows the rules word by word and shares no code with the crates; the texts of replies are those
+of the table in tools/lines.py. `Server` says what is replied to each command; `least_cost` is a
+search by force; random networks, hoses and commands are drawn of a `random.Random`.
+compare_planner.py tries it on rows that were worked out by hand.
 """
 from collections import Counter
 from itertools import combinations, product
 from typing import NamedTuple
+
+from lines import COMMANDS, ENDS, told
 
 OPERATOR = "operator"  # who may take links out of service and put them back
 CUSTOMERS = ("acme", "zeta", OPERATOR)
@@ -242,8 +245,24 @@ def loads_of(network, live):
     return loads
 
 
+def ends_of(network, hose):
+    """The endpoints of a hose, with the names of their nodes."""
+    return [(network.nodes[node], rate) for node, rate in hose]
+
+
 def ends_text(network, hose):
-    return " ".join(f"{network.nodes[node]}:{rate}" for node, rate in hose)
+    return pairs_text(ends_of(network, hose))
+
+
+def link_told(network, number, load, is_out, epoch):
+    """The reply that tells a link."""
+    link = network.links[number]
+    a, b = network.nodes[link.a], network.nodes[link.b]
+    return told("LinkState", number, a, b, link.capacity, link.cost, load, is_out, epoch)
+
+
+def refusal_told(network, side, epoch):
+    return told("Refused", epoch, [network.nodes[node] for node in side])
 
 
 def audit_lines(network, epoch, live):
@@ -254,8 +273,8 @@ def audit_lines(network, epoch, live):
         rest = f"capacity {link.capacity} cost {link.cost} load {loads[number]}"
         lines.append(f"link {number} {a} {b} {rest}")
     for number, vpn in live.items():
-        told = f"ends {ends_text(network, vpn.hose)} links {pairs_text(vpn.plan)}"
-        lines.append(f"vpn {number} {vpn.customer} cost {vpn.cost} {told}")
+        rest = f"ends {ends_text(network, vpn.hose)} links {pairs_text(vpn.plan)}"
+        lines.append(f"vpn {number} {vpn.customer} cost {vpn.cost} {rest}")
     total = sum(load * link.cost for load, link in zip(loads, network.links))
     return lines + [f"live {len(live)} cost {total}"]
 
@@ -281,8 +300,7 @@ class Server:
 
     def refused(self, command, side):
         self.kinds[f"{command}, refused"] += 1
-        names = " ".join(self.network.nodes[node] for node in side)
-        return f"refused at {self.epoch} side {names}"
+        return refusal_told(self.network, side, self.epoch)
 
     def cost(self, hose, kind, plan):
         """What the plan costs, or by force what none costs less than."""
@@ -295,7 +313,7 @@ class Server:
     def enter(self, customer, hose, plan, cost):
         self.epoch += 1
         self.live[self.epoch] = Vpn(customer, hose, plan, cost)
-        return f"admitted {self.epoch} cost {cost} at {self.epoch} links {pairs_text(plan)}"
+        return told("Admitted", self.epoch, cost, self.epoch, plan)
 
     def admit(self, customer, hose, command="admit"):
         hose = sorted(hose)
@@ -305,6 +323,10 @@ class Server:
         self.kinds[f"{command}, admitted with the {kind} plan"] += 1
         return self.enter(customer, hose, found, self.cost(hose, kind, found))
 
+    def answer(self, customer, command, said):
+        """The reply to a command, by the method of its name, to what its fields tell."""
+        return getattr(self, command.replace("-", "_"))(customer, *said)
+
     def vpns_of(self, customer):
         """The numbers of the customer's live VPNs, in the order of admission."""
         return [number for number in self.live if self.of_customer(customer, number)]
@@ -312,13 +334,13 @@ class Server:
     def vpns(self, customer):
         ids = self.vpns_of(customer)
         self.kinds[f"vpns, {'some' if ids else 'none'}"] += 1
-        return " ".join(["vpns", *map(str, ids), f"at {self.epoch}"])
+        return told("Vpns", ids, self.epoch)
 
     def admit_after(self, customer, known, hose):
         newest = (self.vpns_of(customer) or [0])[-1]
         if newest != known:
             self.kinds["admit-after, newest"] += 1
-            return f"newest {newest} at {self.epoch}"
+            return told("Newest", newest, self.epoch)
         return self.admit(customer, hose, "admit-after")
 
     def quote(self, customer, hose):
@@ -327,7 +349,7 @@ class Server:
         free = [number for number in range(1, QUOTES + 1) if number not in held]
         if not free:
             self.kinds["quote, too many quotes"] += 1
-            return f"too many quotes at {self.epoch}"
+            return told("TooMany", self.epoch)
         service = self.service()
         kind, found = decide(self.network, service, loads, hose)
         if kind == "refused":
@@ -335,20 +357,20 @@ class Server:
         self.kinds[f"quote, quoted with the {kind} plan"] += 1
         cost, rests_on = self.cost(hose, kind, found), grounds(self.network, service, loads, hose)
         held[free[0]] = Quote(hose, self.epoch, kind, found, cost, rests_on)
-        return f"quoted {free[0]} cost {cost} at {self.epoch} links {pairs_text(found)}"
+        return told("Quoted", free[0], cost, self.epoch, found)
 
     def take(self, customer, number):
         quote = self.quotes[customer].pop(number, None)
         if quote is None:
             self.kinds["take, no quote"] += 1
-            return f"no quote {number} at {self.epoch}"
+            return told("NoQuote", number, self.epoch)
         later = "" if quote.epoch == self.epoch else " after other entries"
         service, loads = self.service(), self.loads()
         rests_on = grounds(self.network, service, loads, quote.hose)
         if rests_on != quote.grounds:
             why = " by links in service alone" if rests_on[1:] == quote.grounds[1:] else ""
             self.kinds[f"take, stale{why}"] += 1
-            return f"stale {quote.epoch} {self.epoch}"
+            return told("Stale", quote.epoch, self.epoch)
         decision = decide(self.network, service, loads, quote.hose)
         assert decision == (quote.kind, quote.plan), "equal grounds, and another decision"
         self.kinds[f"take, admitted with the {quote.kind} plan{later}"] += 1
@@ -360,7 +382,7 @@ class Server:
 
     def no_vpn(self, command, number):
         self.kinds[f"{command}, no vpn"] += 1
-        return f"no vpn {number} at {self.epoch}"
+        return told("NoVpn", number, self.epoch)
 
     def release(self, customer, number):
         if self.of_customer(customer, number) is None:
@@ -368,31 +390,31 @@ class Server:
         self.kinds["release, released"] += 1
         self.epoch += 1
         del self.live[number]
-        return f"released {number} at {self.epoch}"
+        return told("Released", number, self.epoch)
 
     def show(self, customer, number):
         vpn = self.of_customer(customer, number)
         if vpn is None:
             return self.no_vpn("show", number)
         self.kinds["show, vpn"] += 1
-        ends, links = self.ends_text(vpn.hose), pairs_text(vpn.plan)
-        return f"vpn {number} cost {vpn.cost} at {self.epoch} ends {ends} links {links}"
+        ends = ends_of(self.network, vpn.hose)
+        return told("Shown", number, vpn.cost, self.epoch, ends, vpn.plan)
 
     def change(self, command, customer, number):
         """Takes a link out of service, `down`, or puts it back, `up`."""
         if number >= len(self.network.links):
             self.kinds[f"{command}, bad"] += 1
-            return "bad 3"
+            return told("Bad", 3)
         if customer != OPERATOR:
             self.kinds[f"{command}, denied"] += 1
-            return f"denied at {self.epoch}"
+            return told("Denied", self.epoch)
         if (number in self.out) == (command == "down"):
             self.kinds[f"{command}, already"] += 1
-            return f"already {number} at {self.epoch}"
+            return told("Already", number, self.epoch)
         self.kinds[f"{command}, {command}"] += 1
         self.epoch += 1
         self.out ^= {number}
-        return f"{command} {number} at {self.epoch}"
+        return told(COMMANDS[command].entered, number, self.epoch)
 
     def down(self, customer, number):
         return self.change("down", customer, number)
@@ -400,17 +422,13 @@ class Server:
     def up(self, customer, number):
         return self.change("up", customer, number)
 
-    def link(self, number):
+    def link(self, customer, number):
         if number >= len(self.network.links):
             self.kinds["link, bad"] += 1
-            return "bad 3"
-        out = " out" if number in self.out else ""
-        self.kinds[f"link, link{out}"] += 1
-        link = self.network.links[number]
-        a, b = self.network.nodes[link.a], self.network.nodes[link.b]
-        load = self.loads()[number]
-        told = f"capacity {link.capacity} cost {link.cost} load {load}{out} at {self.epoch}"
-        return f"link {number} {a} {b} {told}"
+            return told("Bad", 3)
+        is_out = number in self.out
+        self.kinds[f"link, link{' out' if is_out else ''}"] += 1
+        return link_told(self.network, number, self.loads()[number], is_out, self.epoch)
 
 
 def pairs_text(plan):
@@ -513,28 +531,21 @@ def random_command(draw, server, size, weights):
     """A line, and the reply to it."""
     customer = draw.choice(CUSTOMERS)
     kind = draw.choices(list(weights), list(weights.values()))[0]
-    if kind in ("admit", "quote"):
-        hose = random_hose(draw, server.network, size)
-        reply = server.admit if kind == "admit" else server.quote
-        return f"{customer} {kind} {server.ends_text(hose)}", reply(customer, hose)
-    if kind == "admit-after":
-        hose, known = random_hose(draw, server.network, size), random_known(draw, server, customer)
-        line = f"{customer} {kind} {known} {server.ends_text(hose)}"
-        return line, server.admit_after(customer, known, hose)
-    if kind == "vpns":
-        return f"{customer} vpns", server.vpns(customer)
-    if kind == "link":
-        number = draw.randint(0, len(server.network.links))
-        return f"{customer} link {number}", server.link(number)
-    if kind in ("down", "up"):
-        customer, number = random_change(draw, server, kind)
-        return f"{customer} {kind} {number}", server.change(kind, customer, number)
-    if kind == "take":
-        customer, number = random_quote(draw, server)
-        return f"{customer} take {number}", server.take(customer, number)
-    customer, number = random_vpn(draw, server)
-    reply = server.release if kind == "release" else server.show
-    return f"{customer} {kind} {number}", reply(customer, number)
+    fields, said = COMMANDS[kind].fields, []
+    if ENDS in fields:
+        said.append(random_hose(draw, server.network, size))
+    if "K" in fields:
+        said.insert(0, random_known(draw, server, customer))
+    if COMMANDS[kind].who == OPERATOR:
+        customer, *said = random_change(draw, server, kind)
+    elif fields == ("L",):
+        said = [draw.randint(0, len(server.network.links))]
+    elif fields == ("Q",):
+        customer, *said = random_quote(draw, server)
+    elif fields == ("ID",):
+        customer, *said = random_vpn(draw, server)
+    words = [server.ends_text(one) if isinstance(one, list) else str(one) for one in said]
+    return " ".join([customer, kind, *words]), server.answer(customer, kind, said)
 
 
 # ---- Small networks, for rows that were worked out by hand.

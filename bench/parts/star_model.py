@@ -3,13 +3,15 @@
 It follows docs/GUIDE.md: a disk that is a text of bytes, of which a failed call changes nothing; a
 journal of version 2, or one of version 1 that is sealed when it is opened, whose entry counts once
 its gate is written and synced, and whose entry in doubt is revoked before the next one and at the
-end; replies, and what an audit tells. It knows no
-plans but those of a star, where each endpoint is at the end of a link, and shares no code with the
-crates.
+end; replies, whose texts are those of the table in tools/lines.py, and what an audit tells. It
+knows no plans but those of a star, where each endpoint is at the end of a link, and shares no code
+with the crates.
 """
 
 from collections import Counter
 from hashlib import sha256
+
+from lines import told
 
 STAR = ("node a", "node b", "node c", "node h", "link a h 10 1", "link b h 10 2", "link c h 10 3",
         "end")
@@ -85,33 +87,32 @@ def plan(hose):
 def live_of(entries):
     """The customers and hoses of the live VPNs."""
     live = {}
-    for epoch, (kind, customer, told) in enumerate(entries, 1):
+    for epoch, (kind, customer, what) in enumerate(entries, 1):
         if kind == "admit":
-            live[epoch] = (customer, told)
+            live[epoch] = (customer, what)
         else:
-            del live[told]
+            del live[what]
     return live
 
 
-def link_of(entries, link):
-    load = sum(dict(plan(hose)[0]).get(link, 0) for _, hose in live_of(entries).values())
-    return f"link {link} {NAMES[link]} h capacity 10 cost {COSTS[link]} load {load}"
+def load_of(entries, link):
+    return sum(dict(plan(hose)[0]).get(link, 0) for _, hose in live_of(entries).values())
 
 
-def told_of(hose, place=""):
-    """What a hose costs, its ends and its links."""
-    links, cost = plan(hose)
-    ends = " ".join(f"{NAMES[node]}:{rate}" for node, rate in hose)
-    return f"cost {cost}{place} ends {ends} links {pairs_text(links)}"
+def ends_of(hose):
+    return [(NAMES[node], rate) for node, rate in hose]
 
 
 def audit(entries):
     """The text of the book of some entries."""
     live = live_of(entries)
     yield f"epoch {len(entries)}"
-    yield from (link_of(entries, link) for link in range(len(COSTS)))
+    for link, cost in enumerate(COSTS):
+        yield f"link {link} {NAMES[link]} h capacity 10 cost {cost} load {load_of(entries, link)}"
     for epoch, (customer, hose) in live.items():
-        yield f"vpn {epoch} {customer} {told_of(hose)}"
+        links, cost = plan(hose)
+        rest = f"ends {pairs_text(ends_of(hose))} links {pairs_text(links)}"
+        yield f"vpn {epoch} {customer} cost {cost} {rest}"
     yield f"live {len(live)} cost {sum(plan(hose)[1] for _, hose in live.values())}"
 
 
@@ -121,12 +122,12 @@ def spelled_pairs(pairs):
 
 def spelled(entry):
     """The body of an entry's record."""
-    kind, customer, told = entry
+    kind, customer, what = entry
     name = bytes([len(customer)]) + customer.encode()
     if kind == "release":
-        return b"\2" + name + told.to_bytes(4, "big")
-    links, _ = plan(told)
-    counted = bytes([len(told)]) + spelled_pairs(told) + len(links).to_bytes(2, "big")
+        return b"\2" + name + what.to_bytes(4, "big")
+    links, _ = plan(what)
+    counted = bytes([len(what)]) + spelled_pairs(what) + len(links).to_bytes(2, "big")
     return b"\1" + name + counted + spelled_pairs(links)
 
 
@@ -234,14 +235,13 @@ class Server:
         try:
             self.journal.enter(entry)
         except Failed:
-            return f"disk at {len(self.journal.entries)}"
+            return told("Disk", len(self.journal.entries))
         return reply
 
     def admit(self, customer, hose):
         links, cost = plan(hose)
         epoch = len(self.journal.entries) + 1
-        reply = f"admitted {epoch} cost {cost} at {epoch} links {pairs_text(links)}"
-        return self.enter(("admit", customer, hose), reply)
+        return self.enter(("admit", customer, hose), told("Admitted", epoch, cost, epoch, links))
 
     def reply(self, line):
         customer, command, *words = line.split()
@@ -250,27 +250,29 @@ class Server:
             return self.admit(customer, hose_of(words))
         own = [number for number in range(1, at + 1) if self.is_live(customer, number)]
         if command == "vpns":
-            return " ".join(["vpns", *map(str, own), f"at {at}"])
+            return told("Vpns", own, at)
         if command == "admit-after":
             newest = own[-1] if own else 0
             if newest != int(words[0]):
-                return f"newest {newest} at {at}"
+                return told("Newest", newest, at)
             return self.admit(customer, hose_of(words[1:]))
         if command == "quote":
             self.quotes[1] = hose_of(words)
             links, cost = plan(self.quotes[1])
-            return f"quoted 1 cost {cost} at {at} links {pairs_text(links)}"
+            return told("Quoted", 1, cost, at, links)
         if command == "take":
             return self.admit(customer, self.quotes.pop(1))
         number = int(words[0])
         if command == "link":
-            return f"{link_of(self.journal.entries, number)} at {at}"
+            load = load_of(self.journal.entries, number)
+            return told("LinkState", number, NAMES[number], "h", 10, COSTS[number], load, False, at)
         if not self.is_live(customer, number):
-            return f"no vpn {number} at {at}"
+            return told("NoVpn", number, at)
         if command == "show":
             hose = self.journal.entries[number - 1][2]
-            return f"vpn {number} {told_of(hose, f' at {at}')}"
-        return self.enter(("release", customer, number), f"released {number} at {at + 1}")
+            links, cost = plan(hose)
+            return told("Shown", number, cost, at, ends_of(hose), links)
+        return self.enter(("release", customer, number), told("Released", number, at + 1))
 
     def is_live(self, customer, number):
         entries = self.journal.entries

@@ -162,8 +162,8 @@ class Answers:
         return found
 
     def of(self, name, given, known):
-        """Those of a definition at what it is given; a truth that is given leaves out the clauses of
-        the other one."""
+        """Those of a definition at what it is given; a truth that is given leaves out the clauses
+        of the other one."""
         found = []
         for patterns, body in clauses_of(self.text, name):
             values = [known.get(one, one) if isinstance(one, str) else None for one in given]

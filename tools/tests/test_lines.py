@@ -112,7 +112,8 @@ class Made(unittest.TestCase):
 
     def test_what_is_not_read_is_told(self):
         changes = [("name_of network door.inside", "digest door"),
-                   ("map decimal ids", "map end_word at"), ("false at = at_epoch at", "false at = []"),
+                   ("map decimal ids", "map end_word at"),
+                   ("false at = at_epoch at", "false at = []"),
                    ("shut_words true", "shut_words other")]
         for old, new in changes:
             with self.subTest(old), tempfile.TemporaryDirectory() as folder:
