@@ -1,7 +1,8 @@
 #!/usr/bin/env python3
 """Finds each name that the tables of docs/PROOFS.md put in backquotes in the sources of crates/,
-each file that they name, and each path of the repository that any document names. Prints each that
-is not there, and how many were looked for; ends with status 1 where one is not there.
+each file that they name, and each path of the repository that any document or any file of cases
+names. Prints each that is not there, and how many were looked for; ends with status 1 where one is
+not there.
 
 usage: bench/repository/clauses.py
 """
@@ -18,7 +19,10 @@ os.chdir(TOP)
 NAME = re.compile(r"[^\W\d][\w']*")
 FILE = re.compile(r"[\w/]+\.(?:antt|rt)\b")
 PATH = re.compile(r"\b(?:bench|crates|demo|docs|tools|wrong)/[\w./-]*\w")
-DOCUMENTS = ["README.md", "CONTRIBUTING.md", *glob.glob("docs/*.md")]
+DOCUMENTS = ["README.md", "CONTRIBUTING.md",
+             *(path for folder in ("docs", "bench", "wrong", "crates/*/data")
+               for path in glob.glob(f"{folder}/*.md")),
+             *glob.glob("crates/*/data/*.cases")]
 
 files = [f"{top}/{name}" for top, _, names in os.walk("crates") for name in names
          if name.endswith((".antt", ".rt")) and "/out/" not in f"{top}/"]
