@@ -11,6 +11,9 @@ that --list takes:
   outcomes     the parameters of each definition whose name ends in Outcome
   stays        clauses (requires, ensures) of functions that say Stays
   calls        functions of src/ with 6 or more parameters, self included; in all crates
+  bodies       functions of src/ whose body has more than 40 lines of code; in all crates
+  frames       frames, functions and doors that one line goes through, as entered.py tells them;
+               where no program is built for that, which takes minutes, it says so
   text         lines of src, specs and proofs for each line of a function's body that is code
   laws         calls law_.. in bodies
   loops        loops over lines: a `while` or `loop` that names a LineReader which is a parameter of
@@ -18,6 +21,8 @@ that --list takes:
   commands     files that name every constructor of Command, each as a word outside of comments
   definitions  definitions and their lines, without comments, by crate
   duplicates   pairs of places that share six lines or more, as the program `duplicates` finds them
+               in scripts, in .rt and in .antt; the latter two it reads as copies under the endings
+               of Rust and Haskell, which have the same comments
   lines        lines of src, specs and proofs, by crate; tests stand in crates of their own
 
 usage: bench/repository/house.py                all figures
@@ -32,17 +37,20 @@ import shutil
 import signal
 import subprocess
 import sys
+import tempfile
 
 sys.path.insert(0, os.path.join(os.path.dirname(os.path.abspath(__file__)), "..", "parts"))
 from usage import TOP, tell_usage
 
 import definitions
+import entered
 import rust_source
 
 NOT_PRODUCT = ("cases_common", "cases_files", "cases_stage", "cases_parts", "cases_plans",
                "cases_disks", "cases_program", "cases_words", "cases_host",
                "tests_threads", "hose_star")
 PARTS = definitions.ENDINGS
+MOST_BODY = 40
 CRATES = definitions.crates_of(TOP)
 PRODUCT = [crate for crate in CRATES if crate not in NOT_PRODUCT]
 FILES = definitions.read_all(TOP)
@@ -102,6 +110,26 @@ def calls():
     inside = sum(it.source.crate in PRODUCT for count, it in found if count >= 6)
     return [f"functions with 6 or more parameters: {len(rows)}, {inside} of them in product crates"
             ], rows
+
+
+def bodies():
+    found = sorted(((len(it.body_lines()), it) for it in functions(CRATES)),
+                   key=lambda pair: (-pair[0], place(pair[1])))
+    rows = [f"{count:3} {it.name:28} {place(it)}" for count, it in found if count > MOST_BODY]
+    return [f"bodies of more than {MOST_BODY} lines: {len(rows)}, the longest {found[0][0]}"], rows
+
+
+def frames():
+    if not entered.is_built():
+        return ["frames: no program is built for them; bench/repository/entered.py does it"], []
+    told = subprocess.run([sys.executable, entered.__file__], stdout=subprocess.PIPE,
+                          universal_newlines=True, check=True).stdout
+    found = []
+    for command, part in re.findall(r"(?m)^(\w+): .*\n((?:  .*\n)+)", told):
+        counts = dict(re.findall(r"(?m)^  (frames|functions|doors): (\d+)", part))
+        found.append(f"{command} " + ", ".join(f"{what} {counts.get(what, 'none')}"
+                                               for what in ("frames", "functions", "doors")))
+    return ["frames: " + "; ".join(found)], told.splitlines()
 
 
 def text():
@@ -188,13 +216,35 @@ def definition_lines():
     return heads, rows
 
 
+def duplicates_in(folder):
+    """What `duplicates` tells of a folder: how many pairs there are, and each."""
+    done = subprocess.run(["duplicates", "--most", "200", "--seconds", "120", "--repo", folder],
+                          stdout=subprocess.PIPE, universal_newlines=True)
+    told = done.stdout.splitlines() or ["nothing told"]
+    return told[0], told[1:]
+
+
+def copy_crates(folder, parts, ending):
+    """Copies these parts of all crates into a folder, under names with another ending behind."""
+    for crate in CRATES:
+        for part in parts:
+            for _, path in definitions.files_of(TOP, crate, part):
+                copy = os.path.join(folder, os.path.relpath(path, TOP) + ending)
+                os.makedirs(os.path.dirname(copy), exist_ok=True)
+                shutil.copy(path, copy)
+
+
 def duplicates():
     if shutil.which("duplicates") is None:
         return ["duplicates: no such program on the path"], []
-    done = subprocess.run(["duplicates", "--most", "200", "--seconds", "120", "--repo", TOP],
-                          stdout=subprocess.PIPE, universal_newlines=True)
-    told = done.stdout.splitlines()
-    return [f"duplicates: {told[0]}" if told else "duplicates: nothing told"], told[1:]
+    found = {"scripts": duplicates_in(TOP)}
+    for name, parts, ending in ((".rt", ("src",), ".rs"), (".antt", ("specs", "proofs"), ".hs")):
+        with tempfile.TemporaryDirectory() as folder:
+            copy_crates(folder, parts, ending)
+            head, rows = duplicates_in(folder)
+        found[name] = head, [row.replace(f"{name}{ending}:", f"{name}:") for row in rows]
+    heads = [f"duplicates in {name}: {head}" for name, (head, _) in found.items()]
+    return heads, [row for _, rows in found.values() for row in rows]
 
 
 def lines():
@@ -214,8 +264,9 @@ def lines():
 
 
 KINDS = {"parameters": parameters, "outcomes": outcomes, "stays": stays, "calls": calls,
-         "text": text, "laws": laws, "loops": loops, "commands": commands,
-         "definitions": definition_lines, "duplicates": duplicates, "lines": lines}
+         "bodies": bodies, "frames": frames, "text": text, "laws": laws, "loops": loops,
+         "commands": commands, "definitions": definition_lines, "duplicates": duplicates,
+         "lines": lines}
 
 
 def places(name):
