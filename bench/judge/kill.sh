@@ -15,7 +15,7 @@ cd "$(dirname "${BASH_SOURCE[0]}")/../.."
 work=$(mktemp -d)
 trap 'rm -rf "$work"' EXIT
 
-python3 - crates/hosed_main/out/hosed_main "$work" "${1:-100}" "${2:-1}" <<'END'
+PYTHONPATH=tools python3 - crates/hosed_main/out/hosed_main "$work" "${1:-100}" "${2:-1}" <<'END'
 import hashlib
 import os
 import random
@@ -26,6 +26,8 @@ import time
 from collections import Counter
 from itertools import zip_longest
 from typing import NamedTuple
+
+from lines import told
 
 PROGRAM, WORK, KILLS, SEED = sys.argv[1], sys.argv[2], int(sys.argv[3]), sys.argv[4]
 LEAVES, CAPACITY = 64, 1_000_000_000
@@ -56,14 +58,18 @@ def amounts_of(hose):
     return [(node, min(rate, total - rate)) for node, rate in hose if node < LEAVES]
 
 
-def plan_text(hose):
+def plan_of(hose):
+    """What a hose costs, and its amounts on links."""
     amounts = amounts_of(hose)
-    cost = sum(COSTS[link] * amount for link, amount in amounts)
-    return cost, "links " + " ".join(f"{link}:{amount}" for link, amount in amounts)
+    return sum(COSTS[link] * amount for link, amount in amounts), amounts
+
+
+def ends_of(hose):
+    return [(NAMES[node], rate) for node, rate in hose]
 
 
 def ends_text(hose):
-    return " ".join(f"{NAMES[node]}:{rate}" for node, rate in hose)
+    return " ".join(f"{name}:{rate}" for name, rate in ends_of(hose))
 
 
 # ---- The book, of which each entry is the next epoch.
@@ -121,18 +127,17 @@ class Book:
     def show(self, customer, id):
         vpn, epoch = self.live.get(id), len(self.entries)
         if vpn is None or vpn.customer != customer:
-            return f"no vpn {id} at {epoch}"
-        cost, links = plan_text(vpn.hose)
-        return f"vpn {id} cost {cost} at {epoch} ends {ends_text(vpn.hose)} {links}"
+            return told("NoVpn", id, epoch)
+        cost, amounts = plan_of(vpn.hose)
+        return told("Shown", id, cost, epoch, ends_of(vpn.hose), amounts)
 
     def links(self):
         loads = Counter()
         for vpn in self.live.values():
             loads.update(dict(amounts_of(vpn.hose)))
         for link, cost in enumerate(COSTS):
-            out = " out" if link in self.out else ""
-            told = f"capacity {CAPACITY} cost {cost} load {loads[link]}{out} at {len(self.entries)}"
-            yield f"link {link} {NAMES[link % LEAVES]} h {told}"
+            yield told("LinkState", link, NAMES[link % LEAVES], "h", CAPACITY, cost, loads[link],
+                       link in self.out, len(self.entries))
 
 
 # ---- Commands, each as its line, its reply, and its entry if it has one.
@@ -146,13 +151,13 @@ def random_hose(draw):
 
 def admission(draw, book):
     customer, hose = draw.choice(CUSTOMERS), random_hose(draw)
-    cost, links = plan_text(hose)
+    cost, amounts = plan_of(hose)
     epoch = len(book.entries) + 1
-    admitted = f"admitted {epoch} cost {cost} at {epoch} {links}"
+    admitted = told("Admitted", epoch, cost, epoch, amounts)
     entry = book.enter(Entry(customer, hose, 0))
     if draw.random() < 0.8:
         return [(f"{customer} admit {ends_text(hose)}", admitted, entry)]
-    quoted = f"quoted 1 cost {cost} at {epoch - 1} {links}"
+    quoted = told("Quoted", 1, cost, epoch - 1, amounts)
     quote = (f"{customer} quote {ends_text(hose)}", quoted, None)
     return [quote, (f"{customer} take 1", admitted, entry)]
 
@@ -166,13 +171,14 @@ def commands(draw, book):
         link = draw.choice(LINKS[LEAVES:])
         change = "up" if link in book.out else "down"
         entry = book.enter(Entry("operator", None, link, change))
-        return [(f"operator {change} {link}", f"{change} {link} at {len(book.entries)}", entry)]
+        reply = told(change.capitalize(), link, len(book.entries))
+        return [(f"operator {change} {link}", reply, entry)]
     if not book.live or (kind < 0.6 and len(book.live) < MOST_LIVE):
         return admission(draw, book)
     id = draw.choice(list(book.live))
     customer = book.live[id].customer
     entry = book.enter(Entry(customer, None, id))
-    return [(f"{customer} release {id}", f"released {id} at {len(book.entries)}", entry)]
+    return [(f"{customer} release {id}", told("Released", id, len(book.entries)), entry)]
 
 
 def random_script(draw, entries, length):

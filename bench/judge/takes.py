@@ -26,6 +26,8 @@ from collections import Counter
 sys.path.insert(0, os.path.join(os.path.dirname(os.path.abspath(__file__)), "..", "parts"))
 from usage import TOP, tell_usage
 
+from lines import told
+
 NODES = 512
 MOST = 65_536  # changes that a book keeps
 
@@ -85,8 +87,8 @@ class Line:
         for link in plan:
             self.loads[link] += rate
         self.live[self.epoch] = (customer, plan, rate)
-        amounts = " ".join(f"{link}:{rate}" for link in plan)
-        return f"admitted {self.epoch} cost {cost * rate} at {self.epoch} links {amounts}"
+        amounts = [(link, rate) for link in plan]
+        return told("Admitted", self.epoch, cost * rate, self.epoch, amounts)
 
     def admit(self, customer, a, b, rate):
         plan, cost = self.plan(a, b, rate)
@@ -99,27 +101,27 @@ class Line:
         self.epoch += 1
         for link in plan:
             self.loads[link] -= rate
-        self.say(f"{customer} release {number}", f"released {number} at {self.epoch}")
+        self.say(f"{customer} release {number}", told("Released", number, self.epoch))
 
     def change(self, link):
         """The operator takes a link out of service, or puts it back where it is out."""
         command = "up" if link in self.out else "down"
         self.out ^= {link}
         self.epoch += 1
-        self.say(f"operator {command} {link}", f"{command} {link} at {self.epoch}")
+        self.say(f"operator {command} {link}", told(command.capitalize(), link, self.epoch))
 
     def quote(self, customer, a, b, rate):
         plan, cost = self.plan(a, b, rate)
         held = (a, b, rate, plan, cost, self.epoch, self.grounds(a, b, rate))
         self.quotes[customer] = held
-        amounts = " ".join(f"{link}:{rate}" for link in plan)
+        amounts = [(link, rate) for link in plan]
         self.say(f"{customer} quote p{a}:{rate} p{b}:{rate}",
-                 f"quoted 1 cost {cost * rate} at {self.epoch} links {amounts}")
+                 told("Quoted", 1, cost * rate, self.epoch, amounts))
 
     def take(self, customer):
         a, b, rate, plan, cost, seen, grounds = self.quotes.pop(customer)
         if self.grounds(a, b, rate) != grounds:
-            reply = f"stale {seen} {self.epoch}"
+            reply = told("Stale", seen, self.epoch)
         else:
             reply = self.enter(customer, plan, cost, rate)
         self.say(f"{customer} take 1", reply)
@@ -236,15 +238,15 @@ def main():
     for name, (text, wanted) in scripts:
         done = subprocess.run([program, "run"], input=text.encode(), stdout=subprocess.PIPE,
                               stderr=subprocess.DEVNULL, check=False)
-        told = done.stdout.decode().splitlines()
-        for place, (reply, want) in enumerate(zip(told, wanted)):
+        replies = done.stdout.decode().splitlines()
+        for place, (reply, want) in enumerate(zip(replies, wanted)):
             if reply != want:
                 print(f"takes: {name}, reply {place + 1}: {reply[:90]}, and {want[:90]} is wanted")
                 sys.exit(1)
-        if len(told) != len(wanted) or done.returncode != 0:
-            print(f"takes: {name}: {len(told)} replies of {len(wanted)}, status {done.returncode}")
+        if len(replies) != len(wanted) or done.returncode != 0:
+            print(f"takes: {name}: {len(replies)} replies of {len(wanted)}, status {done.returncode}")
             sys.exit(1)
-        counts.update(reply.split()[0] for reply in told)
+        counts.update(reply.split()[0] for reply in replies)
     kinds = ", ".join(f"{count} {kind}" for kind, count in sorted(counts.items()))
     print(f"takes: {len(scripts)} scripts, 0 differ; {kinds}")
 

@@ -1,6 +1,8 @@
-"""Each script of bench/ answers `--help` with how it is used, and does nothing else."""
+"""Each script of bench/ answers `--help` with how it is used, and does nothing else; and the index
+of bench/ has each file."""
 import glob
 import os
+import re
 import subprocess
 import unittest
 from concurrent.futures import ThreadPoolExecutor
@@ -23,6 +25,21 @@ def told(path):
         [os.path.join(TOP, path), "--help"], stdin=subprocess.DEVNULL, stdout=subprocess.PIPE,
         stderr=subprocess.STDOUT, universal_newlines=True, timeout=60)
     return done.returncode, done.stdout
+
+
+class Index(unittest.TestCase):
+    def test_each_file_stands_in_its_folders_table(self):
+        with open(os.path.join(TOP, "bench", "README.md"), encoding="utf-8") as file:
+            sections = dict(re.findall(r"(?ms)^## bench/(\w+)/:(.*?)(?=^## |\Z)", file.read()))
+        for folder, section in sections.items():
+            rows = [row.split("|")[1] for row in section.splitlines() if row.startswith("| `")]
+            named = re.findall(r"`([^`]+)`", " ".join(rows))
+            there = {os.path.relpath(path, os.path.join(TOP, "bench", folder))
+                     for pattern in ("*.py", "*.sh", "figures/*.sh")
+                     for path in glob.glob(os.path.join(TOP, "bench", folder, pattern))}
+            self.assertEqual(sorted(named), sorted(there), folder)
+        folders = os.listdir(os.path.join(TOP, "bench"))
+        self.assertEqual(sorted(sections), sorted(set(folders) - {"README.md", "out"}))
 
 
 class Help(unittest.TestCase):
