@@ -5,7 +5,7 @@
 # bench/judge/two.sh. Ends with status 1 where something else came of one.
 # usage: bench/judge/files.sh [PROGRAM]
 [ "${1-}" != --help ] || exec sed -n '2,/^[^#]/s/^# \{0,1\}//p' "$0"
-. "$(dirname "$0")/setup.sh"
+. "$(dirname "$0")/../parts/setup.sh"
 
 python3 - "$program" "$work" <<'END'
 import hashlib

@@ -75,7 +75,7 @@ def become(main, words, output):
     status = 70
     try:
         os.dup2(output, 1)
-        sys.stdout, sys.argv = os.fdopen(1, "w"), ["tools/tool.py", *words]
+        sys.stdout, sys.argv = os.fdopen(1, "w"), [f"tools/{main.__module__}.py", *words]
         status = networks.status_of(main)
     except SystemExit as end:
         status = end.code

@@ -2,7 +2,7 @@
 # How many writes to standard output 100 short replies take: one each, where a reply goes out whole.
 # usage: bench/judge/puts.sh [PROGRAM]
 [ "${1-}" != --help ] || exec sed -n '2,/^[^#]/s/^# \{0,1\}//p' "$0"
-. "$(dirname "$0")/setup.sh"
+. "$(dirname "$0")/../parts/setup.sh"
 if ! command -v strace >/dev/null; then
     echo "puts: no figure, since strace is not installed"
     exit 0

@@ -6,7 +6,7 @@
 # Ends with status 1 where a command did otherwise.
 # usage: bench/judge/too_long.sh [PROGRAM]
 [ "${1-}" != --help ] || exec sed -n '2,/^[^#]/s/^# \{0,1\}//p' "$0"
-. "$(dirname "$0")/setup.sh"
+. "$(dirname "$0")/../parts/setup.sh"
 
 python3 - "$program" "$work" <<'END'
 import subprocess

@@ -5,7 +5,7 @@
 # Ends with status 1 where one of them did otherwise.
 # usage: bench/judge/two.sh [PROGRAM]
 [ "${1-}" != --help ] || exec sed -n '2,/^[^#]/s/^# \{0,1\}//p' "$0"
-. "$(dirname "$0")/setup.sh"
+. "$(dirname "$0")/../parts/setup.sh"
 
 python3 - "$program" "$work/journal" <<'END'
 import subprocess

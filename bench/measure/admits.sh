@@ -2,7 +2,7 @@
 # Seconds that 20,001 admissions take from start to end, the last of them at a full book.
 # usage: bench/measure/admits.sh [PROGRAM]
 [ "${1-}" != --help ] || exec sed -n '2,/^[^#]/s/^# \{0,1\}//p' "$0"
-. "$(dirname "$0")/setup.sh"
+. "$(dirname "$0")/../parts/setup.sh"
 
 {
     printf 'node a\nnode b\nlink a b 1000000000 1\nend\n'

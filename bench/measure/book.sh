@@ -4,7 +4,7 @@
 # the middle. The book of 10 is the reference of the same run.
 # usage: bench/measure/book.sh [PROGRAM]
 [ "${1-}" != --help ] || exec sed -n '2,/^[^#]/s/^# \{0,1\}//p' "$0"
-. "$(dirname "$0")/setup.sh"
+. "$(dirname "$0")/../parts/setup.sh"
 
 # The seconds of the program on a book with so many live VPNs, before the commands and with them.
 seconds() { # LIVE COMMANDS REPEATS

@@ -3,7 +3,7 @@
 # releases by turns; and the memory of the process with 20,000 live VPNs of 64 endpoints.
 # usage: bench/measure/commands.sh [PROGRAM]
 [ "${1-}" != --help ] || exec sed -n '2,/^[^#]/s/^# \{0,1\}//p' "$0"
-. "$(dirname "$0")/setup.sh"
+. "$(dirname "$0")/../parts/setup.sh"
 
 # Runs the program on the input, and prints how long that took, and the last reply.
 figure() { # NAME

@@ -7,7 +7,7 @@
 # take alone is measured in the same run. Times are a processor's, the least of five runs.
 # usage: bench/measure/decisions.sh [PROGRAM [SEED]]
 [ "${1-}" != --help ] || exec sed -n '2,/^[^#]/s/^# \{0,1\}//p' "$0"
-. "$(dirname "$0")/setup.sh"
+. "$(dirname "$0")/../parts/setup.sh"
 
 RUNS=5
 python3 - "$work" "${2:-1}" <<'END'

@@ -15,7 +15,7 @@
 # FOLDER: on a real disk; else the current one
 [ "${1-}" != --help ] || exec sed -n '2,/^[^#]/s/^# \{0,1\}//p' "$0"
 visits=${3-20000}
-. "$(dirname "$0")/place.sh"
+. "$(dirname "$0")/../parts/place.sh"
 ulimit -n 12000 || exit 1
 gcc -O2 bench/measure/host.c -o "$place/peers" || exit 1
 gcc -O2 bench/measure/port_orders.c -o "$place/customers" -lpthread -ldl || exit 1

@@ -4,7 +4,7 @@
 # the topology is read and its digest taken, and nothing else; the start of the program counts.
 # usage: bench/measure/json.sh [PROGRAM]
 [ "${1-}" != --help ] || exec sed -n '2,/^[^#]/s/^# \{0,1\}//p' "$0"
-. "$(dirname "$0")/setup.sh"
+. "$(dirname "$0")/../parts/setup.sh"
 
 printf 'node another\nend\n' | "$program" run "$work/journal"
 python3 - "$program" "$work" <<'END'

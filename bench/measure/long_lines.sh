@@ -2,7 +2,7 @@
 # Megabytes a second of input that is all lines too long to be commands.
 # usage: bench/measure/long_lines.sh [PROGRAM]
 [ "${1-}" != --help ] || exec sed -n '2,/^[^#]/s/^# \{0,1\}//p' "$0"
-. "$(dirname "$0")/setup.sh"
+. "$(dirname "$0")/../parts/setup.sh"
 
 python3 - >"$work/input" <<'END'
 import sys

@@ -7,7 +7,7 @@
 # off.
 # usage: bench/measure/maintenance.sh [PROGRAM [SEED]]
 [ "${1-}" != --help ] || exec sed -n '2,/^[^#]/s/^# \{0,1\}//p' "$0"
-. "$(dirname "$0")/setup.sh"
+. "$(dirname "$0")/../parts/setup.sh"
 
 python3 - "$program" "${2:-1}" <<'END'
 import resource

@@ -7,7 +7,7 @@
 # is taken off. Before that, an audit is to find all VPNs of the journal and what they cost.
 # usage: bench/measure/store.sh [PROGRAM] [DIGESTS]     DIGESTS: else it is built
 [ "${1-}" != --help ] || exec sed -n '2,/^[^#]/s/^# \{0,1\}//p' "$0"
-. "$(dirname "$0")/setup.sh"
+. "$(dirname "$0")/../parts/setup.sh"
 digests=${2:-$(bench/measure/figures/build.sh digests)}
 
 python3 - "$program" "$work" "$digests" <<'END'

@@ -10,7 +10,7 @@
 # of bench/measure/figures calls the planner itself, as takes do under the lock.
 # usage: bench/measure/takes.sh [PROGRAM [SEED]]
 [ "${1-}" != --help ] || exec sed -n '2,/^[^#]/s/^# \{0,1\}//p' "$0"
-. "$(dirname "$0")/setup.sh"
+. "$(dirname "$0")/../parts/setup.sh"
 
 RUNS=9
 python3 - "$work" "${2:-1}" <<'END'

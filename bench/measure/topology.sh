@@ -3,7 +3,7 @@
 # process then. The text ends in a wrong line in place of `end`, so that it is only read.
 # usage: bench/measure/topology.sh [PROGRAM]
 [ "${1-}" != --help ] || exec sed -n '2,/^[^#]/s/^# \{0,1\}//p' "$0"
-. "$(dirname "$0")/setup.sh"
+. "$(dirname "$0")/../parts/setup.sh"
 
 python3 - >"$work/input" <<'END'
 for node in range(512):

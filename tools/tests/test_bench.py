@@ -12,11 +12,14 @@ TOP = os.path.join(os.path.dirname(os.path.abspath(__file__)), "..", "..")
 CALLED = {"bench/parts/measure.py", "bench/parts/reference.py"}
 
 
+def files_of(folder):
+    """The paths of the scripts and parts in a folder of bench/, from the top of the repository."""
+    return [os.path.relpath(path, TOP) for pattern in ("*.py", "*.sh", "figures/*.sh")
+            for path in glob.glob(os.path.join(TOP, "bench", folder, pattern))]
+
+
 def all_scripts():
-    """The paths of the scripts of bench/, from the top of the repository."""
-    found = {os.path.relpath(path, TOP) for pattern in ("*/*.py", "*/*.sh", "*/figures/*.sh")
-             for path in glob.glob(os.path.join(TOP, "bench", pattern))}
-    return {path for path in found if not path.startswith("bench/parts/")} | CALLED
+    return {path for path in files_of("*") if not path.startswith("bench/parts/")} | CALLED
 
 
 def told(path):
@@ -34,12 +37,23 @@ class Index(unittest.TestCase):
         for folder, section in sections.items():
             rows = [row.split("|")[1] for row in section.splitlines() if row.startswith("| `")]
             named = re.findall(r"`([^`]+)`", " ".join(rows))
-            there = {os.path.relpath(path, os.path.join(TOP, "bench", folder))
-                     for pattern in ("*.py", "*.sh", "figures/*.sh")
-                     for path in glob.glob(os.path.join(TOP, "bench", folder, pattern))}
+            there = [os.path.relpath(path, f"bench/{folder}") for path in files_of(folder)]
             self.assertEqual(sorted(named), sorted(there), folder)
         folders = os.listdir(os.path.join(TOP, "bench"))
         self.assertEqual(sorted(sections), sorted(set(folders) - {"README.md", "out"}))
+
+
+class Paths(unittest.TestCase):
+    def test_each_file_that_a_script_names_is_there(self):
+        for path in all_scripts() | set(files_of("parts")):
+            with open(os.path.join(TOP, path), encoding="utf-8") as file:
+                text = file.read()
+            named = re.findall(r"\b(?:bench|tools|demo)/[\w/.-]+\.(?:py|sh|c|rs|txt)\b", text)
+            beside = re.findall(r'\$\(dirname "\$0"\)/([\w./]+)', text)
+            named += [os.path.relpath(os.path.join(TOP, os.path.dirname(path), one), TOP)
+                      for one in beside if one.endswith(".sh")]
+            for name in named:
+                self.assertTrue(os.path.exists(os.path.join(TOP, name)), f"{path}: {name}")
 
 
 class Help(unittest.TestCase):
