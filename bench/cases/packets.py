@@ -21,7 +21,7 @@ sys.path.insert(0, os.path.join(os.path.dirname(os.path.abspath(__file__)), ".."
 from usage import tell_usage
 
 from star_model import DIGEST, EMPTY, Disk, Failed, Journal, audit, chain, journal_of, live_of, plan
-from star_model import print_cases, spelled
+from star_model import print_cases, spelled, stops_of
 
 ROW = ("admit", "acme", ((0, 3), (1, 4), (2, 5)))
 LEADER = (ROW, ("release", "acme", 1))
@@ -363,13 +363,7 @@ def stopped(name, held, failing):
     given = packets_of(LEADER)
     disk = Disk(held, failing)
     lines, status, since = followed(disk, b"".join(given))
-    before, last = WRITTEN if held else 0, len(disk.calls)
-    books, stops = [], []
-    for (first, found), (then, _) in zip(since, since[1:] + [(last + 1, None)]):
-        if first < then:
-            books += [book for book in found if book not in books]
-            numbers = " ".join(str(books.index(book) + 1) for book in found)
-            stops.append(f"stop {before + first} {before + then - 1} {numbers}")
+    books, stops = stops_of(since, WRITTEN if held else 0, len(disk.calls))
     calls = " and then ".join(f"call {number} of the kind {kind}" for kind, number in failing)
     told = f"{calls} {'fails' if len(failing) == 1 else 'fail'}" if failing else "no call fails"
     yield f"case {name}, stopped after each call of the disk: {told}"

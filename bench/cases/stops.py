@@ -18,7 +18,7 @@ sys.path.insert(0, os.path.join(os.path.dirname(os.path.abspath(__file__)), ".."
 from usage import tell_usage
 
 from star_model import EMPTY, PLAIN, Disk, Failed, Journal, Server, audit, hose_of, journal_of
-from star_model import print_cases
+from star_model import print_cases, stops_of
 
 FOUR = ("acme admit a:3 b:4 c:5", "acme quote a:1 b:1", "acme take 1", "acme release 1")
 SIX = (
@@ -58,14 +58,7 @@ def name(name, failing):
 
 def case(base, held, entries, failing, lines):
     told, status, disk, since = stopped(held, entries, failing, lines)
-    before = WRITTEN if held else 0
-    last = len(disk.calls)
-    books, stops = [], []
-    for (first, found), (then, _) in zip(since, since[1:] + [(last + 1, None)]):
-        if first < then:
-            books += [book for book in found if book not in books]
-            numbers = " ".join(str(books.index(book) + 1) for book in found)
-            stops.append(f"stop {before + first} {before + then - 1} {numbers}")
+    books, stops = stops_of(since, WRITTEN if held else 0, len(disk.calls))
     begun = [f"case {name(base, failing)}"] + ([f"journal {held.hex()}"] if held else [])
     begun += [f"disk-fails {kind} {number}" for kind, number in failing] + told
     audits = [f"{number}| {line}" for number, book in enumerate(books, 1) for line in audit(book)]

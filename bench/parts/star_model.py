@@ -36,6 +36,19 @@ def print_cases(heads, topology, cases):
         print("\n".join(lines))
 
 
+def stops_of(since, before, last):
+    """The lines of stops after each call of a disk, so many calls before it and the last one, and
+    the books that they tell by their numbers. `since` has the call from which on a stop may leave
+    some books, and these books."""
+    books, stops = [], []
+    for (first, found), (then, _) in zip(since, since[1:] + [(last + 1, None)]):
+        if first < then:
+            books += [book for book in found if book not in books]
+            numbers = " ".join(str(books.index(book) + 1) for book in found)
+            stops.append(f"stop {before + first} {before + then - 1} {numbers}")
+    return books, stops
+
+
 class Failed(Exception):
     pass
 
