@@ -101,5 +101,5 @@ fn run_in<R: Threads + Wait + Sync, I: Source, O: Sink, C: Cabinet, L: Door + Se
     requires { (C.frame world.old.cabinet).out ≡ None }
     ensures { (C.frame world.new.cabinet).out ≡ None }
 {
-    program(context, &case.words, tariffs, world)
+    program(context, &case.words, tariffs, world).why.status()
 }

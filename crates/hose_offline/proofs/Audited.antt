@@ -29,7 +29,7 @@ use Rattle.hose_offline.specs.Run.{IsRefusedText}
 use Rattle.hose_offline.specs.ServingOnDisk.{IsNotServed, first_of}
 use Rattle.hose_offline.specs.TopologyTold.{limit_of, notation_of}
 use Rattle.hose_offline.specs.declared.fault.Fault.{Fault}
-use Rattle.hose_offline.specs.declared.fault.Fault.TheVariants.{Words, Topology, Other, Damaged, Cabinet, Memory, TooLong}
+use Rattle.hose_offline.specs.declared.fault.Fault.TheVariants.{Words, Topology, Text, Other, Damaged, Cabinet, Memory, TooLong}
 use Rattle.hose_offline.proofs.Audits.{has_before, held_before, not_served_before}
 use Rattle.hose_offline.proofs.Journals.{audit_text_of, audits_in, not_too_long}
 use Rattle.hose_offline.proofs.Outcomes.{clash, no_network_read, no_text, not_long, not_refused, of_read}
@@ -77,7 +77,7 @@ pub record ReadsNothing {I O C E : Type 0} (tells : Tellings I O C E) (names : P
   pub too_long : (why ≡ TooLong) ↔ (limit_of (notation_of names.topology) < length taken)
   pub not_read : IsNotRead tells names before after left why
   pub absent : IsTrue (tells.cabinet.frame before.cabinet).tells → IsSome (tells.cabinet.text before.cabinet names.topology) → (tells.cabinet.frame after.cabinet).absent ≡ (tells.cabinet.frame before.cabinet).absent
-  pub not_there : IsTrue (tells.cabinet.frame before.cabinet).tells → tells.cabinet.text before.cabinet names.topology ≡ None → why ≡ Cabinet
+  pub not_there : IsTrue (tells.cabinet.frame before.cabinet).tells → tells.cabinet.text before.cabinet names.topology ≡ None → why ≡ Text
   pub others : OthersStay tells.cabinet names.journal before.cabinet after.cabinet
 
 module _ {I O C E : Type 0} (tells : Tellings I O C E) (names : PricedNames) (before after : Parts I O C) where
@@ -147,7 +147,7 @@ module _ {I O C E : Type 0} (tells : Tellings I O C E) (names : PricedNames) (be
         refused_by (Topology refusal) refused (inl text) = inl refl
         refused_by Memory refused (inl ((inl starved, held), disks)) = inr (inl (refl, starved))
         refused_by Memory refused (inl ((inr read, held), disks)) = absurd (no_text (notation_of names.topology) _ _ refused read)
-        refused_by Cabinet refused (inl text) = inr (inr (inl (refl, text.0)))
+        refused_by Text refused (inl text) = inr (inr (inl (refl, text.0)))
         refused_by TooLong refused (inl text) = inr (inr (inr (refl, text.0.0)))
         refused_by another refused (inl text) = absurd text.0
 
@@ -155,7 +155,7 @@ module _ {I O C E : Type 0} (tells : Tellings I O C E) (names : PricedNames) (be
             → IsNotRead tells names before after reads.left one → (one ≡ TooLong → limit_of (notation_of names.topology) < length reads.taken) → (status_of one ≡ 0) ⊎ (status_of one ≡ 7)
         complete_by (Topology refusal) servable told held (inl text) long = absurd (not_refused (notation_of names.topology) refusal _ _ reads.taken reads.gives servable text.0.0)
         complete_by Memory servable told held (inl text) long = inr refl
-        complete_by Cabinet servable told held (inl text) long = absurd (held.keeping_it text.0)
+        complete_by Text servable told held (inl text) long = absurd (held.keeping_it text.0)
         complete_by TooLong servable told held (inl text) long = absurd (not_long (notation_of names.topology) _ _ reads.taken reads.gives servable (long refl))
         complete_by Memory servable told held (inr served) long = inr refl
         complete_by Cabinet servable told held (inr served) long = absurd (held.keeping_it served.is.1)
@@ -169,7 +169,7 @@ module _ {I O C E : Type 0} (tells : Tellings I O C E) (names : PricedNames) (be
         journal_by : (one : Fault) → IsTextServable tells names before → Failing → IsNotRead tells names before after reads.left one → (one ≡ TooLong → limit_of (notation_of names.topology) < length reads.taken) → (status_of one ≡ 5) ⊎ (status_of one ≡ 7)
         journal_by (Topology refusal) servable held (inl text) long = absurd (not_refused (notation_of names.topology) refusal _ _ reads.taken reads.gives servable text.0.0)
         journal_by Memory servable held (inl text) long = inr refl
-        journal_by Cabinet servable held (inl text) long = absurd (held.keeping_it text.0)
+        journal_by Text servable held (inl text) long = absurd (held.keeping_it text.0)
         journal_by TooLong servable held (inl text) long = absurd (not_long (notation_of names.topology) _ _ reads.taken reads.gives servable (long refl))
         journal_by (Other kept given) servable held (inl text) long = inl refl
         journal_by (Damaged at) servable held (inl text) long = inl refl

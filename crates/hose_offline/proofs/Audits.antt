@@ -112,12 +112,12 @@ module _ {C E : Type 0} (cabinet : CabinetGhosts C E) (old new : C) (name : List
     pub read_err : (why : TopoFault) → ((line word : ℕ) → why ≡ topo.At line word → TellsNoNetwork notation.Lines (Word line word) (source.content start) (source.content last))
         → ((met : LineFault) → why ≡ fault_of met → WhereTold (source.content start) (source.content last) (StopsInTopology met))
         → (why ≡ topo.Read → Rose (source.frame start) (source.frame last)) → ((why ≡ topo.Read → ⊥) → source.frame last ≡ source.frame start)
-        → (why ≡ topo.Memory → last ≡ start) → ((why ≡ topo.TooLong) ↔ (INPUT_LIMIT < length bytes)) → ReadsText cabinet old new notation.Lines own_costs name (Err (of_topology fault.Cabinet why))
-    read_err why wrong stopped rose unfailed memory long = read_as notation.Lines (Err (of_topology fault.Cabinet why)) bytes gives limit
-        ((λ is. long.0 (too_long_text why (cc is))), λ more. ap (λ (w : TopoFault). Err (of_topology fault.Cabinet w)) (long.1 more))
+        → (why ≡ topo.Memory → last ≡ start) → ((why ≡ topo.TooLong) ↔ (INPUT_LIMIT < length bytes)) → ReadsText cabinet old new notation.Lines own_costs name (Err (of_topology fault.Text why))
+    read_err why wrong stopped rose unfailed memory long = read_as notation.Lines (Err (of_topology fault.Text why)) bytes gives limit
+        ((λ is. long.0 (too_long_text why (cc is))), λ more. ap (λ (w : TopoFault). Err (of_topology fault.Text w)) (long.1 more))
         (at why wrong stopped rose unfailed memory)
       where
-        too_long_text : (met : TopoFault) → of_topology fault.Cabinet met ≡ fault.TooLong → met ≡ topo.TooLong
+        too_long_text : (met : TopoFault) → of_topology fault.Text met ≡ fault.TooLong → met ≡ topo.TooLong
         too_long_text (topo.At l word) same = absurd (cc same)
         too_long_text topo.Read same = absurd (cc same)
         too_long_text topo.TooLong same = refl
@@ -126,7 +126,7 @@ module _ {C E : Type 0} (cabinet : CabinetGhosts C E) (old new : C) (name : List
         at : (met : TopoFault) → ((line word : ℕ) → met ≡ topo.At line word → TellsNoNetwork notation.Lines (Word line word) (source.content start) (source.content last))
             → ((f : LineFault) → met ≡ fault_of f → WhereTold (source.content start) (source.content last) (StopsInTopology f))
             → (met ≡ topo.Read → Rose (source.frame start) (source.frame last)) → ((met ≡ topo.Read → ⊥) → source.frame last ≡ source.frame start)
-            → (met ≡ topo.Memory → last ≡ start) → IsTextFault cabinet old new notation.Lines (whole_text cabinet old name) (source.content last) (of_topology fault.Cabinet met)
+            → (met ≡ topo.Memory → last ≡ start) → IsTextFault cabinet old new notation.Lines (whole_text cabinet old name) (source.content last) (of_topology fault.Text met)
         at (topo.At l word) wrong stopped rose unfailed memory = (moved (TellsNoNetwork notation.Lines (Word l word)) (wrong l word refl), held (unfailed (λ is. absurd (cc is))))
         at topo.Read wrong stopped rose unfailed memory = failed (rose refl)
         at topo.TooLong wrong stopped rose unfailed memory = (moved (λ a b. WhereTold a b (StopsInTopology line.TooLong)) (stopped line.TooLong refl), held (unfailed (λ is. absurd (cc is))))
@@ -134,11 +134,11 @@ module _ {C E : Type 0} (cabinet : CabinetGhosts C E) (old new : C) (name : List
 
   -- of one in JSON
   pub read_json_as : (done : Result Network Fault) (bytes : List ℕ) → Gives (source.content start) (source.content last) bytes → length bytes ≤ JSON_LIMIT + 1 → ((done ≡ Err fault.TooLong) ↔ (JSON_LIMIT < length bytes))
-      → IsJsonOf (source.content start) (source.content last) done → (done ≡ Err fault.Cabinet → Rose (source.frame start) (source.frame last)) → (done ≢ Err fault.Cabinet → source.frame last ≡ source.frame start)
+      → IsJsonOf (source.content start) (source.content last) done → (done ≡ Err fault.Text → Rose (source.frame start) (source.frame last)) → (done ≢ Err fault.Text → source.frame last ≡ source.frame start)
       → ReadsText cabinet old new notation.Json own_costs name done
   read_json_as done bytes gives limit long json rose same = read_as notation.Json done bytes gives limit long (at done json rose same)
     where
-      at : (met : Result Network Fault) → IsJsonOf (source.content start) (source.content last) met → (met ≡ Err fault.Cabinet → Rose (source.frame start) (source.frame last)) → (met ≢ Err fault.Cabinet → source.frame last ≡ source.frame start)
+      at : (met : Result Network Fault) → IsJsonOf (source.content start) (source.content last) met → (met ≡ Err fault.Text → Rose (source.frame start) (source.frame last)) → (met ≢ Err fault.Text → source.frame last ≡ source.frame start)
           → TextComesTo cabinet old new notation.Json own_costs (whole_text cabinet old name) (source.content last) met
       at (Ok network) is rose same = (
         is.0,
@@ -146,7 +146,7 @@ module _ {C E : Type 0} (cabinet : CabinetGhosts C E) (old new : C) (name : List
         moved (λ a b. WhereTold a b (λ text _. TellsPriced notation.Json own_costs text network)) (WhereTold-map (source.content start) (source.content last) _ _ is.1 (λ input left tells. (network, tells, refl))),
       )
       at (Err (fault.Topology refusal)) is rose same = (moved (TellsNoNetwork notation.Json refusal) is, held (same (λ e. absurd (cc e))))
-      at (Err fault.Cabinet) is rose same = failed (rose refl)
+      at (Err fault.Text) is rose same = failed (rose refl)
       at (Err fault.Memory) is rose same = (inl tt, held (same (λ e. absurd (cc e))))
       at (Err fault.TooLong) is rose same = (tt, held (same (λ e. absurd (cc e))))
       at (Err another) is rose same = absurd is
@@ -191,7 +191,7 @@ module _ {C E : Type 0} (cabinet : CabinetGhosts C E) (old new : C) (name : List
       → (first.fault ≡ None → (met : LineFault) → result ≡ Err (fault_of met) → told (λ before after. StopsInTopology met (first.pending ++ before) after))
       → (result ≡ Err topo.Read → (first.fault ≡ Some line.Read) ⊎ Rose (reading_frame cabinet first.source) (reading_frame cabinet last.source))
       → (first.taken ≤ INPUT_LIMIT → ((result ≡ Err topo.TooLong) ↔ (INPUT_LIMIT < last.taken))) → (result ≡ Err topo.Memory → last ≡ first) → KeepsLineFault first.fault last.fault result
-      → ReadsText cabinet old new notation.Lines own_costs name (Err (of_topology fault.Cabinet why))
+      → ReadsText cabinet old new notation.Lines own_costs name (Err (of_topology fault.Text why))
   lines_err result why at wrong no_text front failed too_long starved kept =
       read_err cabinet old new name first.source last.source (ap (λ (t : TextState C). t.cabinet.now) begun ∙ value) (ap (λ (t : TextState C). t.name) begun ∙ named) (ap (λ (t : TextState C). t.from) begun ∙ from) behind reads.gone there
       reads.takes.0 reads.takes.1 short why
@@ -221,7 +221,7 @@ module _ {C E : Type 0} (cabinet : CabinetGhosts C E) (old mid : C) (name : List
   gives_nothing (Some stream) = record { taken = sym (append-nil stream.taken); left = refl }
 
   -- it is refused
-  pub not_given : {T : Type 0} (failed : Failed) → IsTextCall {T = T} (cabinet.frame old) (cabinet.frame mid) (Err failed) → (written : Notation) → ReadsText cabinet old mid written own_costs name (Err fault.Cabinet)
+  pub not_given : {T : Type 0} (failed : Failed) → IsTextCall {T = T} (cabinet.frame old) (cabinet.frame mid) (Err failed) → (written : Notation) → ReadsText cabinet old mid written own_costs name (Err fault.Text)
   not_given {T} failed call written = record {
     taken = [];
     left = whole_text cabinet old name;
@@ -249,7 +249,7 @@ module _ {C E : Type 0} (cabinet : CabinetGhosts C E) (old mid : C) (name : List
     text_too written left (Ok network) is = (is.0, held_too is.1, subst (λ (t : Option Stream). WhereTold t left (λ bytes _. TellsPriced written own_costs bytes network)) same_text is.2)
     text_too written left (Err (fault.Topology refusal)) is = (subst (λ (t : Option Stream). TellsNoNetwork written refusal t left) same_text is.0, held_too is.1)
     text_too written left (Err fault.TooLong) is = (subst (λ (t : Option Stream). IsLongAt written t left) same_text is.0, held_too is.1)
-    text_too written left (Err fault.Cabinet) is = failed_too is
+    text_too written left (Err fault.Text) is = failed_too is
     text_too written left (Err fault.Memory) is = (subst (λ (t : Option Stream). IsStarvedAt written t left ⊎ HasText written t left) same_text is.0, held_too is.1)
     text_too written left (Err another) is = absurd is
 

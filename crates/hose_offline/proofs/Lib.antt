@@ -33,3 +33,4 @@ mod ShipEnds
 mod StreamsStay
 mod TalksTold
 mod Texts
+pub mod Told

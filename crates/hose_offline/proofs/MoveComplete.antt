@@ -69,7 +69,7 @@ module _ {C E : Type 0} (cabinet : CabinetGhosts C E) where
       → ¬ CabinetFailed cabinet first new → status_of why ≡ 7
   text_refused first old new prices name (fault.Topology refusal) stays reads servable none = absurd (not_refused (notation_of name) refusal _ _ reads.taken reads.gives servable reads.text.0)
   text_refused first old new prices name fault.TooLong stays reads servable none = absurd (not_long (notation_of name) _ _ reads.taken reads.gives servable (reads.too_long.0 refl))
-  text_refused first old new prices name fault.Cabinet stays reads servable none = absurd (none (Rose-later _ _ _ stays reads.text))
+  text_refused first old new prices name fault.Text stays reads servable none = absurd (none (Rose-later _ _ _ stays reads.text))
   text_refused first old new prices name fault.Memory stays reads servable none = refl
   text_refused first old new prices name another stays reads servable none = absurd reads.text
 

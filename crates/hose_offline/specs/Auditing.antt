@@ -45,7 +45,7 @@ module _ {C E : Type 0} (cabinet : CabinetGhosts C E) (old new : C) where
     IsTextFault (fault.Topology refusal) =
         TellsNoNetwork written refusal text left × CabinetWorked cabinet old new
     IsTextFault fault.TooLong = IsLongAt written text left × CabinetWorked cabinet old new
-    IsTextFault fault.Cabinet = CabinetFailed cabinet old new
+    IsTextFault fault.Text = CabinetFailed cabinet old new
     IsTextFault fault.Memory = (IsStarvedAt written text left ⊎ HasText written text left)
         × CabinetWorked cabinet old new
     IsTextFault _ = ⊥
@@ -74,7 +74,7 @@ module _ {C E : Type 0} (cabinet : CabinetGhosts C E) (old new : C) where
     pub absent : IsTrue (cabinet.frame old).tells → IsSome (cabinet.text old name)
         → (cabinet.frame new).absent ≡ (cabinet.frame old).absent
     pub not_there : IsTrue (cabinet.frame old).tells → cabinet.text old name ≡ None
-        → result ≡ Err fault.Cabinet
+        → result ≡ Err fault.Text
 
   -- the topology was read of a text that is written as its name says
   abbrev pub ReadsTopology : (Network → Network → Type 0) → List ℕ → Result Network Fault → Type 0

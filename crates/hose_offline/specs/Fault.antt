@@ -10,12 +10,13 @@ use Rattle.hose_proto.specs.ReplyText.{line_of}
 use Rattle.hose_offline.specs.declared.fault.Fault.{Fault}
 use Rattle.hose_offline.specs.declared.notation.Refusal.{Refusal}
 use Rattle.hose_offline.specs.declared.notation.Refusal.TheVariants.{Word, Json, Nodes, Node, Links, Link}
-use Rattle.hose_offline.specs.declared.fault.Fault.TheVariants.{Words, Topology, Read, Write, Other, Damaged, Cabinet, Memory, TooLong, Door, Packet}
+use Rattle.hose_offline.specs.declared.fault.Fault.TheVariants.{Words, Topology, Text, Read, Write, Other, Damaged, Cabinet, Memory, TooLong, Door, Packet}
 
 -- the status
 abbrev pub status_of : Fault → ℕ
 status_of (Words word) = 1
 status_of (Topology refusal) = 2
+status_of Text = 6
 status_of Read = 3
 status_of Write = 4
 status_of (Other kept given) = 5
@@ -39,6 +40,7 @@ refusal_words (Link index) = codes "links " ++ decimal index
 abbrev pub last_line : Fault → List ℕ
 last_line (Words word) = line_of (codes "words " ++ decimal word)
 last_line (Topology refusal) = line_of (codes "topology " ++ refusal_words refusal)
+last_line Text = line_of (codes "cabinet")
 last_line Read = line_of (codes "read")
 last_line Write = []
 last_line (Other kept given) =

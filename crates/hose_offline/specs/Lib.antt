@@ -27,4 +27,5 @@ pub mod ShipOutcome
 pub mod Talking
 pub mod Tally
 pub mod TopologyTold
+pub mod Why
 pub mod steps

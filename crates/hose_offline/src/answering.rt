@@ -27,10 +27,11 @@ ghost use Rattle.hose_offline.specs.Talking.{IsAskedBy};
 ghost use Rattle.hose_offline.specs.steps.Talking.{AnswersLine, SaysOneThing, SaysRead};
 ghost use Rattle.hose_offline.specs.steps.TalkingOnDisk.{TalksInCabinet};
 
-use crate::fault::{Fault, done_of_talk, end};
+use crate::fault::{Fault, done_of_talk};
 use crate::input_line::read_line;
 use crate::journal::{close_journal, first_fault, open_journal};
 use crate::outside::Outside;
+use crate::why::{Why, end};
 use hose_book::{Book, Books, Plain};
 use hose_core::Core;
 use hose_disk::{Cabinet, Disk};
@@ -45,15 +46,15 @@ use hose_topo::read;
 use hose_words::{INPUT_LIMIT, Line, LineReader};
 use std::alloc::Global;
 
-/// Reads a topology and then lines of the input, writes a reply for each line, and gives the exit
-/// status. The network has these costs. The book is kept in the journal of the name, or in memory
+/// Reads a topology and then lines of the input, writes a reply for each line, and says why it
+/// ended. The network has these costs. The book is kept in the journal of the name, or in memory
 /// where there is none.
 pub fn run<P: Prices, I: Source, O: Sink, C: Cabinet>(
     alloc: Global,
     costs: &P,
     journal: Option<&str>,
     outside: &mut Outside<'_, I, O, C>,
-) -> u8
+) -> Why
     requires { (C.frame outside.old.cabinet.now).out ≡ None }
     ensures { ComesTo (tellings I.Source O.Sink C.Cabinet C.Disk.Disk) (λ tells. RunOutcome tells
         (P.prices costs.now) (option_map (λ name. name.now) journal.entry)) outside.old outside.new

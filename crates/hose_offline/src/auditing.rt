@@ -5,18 +5,20 @@ ghost use Rattle.hose_offline.specs.AuditOutcome.{AuditOutcome};
 ghost use Rattle.hose_offline.specs.Ending.{EndsTold};
 ghost use Rattle.hose_offline.specs.steps.AuditOutcome.{AuditsJournal};
 ghost use Rattle.hose_offline.specs.Auditing.{ReadsText, ReadsTopology, priced_names};
-ghost use Rattle.hose_offline.specs.steps.Ending.{Wrote};
+ghost use Rattle.hose_offline.specs.steps.Ending.{WroteEnd};
+ghost use Rattle.hose_offline.specs.Why.{IsTold, why_status};
 ghost use Rattle.hose_offline.specs.Parts.{tellings};
 ghost use Rattle.hose_offline.specs.steps.Journal.{TouchesOnly};
 ghost use Rattle.hose_offline.specs.steps.Parts.{ComesTo, LeavesBeside, held};
 ghost use Rattle.hose_offline.specs.TopologyTold.{own_costs};
 
 use crate::cabinet_text::CabinetText;
-use crate::fault::{Fault, end};
+use crate::fault::Fault;
 use crate::journal::{close_journal, first_fault, open_journal};
 use crate::json_text::read_whole_json;
 use crate::notation::Notation;
 use crate::outside::Outside;
+use crate::why::{Why, end};
 use hose_book::Book;
 use hose_disk::Cabinet;
 use hose_graph::Topology;
@@ -35,13 +37,13 @@ pub struct Names<'a> {
 }
 
 /// Reads the topology of a text and the book of a journal, closes the journal, writes what the book
-/// holds, and gives the exit status. The book is told where closing failed too.
+/// holds, and says why it ended. The book is told where closing failed too.
 pub fn audit<P: Prices, I: Source, O: Sink, C: Cabinet>(
     alloc: Global,
     costs: &P,
     names: Names<'_>,
     outside: &mut Outside<'_, I, O, C>,
-) -> u8
+) -> Why
     requires { (C.frame (held outside.old).cabinet).out ≡ None }
     ensures { ComesTo (tellings I.Source O.Sink C.Cabinet C.Disk.Disk) (λ tells. AuditOutcome tells
         (priced_names (P.prices costs.now) names.entry.topology.now names.entry.journal.now))
@@ -53,17 +55,18 @@ pub fn audit<P: Prices, I: Source, O: Sink, C: Cabinet>(
     }
 }
 
-// Writes what the book of the journal of a name holds, or why no store was opened, and gives the
-// exit status. The disk is back in the cabinet then.
+// Writes what the book of the journal of a name holds, or why no store was opened, and says why
+// it ended. The disk is back in the cabinet then.
 fn audit_journal<I: Source, O: Sink, C: Cabinet>(
     alloc: Global,
     name: &str,
     topology: Topology,
     outside: &mut Outside<'_, I, O, C>,
-) -> u8
+) -> Why
     requires { (C.frame (held outside.old).cabinet).out ≡ None }
     ensures audits { AuditsJournal (tellings I.Source O.Sink C.Cabinet C.Disk.Disk) name.now
-        (held outside.old) (held outside.new) result topology }
+        (held outside.old) (held outside.new) (why_status result) topology }
+    ensures told { IsTold O.Sink (held outside.new).output result }
     ensures input { (held outside.new).input ≡ (held outside.old).input }
     ensures alone { TouchesOnly C.Cabinet name.now (held outside.old).cabinet
         (held outside.new).cabinet }
@@ -80,22 +83,22 @@ fn audit_journal<I: Source, O: Sink, C: Cabinet>(
     }
 }
 
-/// Writes what a book holds, and the last line of a fault that was met before, if one was; gives
-/// the exit status.
-pub fn tell<O: Sink>(book: &Book, done: Result<(), Fault>, output: &mut O) -> u8
-    ensures { Wrote O.Sink output.old output.new (EndsTold O.Sink output.old output.new result
-        done (audit_text book.now.network book.now.book)) }
+/// Writes what a book holds, and the last line of a fault that was met before, if one was; says why
+/// that ended.
+pub fn tell<O: Sink>(book: &Book, done: Result<(), Fault>, output: &mut O) -> Why
+    ensures { WroteEnd O.Sink output.old output.new result (EndsTold O.Sink output.old output.new
+        (why_status result) done (audit_text book.now.network book.now.book)) }
 {
     let told = hose_audit::audit(book, output);
     match done {
         Ok(()) => match told {
-            Ok(()) => 0,
-            Err(_) => Fault::Write.status(),
+            Ok(()) => Why::Done,
+            Err(_) => Why::Stopped(Fault::Write),
         },
         // After a failed write nothing more is written.
         Err(why) => match told {
             Ok(()) => end(Err(why), output),
-            Err(_) => why.status(),
+            Err(_) => Why::Stopped(why),
         },
     }
 }
@@ -122,7 +125,7 @@ fn read_told<C: Cabinet>(alloc: Global, name: &str, cabinet: &mut C) -> Result<T
 {
     // A text that is not there is told before a topology is looked for in it.
     let Ok(_) = cabinet.text(name, 0, &mut [0]) else {
-        return Err(Fault::Cabinet);
+        return Err(Fault::Text);
     };
     read_there(alloc, name, cabinet)
 }
@@ -150,7 +153,7 @@ fn read_text<C: Cabinet>(alloc: Global, name: &str, cabinet: &mut C) -> Result<T
     let _ = lines.into_source().into_cabinet();
     match topology {
         Ok(topology) => Ok(topology),
-        Err(fault) => Err(Fault::of_topology(fault, Fault::Cabinet)),
+        Err(fault) => Err(Fault::of_topology(fault, Fault::Text)),
     }
 }
 

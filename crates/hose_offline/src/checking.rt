@@ -5,13 +5,15 @@ ghost use Rattle.hose_cert.specs.Verdict.{AreCheapestFound, IsVerdict};
 ghost use Rattle.hose_words.specs.Reading.{WhereTold};
 ghost use Rattle.hose_words.specs.steps.Reading.{ReadsOn};
 ghost use Rattle.hose_offline.specs.CheckOutcome.{CheckOutcome, EndsChecked, JudgesInput, JudgesNamed};
-ghost use Rattle.hose_offline.specs.steps.Ending.{Wrote};
+ghost use Rattle.hose_offline.specs.steps.Ending.{WroteEnd};
+ghost use Rattle.hose_offline.specs.Why.{why_status};
 ghost use Rattle.hose_offline.specs.Parts.{tellings};
 ghost use Rattle.hose_offline.specs.steps.Parts.{ComesTo, KeepsAll, held};
 
 use crate::auditing::read_topology;
-use crate::fault::{Fault, end, put_numbered};
+use crate::fault::{Fault, put_numbered};
 use crate::outside::Outside;
+use crate::why::{Why, end};
 use hose_cert::{CertFault, Verdict, check_certificate};
 use hose_disk::Cabinet;
 use hose_graph::Topology;
@@ -20,17 +22,14 @@ use hose_tariff::Prices;
 use hose_words::{INPUT_LIMIT, LineReader};
 use std::alloc::Global;
 
-// The status with which a certificate that is not valid is told.
-const NOT_VALID: u8 = 10;
-
-/// Reads the topology of a text, judges the certificate that the input has, and gives the exit
-/// status. The network has these costs.
+/// Reads the topology of a text, judges the certificate that the input has, and says why
+/// it ended. The network has these costs.
 pub fn check<P: Prices, I: Source, O: Sink, C: Cabinet>(
     alloc: Global,
     costs: &P,
     topology: &str,
     outside: &mut Outside<'_, I, O, C>,
-) -> u8
+) -> Why
     ensures { ComesTo (tellings I.Source O.Sink C.Cabinet C.Disk.Disk) (λ tells. CheckOutcome tells
         (P.prices costs.now) topology.now) outside.old outside.new result }
 {
@@ -94,20 +93,21 @@ fn judge_lines<S: Source>(
     check_certificate(alloc, lines, top)
 }
 
-// Writes what was found, and gives the exit status.
-fn tell_verdict<O: Sink>(verdict: &Verdict, output: &mut O) -> u8
-    ensures { Wrote O.Sink output.old output.new
-        (EndsChecked O.Sink output.old output.new result (Ok verdict.now)) }
+// Writes what was found, and says why it ended.
+fn tell_verdict<O: Sink>(verdict: &Verdict, output: &mut O) -> Why
+    ensures { WroteEnd O.Sink output.old output.new result
+        (EndsChecked O.Sink output.old output.new (why_status result) (Ok verdict.now)) }
 {
     match verdict {
         Verdict::Yes { cost, .. } => match put_numbered(output, b"yes ", *cost) {
-            Ok(()) => 0,
-            Err(_) => Fault::Write.status(),
+            Ok(()) => Why::Done,
+            Err(_) => Why::Stopped(Fault::Write),
         },
         Verdict::No { rule } => {
-            // The status stays where the line cannot be written.
-            let _ = put_numbered(output, b"no ", u64::from(*rule));
-            NOT_VALID
+            // Why stays the rule where its line cannot be written.
+            let rule = u64::from(*rule);
+            let _ = put_numbered(output, b"no ", rule);
+            Why::NotValid { rule }
         }
     }
 }

@@ -7,7 +7,6 @@ ghost use Rattle.hose_proto.specs.ReplyText.{line_of};
 ghost use Rattle.hose_offline.specs.declared.fault.Fault.TheVariants.{Memory, Read, Write};
 ghost use Rattle.hose_offline.specs.Fault.{done_of_talk, status_of, last_line, of_store, refusal_words};
 ghost use Rattle.hose_offline.specs.steps.Fault.{of_certificate, of_json, of_proof, of_shipping, of_topology};
-ghost use Rattle.hose_offline.specs.steps.LastLine.{EndsDone};
 
 use crate::notation::Refusal;
 use hose_cert::{CertFault, ProveFault};
@@ -26,6 +25,8 @@ pub enum Fault {
     Words(u64),
     /// The topology was refused, and is wrong first there.
     Topology(Refusal),
+    /// The text of the topology could not be read.
+    Text,
     /// The input failed.
     Read,
     /// The output failed.
@@ -70,7 +71,7 @@ impl Fault {
             Fault::Read => 3,
             Fault::Write => 4,
             Fault::Other { .. } | Fault::Damaged { .. } => 5,
-            Fault::Cabinet => 6,
+            Fault::Text | Fault::Cabinet => 6,
             Fault::Memory => 7,
             Fault::TooLong => 8,
             Fault::Door => 9,
@@ -86,6 +87,7 @@ impl Fault {
         match self {
             Fault::Words(word) => put_numbered(output, b"words ", word),
             Fault::Topology(refusal) => put_refusal(output, refusal),
+            Fault::Text => write_all(output, b"cabinet\n"),
             Fault::Read => write_all(output, b"read\n"),
             Fault::Write => Ok(()),
             Fault::Other { kept, given } => put_digests(output, &kept, &given),
@@ -277,18 +279,4 @@ fn add_digest<O: Sink>(gather: &mut Gather, output: &mut O, digest: &[u8; 32])
     // There are two digits for each byte.
     let _ = hex::encode_to_slice(digest.as_slice(), &mut digits);
     gather.add(output, &digits);
-}
-
-/// The status of what was done, after its last line, if it has one.
-pub fn end<O: Sink>(done: Result<(), Fault>, output: &mut O) -> u8
-    ensures { EndsDone O.Sink output.old output.new done result }
-{
-    match done {
-        Ok(()) => 0,
-        Err(fault) => {
-            // The status stays that of the fault where its line cannot be written.
-            let _ = fault.put(output);
-            fault.status()
-        }
-    }
 }

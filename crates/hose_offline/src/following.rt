@@ -9,9 +9,10 @@ ghost use Rattle.hose_offline.specs.steps.Journal.{TouchesOnly};
 ghost use Rattle.hose_offline.specs.steps.Parts.{ComesTo, LeavesBeside, held};
 
 use crate::auditing::{Names, read_topology};
-use crate::fault::{Fault, end};
+use crate::fault::Fault;
 use crate::journal::{close_journal, first_fault, open_journal};
 use crate::outside::Outside;
+use crate::why::{Why, end};
 use hose_disk::Cabinet;
 use hose_follow::{FollowEnd, Sound};
 use hose_graph::Topology;
@@ -20,13 +21,13 @@ use hose_tariff::Prices;
 use std::alloc::Global;
 
 /// Reads the topology of a text, answers the packets of the input by the journal of a name, which
-/// follows the one that they come from, and gives the exit status. The network has these costs.
+/// follows the one that they come from, and says why it ended. The network has these costs.
 pub fn follow<P: Prices, I: Source, O: Sink, C: Cabinet>(
     alloc: Global,
     costs: &P,
     names: Names<'_>,
     outside: &mut Outside<'_, I, O, C>,
-) -> u8
+) -> Why
     requires { (C.frame (held outside.old).cabinet).out ≡ None }
     ensures { ComesTo (tellings I.Source O.Sink C.Cabinet C.Disk.Disk) (λ tells. FollowOutcome tells
         (priced_names (P.prices costs.now) names.entry.topology.now names.entry.journal.now))

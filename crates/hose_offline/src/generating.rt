@@ -15,9 +15,10 @@ ghost use Rattle.hose_offline.specs.steps.Parts.{ComesTo};
 ghost use Rattle.hose_offline.specs.steps.Talking.{AnswersLine, plain_books};
 ghost use Rattle.hose_offline.specs.steps.Tally.{IsOfUpTo, with_reply};
 
-use crate::fault::{Fault, end};
+use crate::fault::Fault;
 use crate::outside::Outside;
 use crate::tally::Tally;
+use crate::why::{Why, end};
 use hose_book::{Book, Books, Plain};
 use hose_core::Core;
 use hose_disk::Cabinet;
@@ -37,12 +38,12 @@ pub struct Sizes {
 }
 
 /// Makes a network and a script, answers the script by a book in memory, writes one line that sums
-/// up the replies, and gives the exit status.
+/// up the replies, and says why it ended.
 pub fn run_generated<I: Source, O: Sink, C: Cabinet>(
     alloc: Global,
     sizes: Sizes,
     outside: &mut Outside<'_, I, O, C>,
-) -> u8
+) -> Why
     requires { AreSizes sizes.nodes sizes.links sizes.hoses }
     ensures { ComesTo (tellings I.Source O.Sink C.Cabinet C.Disk.Disk) (λ tells. GenOutcome tells
         sizes) outside.old outside.new result }

@@ -17,15 +17,15 @@ pub const JSON_LIMIT: u64 = 1 << 24;
 // How many bytes are taken at once.
 const PIECE: usize = 16_384;
 
-/// Reads a topology of all that a source has left. A source that fails is told as a cabinet that
-/// does.
+/// Reads a topology of all that a source has left. A source that fails is told as a text that
+/// could not be read.
 pub fn read_whole_json<S: Source>(alloc: Global, source: &mut S) -> Result<Topology, Fault>
     ensures takes { (bytes : List ℕ) × Gives (S.content source.old) (S.content source.new) bytes
         × (length bytes ≤ JSON_LIMIT + 1)
         × ((result ≡ Err Fault.TooLong) ↔ (JSON_LIMIT < length bytes)) }
     ensures json { IsJsonOf (S.content source.old) (S.content source.new) result }
-    ensures failed { result ≡ Err Fault.Cabinet → Rose (S.frame source.old) (S.frame source.new) }
-    ensures held { result ≢ Err Fault.Cabinet → S.frame source.new ≡ S.frame source.old }
+    ensures failed { result ≡ Err Fault.Text → Rose (S.frame source.old) (S.frame source.new) }
+    ensures held { result ≢ Err Fault.Text → S.frame source.new ≡ S.frame source.old }
     ensures stays { Stays (S.frame source.old) (S.frame source.new) }
     ensures gone { HasGone S.Source source.old source.new }
 {
@@ -41,8 +41,8 @@ fn take_all<S: Source>(alloc: Global, source: &mut S) -> Result<Vec<u8>, Fault>
     ensures short { IfOk result (λ bytes. length bytes.items ≤ JSON_LIMIT) }
     ensures whole { OnOk result (IsAtEnd (S.content source.new)) }
     ensures fault { IfErr result (IsPieceFault (S.content source.old) (S.content source.new)) }
-    ensures failed { result ≡ Err Fault.Cabinet → Rose (S.frame source.old) (S.frame source.new) }
-    ensures held { result ≢ Err Fault.Cabinet → S.frame source.new ≡ S.frame source.old }
+    ensures failed { result ≡ Err Fault.Text → Rose (S.frame source.old) (S.frame source.new) }
+    ensures held { result ≢ Err Fault.Text → S.frame source.new ≡ S.frame source.old }
     ensures stays { Stays (S.frame source.old) (S.frame source.new) }
     ensures gone { HasGone S.Source source.old source.new }
 {
@@ -51,7 +51,7 @@ fn take_all<S: Source>(alloc: Global, source: &mut S) -> Result<Vec<u8>, Fault>
     loop {
         let room = (JSON_LIMIT as usize + 1 - bytes.len()).min(PIECE);
         let Ok(count) = source.take(&mut piece[..room]) else {
-            return Err(Fault::Cabinet);
+            return Err(Fault::Text);
         };
         if count == 0 {
             return Ok(bytes);

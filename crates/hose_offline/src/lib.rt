@@ -9,17 +9,17 @@
 //!
 //! ```
 //! let outside = &mut Outside::of(input, output, cabinet);
-//! let status = run(alloc, &OwnCosts, Some("orders.journal"), outside);
+//! let why = run(alloc, &OwnCosts, Some("orders.journal"), outside);
 //! let names = Names { topology: "star.txt", journal: "orders.journal" };
-//! let status = audit(alloc, &tariff, names, outside);
+//! let why = audit(alloc, &tariff, names, outside);
 //! let sizes = Sizes { seed: 7, nodes: 200, links: 600, hoses: 300 };
-//! let status = run_generated(alloc, sizes, outside);
-//! let status = prove(alloc, &OwnCosts, "star.txt", ends, outside);
-//! let status = check(alloc, &OwnCosts, "star.txt", outside);
-//! let status = price(alloc, &tariffs, "star.txt", outside);
-//! let status = ship(alloc, &OwnCosts, names, 1, outside);
-//! let status = follow(alloc, &OwnCosts, names, outside);
-//! let status = move_journal(alloc, &OwnCosts, Move { from, to, live: false }, outside);
+//! let why = run_generated(alloc, sizes, outside);
+//! let why = prove(alloc, &OwnCosts, "star.txt", ends, outside);
+//! let why = check(alloc, &OwnCosts, "star.txt", outside);
+//! let why = price(alloc, &tariffs, "star.txt", outside);
+//! let why = ship(alloc, &OwnCosts, names, 1, outside);
+//! let why = follow(alloc, &OwnCosts, names, outside);
+//! let why = move_journal(alloc, &OwnCosts, Move { from, to, live: false }, outside);
 //! ```
 #![tactic(auto)]
 
@@ -42,18 +42,21 @@ mod proving;
 mod sheet_answer;
 mod shipping;
 mod tally;
+mod why;
 
 pub use answering::run;
 pub use auditing::{Names, audit, read_topology, tell};
 pub use checking::check;
-pub use fault::{Fault, end};
+pub use fault::Fault;
 pub use following::follow;
 pub use generating::{Sizes, run_generated};
-pub use journal::open_store;
+pub use journal::{close_journal, first_fault, open_journal, open_store};
 pub use json_text::JSON_LIMIT;
+pub use move_end::MoveStop;
 pub use moving::{Move, move_journal};
 pub use notation::{Notation, Refusal};
 pub use outside::Outside;
 pub use pricing::price;
 pub use proving::{EndWords, prove};
 pub use shipping::ship;
+pub use why::{Why, end};

@@ -2,13 +2,15 @@
 ghost use Rattle.std.specs.Prelude.{◌≡◌, ◌++◌, ◌<◌, Ok, codes, length};
 ghost use Rattle.hose_io.specs.steps.Gather.{IsAdded};
 ghost use Rattle.hose_io.specs.steps.Writing.{IsPut};
-ghost use Rattle.hose_offline.specs.steps.Ending.{Wrote};
+ghost use Rattle.hose_offline.specs.steps.Ending.{WroteEnd};
+ghost use Rattle.hose_offline.specs.Why.{why_status};
 ghost use Rattle.hose_offline.specs.Fault.{last_line};
 ghost use Rattle.hose_offline.specs.MoveEnd.{EndsMoved, change_line, moved_done, moved_line, number_line, number_lines, stop_line, stop_status};
 ghost use Rattle.hose_offline.specs.declared.fault.Fault.TheVariants.{Write};
 ghost use Rattle.hose_offline.specs.declared.move_end.MoveStop.TheVariants.{Old};
 
 use crate::fault::{Fault, put_numbered};
+use crate::why::Why;
 use hose_io::{Failed, Gather, Sink, write_all};
 use hose_move::{MoveFault, NetworkChange};
 
@@ -136,29 +138,29 @@ fn add_number_line<O: Sink>(gather: &mut Gather, output: &mut O, numbers: &[u64]
     gather.add(output, b"\n");
 }
 
-/// The status of a move, after its last line.
-pub fn end_move<O: Sink>(moved: Result<Moved, MoveStop>, output: &mut O) -> u8
-    ensures { Wrote O.Sink output.old output.new
-        (EndsMoved O.Sink output.old output.new result moved) }
+/// Why a move ended, after its last line.
+pub fn end_move<O: Sink>(moved: Result<Moved, MoveStop>, output: &mut O) -> Why
+    ensures { WroteEnd O.Sink output.old output.new result
+        (EndsMoved O.Sink output.old output.new (why_status result) moved) }
 {
     match moved {
         Ok(moved) => end_whole(moved, output),
         Err(stop) => {
-            // The status stays that of the fault where its line cannot be written.
+            // Why stays the fault where its line cannot be written.
             let _ = stop.put(output);
-            stop.status()
+            Why::NotMoved(stop)
         }
     }
 }
 
-// The status of a move that came to its end, after its last line.
-fn end_whole<O: Sink>(moved: Moved, output: &mut O) -> u8
-    ensures { Wrote O.Sink output.old output.new
-        (EndsMoved O.Sink output.old output.new result (Ok moved)) }
+// Why a move ended that came to its end, after its last line.
+fn end_whole<O: Sink>(moved: Moved, output: &mut O) -> Why
+    ensures { WroteEnd O.Sink output.old output.new result
+        (EndsMoved O.Sink output.old output.new (why_status result) (Ok moved)) }
 {
     match put_moved(output, moved) {
-        Ok(()) => 0,
-        Err(_) => Fault::Write.status(),
+        Ok(()) => Why::Done,
+        Err(_) => Why::Stopped(Fault::Write),
     }
 }
 

@@ -12,6 +12,7 @@ use crate::auditing::{Names, read_topology};
 use crate::fault::Fault;
 use crate::move_end::{MoveStop, Moved, as_moved, end_move, put_numbers};
 use crate::outside::Outside;
+use crate::why::Why;
 use hose_disk::Cabinet;
 use hose_graph::{Entry, Topology};
 use hose_io::{Sink, Source};
@@ -30,14 +31,14 @@ pub struct Move<'a> {
 }
 
 /// Reads two topologies and the journal of the first, writes what that holds into a journal of the
-/// second, and gives the exit status. Both networks have these costs. The old journal is read and
+/// second, and says why it ended. Both networks have these costs. The old journal is read and
 /// never changed.
 pub fn move_journal<P: Prices, I: Source, O: Sink, C: Cabinet>(
     alloc: Global,
     costs: &P,
     of: Move<'_>,
     outside: &mut Outside<'_, I, O, C>,
-) -> u8
+) -> Why
     requires none_out { (C.frame (held outside.old).cabinet).out ≡ None }
     ensures { ComesTo (tellings I.Source O.Sink C.Cabinet C.Disk.Disk) (λ tells. MoveOutcome tells
         (names_of (P.prices costs.now) of.entry)) outside.old outside.new result }

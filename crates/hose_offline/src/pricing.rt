@@ -9,10 +9,11 @@ ghost use Rattle.hose_offline.specs.SheetLine.{AnswersSheet};
 ghost use Rattle.hose_offline.specs.steps.SheetLine.{PricesHose};
 
 use crate::auditing::read_topology;
-use crate::fault::{Fault, done_of_talk, end};
+use crate::fault::{Fault, done_of_talk};
 use crate::input_line::read_sheet_line;
 use crate::outside::Outside;
 use crate::sheet_answer::{SheetAnswer, put_answer};
+use crate::why::{Why, end};
 use hose_disk::Cabinet;
 use hose_graph::{Hose, Name, Topology};
 use hose_io::{Failed, Sink, Source};
@@ -25,13 +26,13 @@ use hose_words::Line;
 use std::alloc::Global;
 
 /// Reads the topology of a text, answers each line of the input with the prices of its hose under
-/// every tariff, and gives the exit status. There are 1 to 16 tariffs.
+/// every tariff, and says why it ended. There are 1 to 16 tariffs.
 pub fn price<I: Source, O: Sink, C: Cabinet>(
     alloc: Global,
     tariffs: &[Tariff],
     topology: &str,
     outside: &mut Outside<'_, I, O, C>,
-) -> u8
+) -> Why
     requires some { 1 ≤ length tariffs.now }
     requires few { length tariffs.now ≤ MOST_TARIFFS }
     ensures { ComesTo (tellings I.Source O.Sink C.Cabinet C.Disk.Disk) (λ tells. PriceOutcome tells

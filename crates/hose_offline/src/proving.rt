@@ -8,12 +8,14 @@ ghost use Rattle.hose_proto.specs.EndWords.{AreEndWords};
 ghost use Rattle.hose_offline.specs.steps.Ending.{Wrote};
 ghost use Rattle.hose_offline.specs.Parts.{tellings};
 ghost use Rattle.hose_offline.specs.steps.Parts.{KeepsAll, held};
+ghost use Rattle.hose_offline.specs.Why.{IsTold, why_status};
 ghost use Rattle.hose_offline.specs.ProveOutcome.{IsNoHose, ProveOutcome, ProvesWords, PutsProof, ends_from};
 ghost use Rattle.hose_offline.specs.steps.ProveOutcome.{AreEndsInOrder};
 
 use crate::auditing::read_topology;
-use crate::fault::{Fault, end};
+use crate::fault::Fault;
 use crate::outside::Outside;
+use crate::why::{Why, end};
 use hose_cert::put_certificate;
 use hose_disk::Cabinet;
 use hose_graph::{Endpoint, Hose, Topology};
@@ -31,7 +33,7 @@ pub struct EndWords<'a> {
 }
 
 /// Reads the topology of a text, writes the certificate of a hose's plan over all its links, or
-/// that there is no plan, and gives the exit status. The network has these costs, and the words are
+/// that there is no plan, and says why it ended. The network has these costs, and the words are
 /// the hose's endpoints.
 pub fn prove<P: Prices, I: Source, O: Sink, C: Cabinet>(
     alloc: Global,
@@ -39,13 +41,14 @@ pub fn prove<P: Prices, I: Source, O: Sink, C: Cabinet>(
     topology: &str,
     ends: EndWords<'_>,
     outside: &mut Outside<'_, I, O, C>,
-) -> u8
+) -> Why
     requires ends { AreEndWords (map string_bytes ends.words.now) }
     requires first { ends.first ≤ 2 ^ 63 }
     ensures outcome { ProveOutcome (tellings I.Source O.Sink C.Cabinet C.Disk.Disk)
         (P.prices costs.now) topology.now
         (ends_from (map string_bytes ends.entry.words.now) ends.entry.first)
-        (held outside.old) (held outside.new) result }
+        (held outside.old) (held outside.new) (why_status result) }
+    ensures told { IsTold O.Sink outside.new.output.now result }
     ensures out { (C.frame outside.new.cabinet.now).out ≡ (C.frame outside.old.cabinet.now).out }
     ensures keeps { KeepsAll (tellings I.Source O.Sink C.Cabinet C.Disk.Disk)
         outside.old outside.new }

@@ -9,8 +9,9 @@ ghost use Rattle.hose_offline.specs.ShipOutcome.{ShipOutcome, ShipsJournal};
 ghost use Rattle.hose_offline.specs.steps.ShipOutcome.{shipping_done};
 
 use crate::auditing::{Names, read_topology};
-use crate::fault::{Fault, end};
+use crate::fault::Fault;
 use crate::outside::Outside;
+use crate::why::{Why, end};
 use hose_disk::Cabinet;
 use hose_follow::ShipFault;
 use hose_graph::Topology;
@@ -19,7 +20,7 @@ use hose_tariff::Prices;
 use std::alloc::Global;
 
 /// Reads the topology of a text, writes the packets of the entries of the journal of a name, from
-/// the one of an epoch on, and gives the exit status. The network has these costs; the first
+/// the one of an epoch on, and says why it ended. The network has these costs; the first
 /// entry's epoch is 1.
 pub fn ship<P: Prices, I: Source, O: Sink, C: Cabinet>(
     alloc: Global,
@@ -27,7 +28,7 @@ pub fn ship<P: Prices, I: Source, O: Sink, C: Cabinet>(
     names: Names<'_>,
     from: u64,
     outside: &mut Outside<'_, I, O, C>,
-) -> u8
+) -> Why
     requires { (C.frame (held outside.old).cabinet).out ≡ None }
     ensures { ComesTo (tellings I.Source O.Sink C.Cabinet C.Disk.Disk) (λ tells. ShipOutcome tells
         (priced_names (P.prices costs.now) names.entry.topology.now names.entry.journal.now) from)

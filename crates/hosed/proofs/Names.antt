@@ -1,6 +1,6 @@
 -- What words name, from what their task names.
 use Rattle.std.specs.Prelude.{◌≡◌, ℕ, List}
-use Rattle.hosed.specs.steps.Naming.{AreNamed, named_bytes, task_names}
+use Rattle.hosed.specs.Naming.{AreNamed, named_bytes, task_names}
 use Rattle.hosed.specs.ProgramWords.{AreWords, Task}
 use Rattle.hosed.specs.declared.verb.ProgramVerb.{ProgramVerb}
 use Rattle.hosed.specs.declared.naming.NamedByWords.{NamedByWords}

@@ -31,6 +31,15 @@ failed_is (Err failed) closing why is = inl (cc is)
 failed_is (Ok done) (Err failed) why is = inr (cc is)
 failed_is (Ok done) (Ok closed) why is = absurd (cc is)
 
+-- nothing is told after an output that failed
+pub ends_unwritten : {O : Type 0} (sink : SinkGhosts O) (output : O) (why : Fault) → why ≡ Write → EndsServed sink output output 4 (Err why)
+ends_unwritten sink output why is = subst (λ (one : Fault). EndsServed sink output output 4 (Err one)) (sym is) (refl, refl)
+
+-- another fault is told by its last line
+pub ends_unserved : {O : Type 0} (sink : SinkGhosts O) (output output' : O) (status : ℕ) (why : Fault) → why ≢ Write → status ≡ status_of why → IsOut sink output output' (last_line why) → EndsServed sink output output' status (Err why)
+ends_unserved sink output output' status Write never is out = absurd (never refl)
+ends_unserved sink output output' status another never is out = (is, out)
+
 -- a server that opened its store ends with one of these
 served_status : {O : Type 0} (sink : SinkGhosts O) (port : ℕ) (before after : OutputDoor O) (left : O) (status : ℕ) (came : Result ServerEnd Fault) → Speaks sink port before after came → EndsServed sink after.output left status came → (other : ℕ) → other ≢ 0 → other ≢ 4 → other ≢ 6 → other ≢ 7 → other ≢ 9 → status ≢ other
 served_status sink port before after left status (Err Memory) speaks ends other no_0 no_4 no_6 no_7 no_9 is = no_7 (sym is ∙ ends.0)

@@ -1,5 +1,6 @@
 pub mod Hosed
 pub mod Limits
+pub mod Naming
 pub mod Offline
 pub mod ProgramWords
 pub mod ServeOutcome

@@ -1,5 +1,4 @@
 -- Steps of proofs: what no clause of the top calls names.
-pub mod Naming
 pub mod ProgramWords
 pub mod Reading
 pub mod ServerDoor

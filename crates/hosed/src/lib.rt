@@ -30,36 +30,43 @@ ghost use Rattle.std.specs.Prelude.{◌≡◌, None, map};
 ghost use Rattle.std.specs.String.{string_bytes};
 ghost use Rattle.hose_io.specs.Frame.{Stays};
 ghost use Rattle.hose_offline.specs.Parts.{AllStay, parts, tellings};
+ghost use Rattle.hose_offline.specs.Why.{IsTold, why_status};
 ghost use Rattle.hosed.specs.Hosed.{HosedOutcome};
+ghost use Rattle.hosed.specs.Naming.{NamesOf};
 ghost use Rattle.hosed.specs.Offline.{OfflineOutcome, offer_of};
 ghost use Rattle.hosed.specs.ProgramWords.{AsksToServe};
 ghost use Rattle.hosed.specs.ServerDoor.{seen_of, with_door};
 
 mod chosen;
+mod doing;
 mod end_words;
 mod naming;
 mod server;
 mod verb;
 mod words;
 
-use chosen::costs_of;
+use doing::{do_lent, serve_lent};
 pub use hose_crew::Context;
 use hose_disk::Cabinet;
 use hose_io::{Door, Sink, Source};
-use hose_offline::{
-    EndWords, Fault, Outside, audit, check, end, follow, move_journal, price, prove, run,
-    run_generated, ship,
-};
+use hose_offline::{Fault, Why, end};
 use hose_pool::Gate;
 use hose_tariff::{Prices, Tariff};
-pub use naming::{NamedByWords, named_by};
-use server::serve;
+pub use naming::NamedByWords;
+use naming::{named_of, server_named};
 use std::alloc::Global;
 use std::sync::Wait;
 use std::thread::Threads;
 use verb::asks_to_serve;
 pub use words::MOST_CONNECTIONS;
-use words::{Request, request_of, serve_of};
+use words::{request_of, serve_of};
+
+/// Why the program ended, and what its words name, if they are not wrong.
+#[derive(Clone, Copy)]
+pub struct Ended<'w> {
+    pub why: Why,
+    pub named: Option<NamedByWords<'w>>,
+}
 
 /// Does what the words say, and gives the exit status. The words are those after the program's
 /// name: `run`, and the name of a journal in the cabinet if the book is to be kept in one; `audit`,
@@ -122,17 +129,67 @@ pub fn hosed<
         (parts input.old output.old cabinet.old) (parts input.new output.new cabinet.new) }
     ensures door { Stays (L.frame door.old) (L.frame door.new) }
 {
+    hosed_ended(
+        Context { rt, alloc, gate },
+        words,
+        input,
+        output,
+        cabinet,
+        door,
+        tariffs,
+    )
+    .why
+    .status()
+}
+
+/// Does what the words say, and tells why that ended, and what the words name: `hosed`, whose
+/// status comes of it.
+pub fn hosed_ended<
+    'w,
+    R: Threads + Wait + Sync,
+    I: Source,
+    O: Sink,
+    C: Cabinet,
+    L: Door + Send,
+    G: Gate + Sync,
+>(
+    context: Context<'_, R, G>,
+    words: &'w [String],
+    input: &mut I,
+    output: &mut O,
+    cabinet: &mut C,
+    door: &mut L,
+    tariffs: &[Tariff],
+) -> Ended<'w>
+    requires { (C.frame cabinet.old).out ≡ None }
+    ensures outcome { HosedOutcome (tellings I.Source O.Sink C.Cabinet C.Disk.Disk)
+        (offer_of ⟦<Tariff as Prices>⟧.prices (λ tariff. tariff.name) (λ tariff. tariff.base)
+        (λ tariff. tariff.per) tariffs.now)
+        (with_door input.old output.old cabinet.old
+        (seen_of (L.frame door.old) (L.told door.old) (L.opened_at door.old)))
+        (with_door input.new output.new cabinet.new
+        (seen_of (L.frame door.new) (L.told door.new) (L.opened_at door.new)))
+        (why_status result.why) (map string_bytes words.now) }
+    ensures told { IsTold O.Sink output.new result.why }
+    ensures names { NamesOf (map (λ tariff. tariff.name) tariffs.now) (map string_bytes words.now)
+        result.named }
+    ensures back { (C.frame cabinet.new).out ≡ None }
+    ensures keeps { AllStay (tellings I.Source O.Sink C.Cabinet C.Disk.Disk)
+        (parts input.old output.old cabinet.old) (parts input.new output.new cabinet.new) }
+    ensures door { Stays (L.frame door.old) (L.frame door.new) }
+{
     if !asks_to_serve(words) {
-        return offline(alloc, words, input, output, cabinet, tariffs);
+        return offline_ended(context.alloc, words, input, output, cabinet, tariffs);
     }
     match serve_of(words, tariffs) {
-        Ok(request) => {
-            let costs = costs_of(tariffs, request.tariff);
-            let context = Context { rt, alloc, gate };
-            let mut outside = Outside::of(input, output, cabinet);
-            serve(context, &costs, request, &mut outside, door)
-        }
-        Err(wrong) => end(Err(Fault::Words(wrong)), output),
+        Ok(request) => Ended {
+            why: serve_lent(context, request, tariffs, input, output, cabinet, door),
+            named: Some(server_named(request)),
+        },
+        Err(wrong) => Ended {
+            why: end(Err(Fault::Words(wrong)), output),
+            named: None,
+        },
     }
 }
 
@@ -158,39 +215,43 @@ pub fn offline<I: Source, O: Sink, C: Cabinet>(
     ensures keeps { AllStay (tellings I.Source O.Sink C.Cabinet C.Disk.Disk)
         (parts input.old output.old cabinet.old) (parts input.new output.new cabinet.new) }
 {
-    let mut outside = Outside::of(input, output, cabinet);
+    offline_ended(alloc, words, input, output, cabinet, tariffs)
+        .why
+        .status()
+}
+
+/// Does what the words say, and tells why that ended, and what the words name, for every command
+/// that waits for nobody: `offline`, whose status comes of it.
+pub fn offline_ended<'w, I: Source, O: Sink, C: Cabinet>(
+    alloc: Global,
+    words: &'w [String],
+    input: &mut I,
+    output: &mut O,
+    cabinet: &mut C,
+    tariffs: &[Tariff],
+) -> Ended<'w>
+    requires none_out { (C.frame cabinet.old).out ≡ None }
+    requires waits_for_nobody { ¬ AsksToServe (map string_bytes words.now) }
+    ensures outcome { OfflineOutcome (tellings I.Source O.Sink C.Cabinet C.Disk.Disk)
+        (offer_of ⟦<Tariff as Prices>⟧.prices (λ tariff. tariff.name) (λ tariff. tariff.base)
+        (λ tariff. tariff.per) tariffs.now)
+        (parts input.old output.old cabinet.old) (parts input.new output.new cabinet.new)
+        (why_status result.why) (map string_bytes words.now) }
+    ensures told { IsTold O.Sink output.new result.why }
+    ensures names { NamesOf (map (λ tariff. tariff.name) tariffs.now) (map string_bytes words.now)
+        result.named }
+    ensures back { (C.frame cabinet.new).out ≡ None }
+    ensures keeps { AllStay (tellings I.Source O.Sink C.Cabinet C.Disk.Disk)
+        (parts input.old output.old cabinet.old) (parts input.new output.new cabinet.new) }
+{
     match request_of(words, tariffs) {
-        Ok(Request::Run { tariff, journal }) => {
-            let by = costs_of(tariffs, tariff);
-            run(alloc, &by, journal, &mut outside)
-        }
-        Ok(Request::Audit(of)) => {
-            let by = costs_of(tariffs, of.tariff);
-            audit(alloc, &by, of.names, &mut outside)
-        }
-        Ok(Request::Generate(sizes)) => run_generated(alloc, sizes, &mut outside),
-        Ok(Request::Prove { of, ends, first }) => {
-            let by = costs_of(tariffs, of.tariff);
-            let ends = EndWords { words: ends, first };
-            prove(alloc, &by, of.topology, ends, &mut outside)
-        }
-        Ok(Request::Check(of)) => {
-            let by = costs_of(tariffs, of.tariff);
-            check(alloc, &by, of.topology, &mut outside)
-        }
-        Ok(Request::Price { topology }) => price(alloc, tariffs, topology, &mut outside),
-        Ok(Request::Ship { of, from }) => {
-            let by = costs_of(tariffs, of.tariff);
-            ship(alloc, &by, of.names, from, &mut outside)
-        }
-        Ok(Request::Follow(of)) => {
-            let by = costs_of(tariffs, of.tariff);
-            follow(alloc, &by, of.names, &mut outside)
-        }
-        Ok(Request::Move { tariff, of }) => {
-            let by = costs_of(tariffs, tariff);
-            move_journal(alloc, &by, of, &mut outside)
-        }
-        Err(wrong) => end(Err(Fault::Words(wrong)), outside.output),
+        Ok(request) => Ended {
+            why: do_lent(alloc, request, tariffs, input, output, cabinet),
+            named: Some(named_of(request)),
+        },
+        Err(wrong) => Ended {
+            why: end(Err(Fault::Words(wrong)), output),
+            named: None,
+        },
     }
 }

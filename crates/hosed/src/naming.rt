@@ -1,14 +1,10 @@
 // What the program's words name, for whoever tells why it ended.
-ghost use Rattle.std.specs.Prelude.{◌≡◌, ℕ, List, None, Some, MatchResult, map};
-ghost use Rattle.std.specs.String.{string_bytes};
-ghost use Rattle.hosed.specs.steps.Naming.{AreNamed};
-ghost use Rattle.hosed.specs.ProgramWords.{IsFirstWrong};
-ghost use Rattle.hosed.specs.steps.ProgramWords.{AreWordsOf};
+ghost use Rattle.std.specs.Prelude.{◌≡◌, ℕ, List, None, Some};
+ghost use Rattle.hosed.specs.Naming.{AreNamed};
+ghost use Rattle.hosed.specs.steps.ProgramWords.{AreServeWords, AreWordsOf};
 
-use crate::verb::asks_to_serve;
-use crate::words::{Request, request_of, serve_of};
+use crate::words::{Request, ServeRequest};
 use hose_offline::Move;
-use hose_tariff::Tariff;
 
 /// The files and the port that words name, where they name one.
 #[derive(Clone, Copy)]
@@ -20,32 +16,48 @@ pub struct NamedByWords<'w> {
     pub port: Option<u16>,
 }
 
-/// What the words name; or the first of them that is not allowed, counted from 1.
-pub fn named_by<'w>(words: &'w [String], tariffs: &[Tariff]) -> Result<NamedByWords<'w>, u64>
-    ensures { MatchResult result
-        (AreNamed (map (λ tariff. tariff.name) tariffs.now) (map string_bytes words.now))
-        (IsFirstWrong (map (λ tariff. tariff.name) tariffs.now) (map string_bytes words.now)) }
-{
-    if !asks_to_serve(words) {
-        return match request_of(words, tariffs) {
-            Ok(request) => Ok(named_of(request)),
-            Err(wrong) => Err(wrong),
-        };
+impl<'w> NamedByWords<'w> {
+    /// What words name that are wrong.
+    pub fn nothing() -> NamedByWords<'w> {
+        files(None, None)
     }
-    match serve_of(words, tariffs) {
-        Ok(request) => Ok(NamedByWords {
-            topology: Some(request.topology),
-            journal: Some(request.journal),
-            new_topology: None,
-            new_journal: None,
-            port: Some(request.port),
-        }),
-        Err(wrong) => Err(wrong),
+
+    /// The new topology and journal of a move, by which new and old are exchanged.
+    pub fn of_new(self) -> NamedByWords<'w>
+        ensures { result ≡ record {
+          topology = self.entry.new_topology;
+          journal = self.entry.new_journal;
+          new_topology = self.entry.topology;
+          new_journal = self.entry.journal;
+          port = None;
+        } }
+    {
+        NamedByWords {
+            topology: self.new_topology,
+            journal: self.new_journal,
+            new_topology: self.topology,
+            new_journal: self.journal,
+            port: None,
+        }
     }
 }
 
-// What a request names.
-fn named_of(request: Request<'_>) -> NamedByWords<'_>
+/// What a server's request names.
+pub fn server_named(request: ServeRequest<'_>) -> NamedByWords<'_>
+    ensures { (names words : List (List ℕ)) → AreServeWords names words request.entry →
+        AreNamed names words result }
+{
+    NamedByWords {
+        topology: Some(request.topology),
+        journal: Some(request.journal),
+        new_topology: None,
+        new_journal: None,
+        port: Some(request.port),
+    }
+}
+
+/// What a request names.
+pub fn named_of(request: Request<'_>) -> NamedByWords<'_>
     ensures { (names words : List (List ℕ)) → AreWordsOf names words request.entry →
         AreNamed names words result }
 {

@@ -6,7 +6,8 @@ ghost use Rattle.hose_io.specs.Frame.{Stays};
 ghost use Rattle.hose_graph.specs.Network.{Network};
 ghost use Rattle.hose_law.specs.History.{IsDecidedAt};
 ghost use Rattle.hose_offline.specs.Auditing.{priced_names};
-ghost use Rattle.hose_offline.specs.steps.Ending.{Wrote};
+ghost use Rattle.hose_offline.specs.steps.Ending.{WroteEnd};
+ghost use Rattle.hose_offline.specs.Why.{IsTold, why_status};
 ghost use Rattle.hose_offline.specs.steps.Journal.{IsJustOpened};
 ghost use Rattle.hose_offline.specs.Parts.{tellings};
 ghost use Rattle.hose_offline.specs.steps.Parts.{KeepsAll};
@@ -20,7 +21,7 @@ use hose_crew::{Context, Crew, CrewEnd, DoorStart, Work};
 use hose_disk::{Cabinet, Disk};
 use hose_graph::Topology;
 use hose_io::{Door, Failed, Sink, Source, write_all};
-use hose_offline::{Fault, Outside, end, open_store, read_topology, tell};
+use hose_offline::{Fault, Outside, Why, end, open_store, read_topology, tell};
 use hose_paths::RowTable;
 use hose_pool::{Gate, MOST_WORKERS, table_of_all};
 use hose_shared::{Begun, Shared};
@@ -250,8 +251,7 @@ fn begin<R: Threads + Sync, L: Door + Send, N: DoorStart + Send + Sync>(
 }
 
 /// Reads the topology that is named, serves the connections of a door by the journal, writes what
-/// its book holds, and gives the exit status. The book is told where accepting or closing
-/// failed too.
+/// its book holds, and says why it ended. The book is told where accepting or closing failed too.
 pub fn serve<
     R: Threads + Wait + Sync,
     P: Prices,
@@ -266,7 +266,7 @@ pub fn serve<
     request: ServeRequest<'_>,
     outside: &mut Outside<'_, I, O, C>,
     door: &mut L,
-) -> u8
+) -> Why
     requires none_out { (C.frame outside.old.cabinet.now).out ≡ None }
     requires workers { (1 ≤ request.workers) × (request.workers ≤ MOST_WORKERS) }
     ensures outcome { ServeOutcome (tellings I.Source O.Sink C.Cabinet C.Disk.Disk)
@@ -275,8 +275,10 @@ pub fn serve<
         (door_beside outside.old
         (seen_of (L.frame door.old) (L.told door.old) (L.opened_at door.old)))
         (door_beside outside.new
-        (seen_of (L.frame door.new) (L.told door.new) (L.opened_at door.new))) result }
-    ensures not_words { result ≢ 1 }
+        (seen_of (L.frame door.new) (L.told door.new) (L.opened_at door.new)))
+        (why_status result) }
+    ensures told { IsTold O.Sink outside.new.output.now result }
+    ensures not_words { why_status result ≢ 1 }
     ensures back { (C.frame outside.new.cabinet.now).out ≡ None }
     ensures keeps { KeepsAll (tellings I.Source O.Sink C.Cabinet C.Disk.Disk)
         outside.old outside.new }
@@ -314,10 +316,10 @@ pub fn serve<
     tell_served(came, outside.output)
 }
 
-// Writes what is left to write once connections were served, or not, and gives the exit status.
-fn tell_served<O: Sink>(came: Result<ServerEnd, Fault>, output: &mut O) -> u8
-    ensures { Wrote O.Sink output.old output.new
-        (EndsServed O.Sink output.old output.new result came) }
+// Writes what is left to write once connections were served, or not, and says why that ended.
+fn tell_served<O: Sink>(came: Result<ServerEnd, Fault>, output: &mut O) -> Why
+    ensures { WroteEnd O.Sink output.old output.new result
+        (EndsServed O.Sink output.old output.new (why_status result) came) }
 {
     match came {
         Ok(
@@ -327,9 +329,19 @@ fn tell_served<O: Sink>(came: Result<ServerEnd, Fault>, output: &mut O) -> u8
                 closing,
             },
         ) => tell(&book, first_failed(accepting, closing), output),
-        // After a failed write nothing more is written.
-        Err(Fault::Write) => Fault::Write.status(),
-        Err(why) => end(Err(why), output),
+        Err(why) => tell_unserved(why, output),
+    }
+}
+
+// Writes why no connection was served, but after a failed write nothing more, and says why that
+// ended.
+fn tell_unserved<O: Sink>(why: Fault, output: &mut O) -> Why
+    ensures { WroteEnd O.Sink output.old output.new result
+        (EndsServed O.Sink output.old output.new (why_status result) (Err why)) }
+{
+    match why {
+        Fault::Write => Why::Stopped(Fault::Write),
+        _ => end(Err(why), output),
     }
 }
 

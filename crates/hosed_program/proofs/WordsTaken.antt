@@ -5,7 +5,8 @@ use Rattle.std.specs.Prelude.{slice_get}
 use Rattle.std.specs.Str.{IsUtf8}
 use Rattle.std.specs.declared.env.FillError.{FillError}
 use Rattle.std.specs.declared.env.FillError.TheVariants.{NotPresent, TooLong}
-use Rattle.hosed_program.specs.steps.Given.{AreTextsOf, IsTextOf, IsWordAt}
+use Rattle.hosed_program.specs.Given.{AreTextsOf, IsTextOf}
+use Rattle.hosed_program.specs.steps.Given.{IsWordAt}
 
 -- these texts are what was taken of the words before a place
 pub record AreTaken (all : List (List ℕ)) (place : ℕ) (texts : List (List ℕ)) : Type 0 where

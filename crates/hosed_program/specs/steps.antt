@@ -1,4 +1,3 @@
 -- Steps of proofs: what no clause of the top calls names.
 pub mod Given
 pub mod Rules
-pub mod TextOrCommand

@@ -2,21 +2,21 @@
 ghost use Rattle.std.specs.Prelude.{◌≡◌, None, map};
 ghost use Rattle.std.specs.String.{string_bytes};
 ghost use Rattle.hose_io.specs.Frame.{Stays};
-ghost use Rattle.hose_offline.specs.Ending.{IsOut};
-ghost use Rattle.hose_offline.specs.Fault.{last_line};
 ghost use Rattle.hose_offline.specs.Parts.{AllStay, parts, tellings};
-ghost use Rattle.hosed.specs.Hosed.{HosedOutcome};
+ghost use Rattle.hose_offline.specs.Why.{IsTold, why_status};
+ghost use Rattle.hosed.specs.Naming.{NamesOf};
 ghost use Rattle.hosed.specs.Offline.{offer_of};
 ghost use Rattle.hosed.specs.ServerDoor.{seen_of, with_door};
-ghost use Rattle.hose_offline.specs.declared.fault.Fault.TheVariants as fault;
-ghost use Rattle.hosed_program.specs.steps.TextOrCommand.{IsTold, text_or_command};
+ghost use Rattle.hosed_program.specs.Program.{ProgramOutcome, IsTextOut, text_or_command};
+ghost use Rattle.hosed_program.specs.declared.choice.TextOrCommand.TheVariants as asked;
 
 use crate::texts::{HELP, VERSION};
 use hose_disk::Cabinet;
 use hose_io::{Door, Sink, Source, write_all};
+use hose_offline::{Fault, Why};
 use hose_pool::Gate;
 use hose_tariff::{Prices, Tariff};
-use hosed::Context;
+use hosed::{Context, Ended};
 use std::sync::Wait;
 use std::thread::Threads;
 
@@ -38,8 +38,9 @@ pub struct OwnedOutside<I: Source, O: Sink, C: Cabinet, L: Door> {
     pub door: L,
 }
 
-/// Does what the words say, and gives the exit status.
+/// Does what the words say, and tells why that ended, and what the words name.
 pub fn program<
+    'w,
     R: Threads + Wait + Sync,
     I: Source,
     O: Sink,
@@ -48,30 +49,23 @@ pub fn program<
     G: Gate + Sync,
 >(
     context: Context<'_, R, G>,
-    words: &[String],
+    words: &'w [String],
     tariffs: &[Tariff],
     world: &mut OwnedOutside<I, O, C, L>,
-) -> u8
+) -> Ended<'w>
     requires { (C.frame world.old.cabinet).out ≡ None }
-    ensures help { text_or_command (map string_bytes words.now) ≡ TextOrCommand.Help
-        → (world.new.input ≡ world.old.input) × (world.new.cabinet ≡ world.old.cabinet)
-        × (world.new.door ≡ world.old.door)
-        × IsTold O.Sink world.old.output world.new.output HELP.now result }
-    ensures version { text_or_command (map string_bytes words.now) ≡ TextOrCommand.Version
-        → (world.new.input ≡ world.old.input) × (world.new.cabinet ≡ world.old.cabinet)
-        × (world.new.door ≡ world.old.door)
-        × IsTold O.Sink world.old.output world.new.output VERSION.now result }
-
-    // All else is as the server's one call says.
-    ensures command { text_or_command (map string_bytes words.now) ≡ TextOrCommand.Command
-        → HosedOutcome (tellings I.Source O.Sink C.Cabinet C.Disk.Disk)
-        (offer_of ⟦<Tariff as Prices>⟧.prices (λ tariff. tariff.name) (λ tariff. tariff.base)
-        (λ tariff. tariff.per) tariffs.now)
+    ensures outcome { ProgramOutcome (tellings I.Source O.Sink C.Cabinet C.Disk.Disk)
         (with_door world.old.input world.old.output world.old.cabinet
         (seen_of (L.frame world.old.door) (L.told world.old.door) (L.opened_at world.old.door)))
         (with_door world.new.input world.new.output world.new.cabinet
         (seen_of (L.frame world.new.door) (L.told world.new.door) (L.opened_at world.new.door)))
-        result (map string_bytes words.now) }
+        (offer_of ⟦<Tariff as Prices>⟧.prices (λ tariff. tariff.name) (λ tariff. tariff.base)
+        (λ tariff. tariff.per) tariffs.now)
+        (why_status result.why) (map string_bytes words.now) }
+    ensures told { IsTold O.Sink world.new.output result.why }
+    ensures names { text_or_command (map string_bytes words.now) ≡ asked.Command
+        → NamesOf (map (λ tariff. tariff.name) tariffs.now) (map string_bytes words.now)
+        result.named }
     ensures back { (C.frame world.new.cabinet).out ≡ None }
     ensures keeps { AllStay (tellings I.Source O.Sink C.Cabinet C.Disk.Disk)
         (parts world.old.input world.old.output world.old.cabinet)
@@ -79,18 +73,22 @@ pub fn program<
     ensures door { Stays (L.frame world.old.door) (L.frame world.new.door) }
 {
     match text_or_command(words) {
-        TextOrCommand::Help => tell(&mut world.output, HELP),
-        TextOrCommand::Version => tell(&mut world.output, VERSION),
-        TextOrCommand::Command => hosed::hosed(
-            context.rt,
-            context.alloc,
+        TextOrCommand::Help => Ended {
+            why: tell(&mut world.output, HELP),
+            named: None,
+        },
+        TextOrCommand::Version => Ended {
+            why: tell(&mut world.output, VERSION),
+            named: None,
+        },
+        TextOrCommand::Command => hosed::hosed_ended(
+            context,
             words,
             &mut world.input,
             &mut world.output,
             &mut world.cabinet,
             &mut world.door,
             tariffs,
-            context.gate,
         ),
     }
 }
@@ -106,23 +104,14 @@ fn text_or_command(words: &[String]) -> TextOrCommand
     }
 }
 
-// Writes a text, and gives the status.
-fn tell<O: Sink>(output: &mut O, text: &str) -> u8
-    ensures told { IsTold O.Sink output.old output.new text.now result }
+// Writes a text, and tells why that ended.
+fn tell<O: Sink>(output: &mut O, text: &str) -> Why
+    ensures out { IsTextOut O.Sink output.old output.new text.now (why_status result) }
+    ensures told { IsTold O.Sink output.new result }
     ensures stays { Stays (O.frame output.old) (O.frame output.new) }
 {
     match write_all(output, text.as_bytes()) {
-        Ok(()) => 0,
-        Err(_) => 4,
+        Ok(()) => Why::Done,
+        Err(_) => Why::Stopped(Fault::Write),
     }
-}
-
-/// Tells that there is no memory for the words, and gives the status.
-pub fn no_memory<O: Sink>(output: &mut O) -> u8
-    ensures status { result ≡ 7 }
-    ensures line { IsOut O.Sink output.old output.new (last_line fault.Memory) }
-{
-    // The status stays where the line cannot be written.
-    let _ = write_all(output, b"no memory\n");
-    7
 }

@@ -1,255 +1,208 @@
-// Why the program ended, as one sentence on standard error. The status and the words alone are
-// known then, so a sentence tells what they can mean.
-use crate::returns::Returning;
-use hose_tariff::Tariff;
-use hosed::{NamedByWords, named_by};
-use std::io;
+// Why the program ended, as one sentence on standard error.
+use crate::looking::{journal_trouble, returns_in, text_trouble};
+use hose_offline::{Fault, MoveStop, Refusal, Why};
+use hosed::{Ended, NamedByWords};
+use std::fmt::{Display, Formatter};
+use std::fs::File;
 use std::io::Eprint;
+use std::rt::Files;
+use std::{fmt, io};
 
-// What may be wrong with a file that is read, with a journal, and at a place of a topology.
-const OF_TEXT: &str = "it or its folder is not there, rights are missing, or its disk failed";
+// What is told of a line in which a carriage return stands.
+const RETURNS: &str =
+    ": a carriage return stands in that line, and a line ends with a line feed alone";
 
-const OF_JOURNAL: &str =
-    "its folder is not there, rights are missing, another program holds it, or \
-    its disk failed";
+// Which topology: that of a name, or the one in the input.
+#[derive(Clone, Copy)]
+struct Which<'w> {
+    topology: Option<&'w str>,
+}
 
-/// Tells on standard error why the program ended with a status, if it is not 0. Where a topology
-/// was refused, it is told besides in which line a carriage return stands, if one does.
-pub fn tell_reason<R: Eprint>(
+impl Display for Which<'_> {
+    fn fmt<W: fmt::Write>(&self, f: &mut Formatter<W>) -> fmt::Result {
+        match self.topology {
+            Some(name) => write!(f, "{name:?}"),
+            None => f.write_str("in the input"),
+        }
+    }
+}
+
+/// Tells on standard error why the program ended, if not all was done; and whether a carriage
+/// return stands in the line of the input that was refused, if one was.
+pub fn tell_why<R: Eprint + Files<File = File>>(
     rt: &R,
-    status: u8,
     words: &[String],
-    tariffs: &[Tariff],
-    returning: Returning,
+    ended: Ended<'_>,
+    returning: bool,
 ) {
-    let none = NamedByWords {
-        topology: None,
-        journal: None,
-        new_topology: None,
-        new_journal: None,
-        port: None,
-    };
+    let named = ended.named.unwrap_or(NamedByWords::nothing());
     // The output tells it too, so a standard error that fails is passed over.
-    let _ = match named_by(words, tariffs) {
-        Ok(named) if status == 2 && named.new_topology.is_none() => {
-            tell_refused_topology(rt, named, returning)
+    let _ = match ended.why {
+        Why::Done => Ok(()),
+        Why::Stopped(Fault::Words(number)) => {
+            tell_word(rt, number, word_at(words, number), named.topology)
         }
-        Ok(named) => tell_of_named(rt, status, named),
-        Err(wrong) if status == 1 => tell_wrong_word(rt, words, wrong),
-        Err(_) => tell_of_named(rt, status, none),
+        Why::Stopped(fault) => tell_fault(rt, fault, named, returning),
+        Why::NotValid { rule } => tell_not_valid(rt, rule, named),
+        Why::NotMoved(MoveStop::Old(fault)) => tell_fault(rt, fault, named, false),
+        Why::NotMoved(MoveStop::New(fault)) => tell_fault(rt, fault, named.of_new(), false),
+        Why::NotMoved(stop) => tell_not_moved(rt, stop, named, named.of_new()),
     };
 }
 
-// The words are not allowed from this one on, counted from 1.
-fn tell_wrong_word<R: Eprint>(rt: &R, words: &[String], wrong: u64) -> io::Result<()> {
-    match word_at(words, wrong) {
-        None => eprintln!(rt;
-            "hosed: word {wrong} is not allowed: it is missing, see hosed --help"
-        ),
-        Some("") => eprintln!(rt;
-            "hosed: word {wrong} is not allowed: it is empty, too long or no \
-            text, see hosed --help"
-        ),
-        Some(word) => {
-            eprintln!(rt; "hosed: word {wrong} is not allowed: {word:?}, see hosed --help")
-        }
-    }
-}
-
-// The word of a number, counted from 1.
+// The word of a number, counted from 1; an empty one where it is missing.
 fn word_at(words: &[String], number: u64) -> Option<&str> {
-    let place = number.checked_sub(1)? as usize;
-    if place >= words.len() {
-        return None;
-    }
-    Some(words[place].as_str())
+    Some(words.get(number.checked_sub(1)? as usize)?.as_str())
 }
 
-// Words that are allowed, or ask for a text of the program, came to this status.
-fn tell_of_named<R: Eprint>(rt: &R, status: u8, named: NamedByWords<'_>) -> io::Result<()> {
-    match named.new_topology {
-        Some(_) => tell_of_move(rt, status, named),
-        None => tell_of_one(rt, status, named),
-    }
-}
-
-// The move of a journal to another network came to this status.
-fn tell_of_move<R: Eprint>(rt: &R, status: u8, named: NamedByWords<'_>) -> io::Result<()> {
-    let (topology, journal, new_topology, new_journal) = names_of_move(named);
-    match status {
-        2 | 5 | 6 | 8 => tell_moved_files(rt, status, named),
-        12 => eprintln!(rt;
-            "hosed: the topology {new_topology:?} does not go on from {topology:?}: the last line \
-            of the output tells the first node or link that is not where it was"
-        ),
-        13 => eprintln!(rt;
-            "hosed: the topology {new_topology:?} has no room for an order of the journal \
-            {journal:?}, whose epoch the last line of the output tells; {new_journal:?} ends \
-            before it"
-        ),
-        14 => eprintln!(rt;
-            "hosed: the journal {new_journal:?} has another order than is to be moved, at the \
-            epoch that the last line of the output tells"
-        ),
-        _ => tell_of_one(rt, status, named),
-    }
-}
-
-// One of the files of a move is wrong: the last line tells by `new` which of two it is.
-fn tell_moved_files<R: Eprint>(rt: &R, status: u8, named: NamedByWords<'_>) -> io::Result<()> {
-    let (topology, journal, new_topology, new_journal) = names_of_move(named);
-    match status {
-        2 => eprintln!(rt;
-            "hosed: the topology {topology:?}, or {new_topology:?}, is not allowed at the place \
-            that the last line of the output tells"
-        ),
-        5 => eprintln!(rt;
-            "hosed: the journal {journal:?}, or {new_journal:?}, is damaged, or it is that of \
-            another network, or of other costs, than its topology tells"
-        ),
-        6 => eprintln!(rt;
-            "hosed: the topology {topology:?} or {new_topology:?} could not be read: {OF_TEXT}; or \
-            the journal {journal:?}, which has to be there, or {new_journal:?} could not be \
-            opened: {OF_JOURNAL}; or both journals are one file"
-        ),
-        _ => eprintln!(rt;
-            "hosed: the topology {topology:?}, or {new_topology:?}, is longer than 1 GiB, or it \
-            is in JSON and longer than 16 MiB"
-        ),
-    }
-}
-
-// The names of the old topology and journal and of the new ones.
-fn names_of_move(named: NamedByWords<'_>) -> (&str, &str, &str, &str) {
-    (
-        named.topology.unwrap_or(""),
-        named.journal.unwrap_or(""),
-        named.new_topology.unwrap_or(""),
-        named.new_journal.unwrap_or(""),
-    )
-}
-
-// Words that name one network at most came to this status.
-fn tell_of_one<R: Eprint>(rt: &R, status: u8, named: NamedByWords<'_>) -> io::Result<()> {
-    match status {
-        0 => Ok(()),
-        1 => tell_no_node(rt, named),
-        2 => tell_refused_topology(rt, named, Returning::none()),
-        3 => eprintln!(rt; "hosed: the input could not be read"),
-        4 => eprintln!(rt;
-            "hosed: the output could not be written: its disk is full, or what reads \
-            it has ended"
-        ),
-        5 => tell_refused_journal(rt, named),
-        6 => tell_files(rt, named),
-        7 => eprintln!(rt; "hosed: there was not enough memory"),
-        8 => tell_too_long(rt, named),
-        9 => tell_port(rt, named),
-        10 => tell_refused_certificate(rt, named),
-        _ => eprintln!(rt;
-            "hosed: the input has no whole packet at the byte that the last line of \
-            the output tells"
-        ),
-    }
-}
-
-// `prove` alone looks at words once they are allowed.
-fn tell_no_node<R: Eprint>(rt: &R, named: NamedByWords<'_>) -> io::Result<()> {
-    let topology = named.topology.unwrap_or("");
-    eprintln!(rt;
-        "hosed: the word that the last line of the output tells is not allowed: it is the \
-        name of no node of the topology {topology:?}, see hosed --help"
-    )
-}
-
-fn tell_refused_topology<R: Eprint>(
+// The words are not allowed from this one on, counted from 1. Where a topology is named, it is its
+// node that is missing.
+fn tell_word<R: Eprint>(
     rt: &R,
-    named: NamedByWords<'_>,
-    returning: Returning,
+    number: u64,
+    word: Option<&str>,
+    topology: Option<&str>,
 ) -> io::Result<()> {
-    let line = match named.topology {
-        Some(_) => returning.topology,
-        None => returning.input,
+    match (word, topology) {
+        (Some(word), Some(topology)) => eprintln!(rt;
+            "hosed: word {number} is not allowed: {word:?} is an endpoint at no node of the \
+            topology {topology:?}"
+        ),
+        (None, _) => eprintln!(rt;
+            "hosed: word {number} is not allowed: it is missing, see hosed --help"
+        ),
+        (Some(""), None) => eprintln!(rt;
+            "hosed: word {number} is not allowed: it is empty, too long or no text, see hosed \
+            --help"
+        ),
+        (Some(word), None) => {
+            eprintln!(rt; "hosed: word {number} is not allowed: {word:?}, see hosed --help")
+        }
+    }
+}
+
+// A fault of the network that these names are of.
+fn tell_fault<R: Eprint + Files<File = File>>(
+    rt: &R,
+    fault: Fault,
+    of: NamedByWords<'_>,
+    returning: bool,
+) -> io::Result<()> {
+    let which = Which {
+        topology: of.topology,
     };
-    match (named.topology, line) {
-        (Some(topology), Some(line)) => eprintln!(rt;
-            "hosed: the topology {topology:?} is not allowed at the place that the last line of \
-            the output tells: a carriage return stands in line {line}, and a line ends with a \
-            line feed alone"
+    let journal = of.journal.unwrap_or("");
+    match fault {
+        Fault::Topology(refusal) => tell_refused(rt, refusal, which, returning),
+        Fault::Text => {
+            let trouble = text_trouble(rt, of.topology.unwrap_or(""));
+            eprintln!(rt; "hosed: the topology {which} could not be read: {trouble}")
+        }
+        Fault::Other { .. } => eprintln!(rt;
+            "hosed: the journal {journal:?} is that of another network, or of other costs, than \
+            the topology {which} tells"
         ),
-        (Some(topology), None) => eprintln!(rt;
-            "hosed: the topology {topology:?} is not allowed at the place that the last line of \
-            the output tells"
+        Fault::Damaged { at } => eprintln!(rt;
+            "hosed: the journal {journal:?} is damaged: no whole record stands at byte {at}, or \
+            one that its network does not take"
         ),
-        (None, Some(line)) => eprintln!(rt;
-            "hosed: the topology in the input is not allowed at the place that the last line of \
-            the output tells: a carriage return stands in line {line}, and a line ends with a \
-            line feed alone"
-        ),
-        (None, None) => eprintln!(rt;
-            "hosed: the topology in the input is not allowed at the place that the last line of \
-            the output tells"
-        ),
+        Fault::Cabinet => {
+            let trouble = journal_trouble(rt, journal, of.new_journal);
+            eprintln!(rt; "hosed: the journal {journal:?} could not be opened or closed: {trouble}")
+        }
+        Fault::TooLong => tell_too_long(rt, of.topology),
+        Fault::Door => tell_door(rt, of.port.unwrap_or(0)),
+        fault => tell_stream(rt, fault),
     }
 }
 
-fn tell_refused_journal<R: Eprint>(rt: &R, named: NamedByWords<'_>) -> io::Result<()> {
-    let journal = named.journal.unwrap_or("");
-    match named.topology {
+// A topology is not allowed.
+fn tell_refused<R: Eprint + Files<File = File>>(
+    rt: &R,
+    refusal: Refusal,
+    which: Which<'_>,
+    returning: bool,
+) -> io::Result<()> {
+    let Refusal::Word { line, word } = refusal else {
+        return eprintln!(rt;
+            "hosed: the topology {which} is not allowed at the place that the last line of the \
+            output tells"
+        );
+    };
+    let returns = match which.topology {
+        Some(name) => returns_in(rt, name, line),
+        None => returning,
+    };
+    let why = if returns { RETURNS } else { "" };
+    eprintln!(rt; "hosed: the topology {which} is not allowed at line {line}, word {word}{why}")
+}
+
+// A fault of what is named by no word.
+fn tell_stream<R: Eprint>(rt: &R, fault: Fault) -> io::Result<()> {
+    match fault {
+        Fault::Read => eprintln!(rt; "hosed: the input could not be read"),
+        Fault::Write => eprintln!(rt;
+            "hosed: the output could not be written: its disk is full, or what reads it has ended"
+        ),
+        Fault::Packet { at } => eprintln!(rt; "hosed: the input has no whole packet at byte {at}"),
+        _ => eprintln!(rt; "hosed: there was not enough memory"),
+    }
+}
+
+fn tell_too_long<R: Eprint>(rt: &R, topology: Option<&str>) -> io::Result<()> {
+    match topology {
         Some(topology) => eprintln!(rt;
-            "hosed: the journal {journal:?} is damaged, or it is that \
-            of another network, or of other costs, than the topology {topology:?} tells"
-        ),
-        None => eprintln!(rt;
-            "hosed: the journal {journal:?} is damaged, or it is that of another \
-            network, or of other costs, than the topology in the input tells"
-        ),
-    }
-}
-
-fn tell_files<R: Eprint>(rt: &R, named: NamedByWords<'_>) -> io::Result<()> {
-    match (named.topology, named.journal) {
-        (Some(topology), Some(journal)) => {
-            eprintln!(rt;
-                "hosed: the topology {topology:?} could not be read: {OF_TEXT}; or the \
-                journal {journal:?} could not be opened or closed: {OF_JOURNAL}"
-            )
-        }
-        (Some(topology), None) => {
-            eprintln!(rt; "hosed: the topology {topology:?} could not be read: {OF_TEXT}")
-        }
-        (None, Some(journal)) => {
-            eprintln!(rt;
-                "hosed: the journal {journal:?} could not be opened or closed: \
-                {OF_JOURNAL}"
-            )
-        }
-        (None, None) => eprintln!(rt; "hosed: a file could not be read"),
-    }
-}
-
-fn tell_too_long<R: Eprint>(rt: &R, named: NamedByWords<'_>) -> io::Result<()> {
-    match named.topology {
-        Some(topology) => eprintln!(rt;
-            "hosed: the topology {topology:?}, or the input, is longer \
-            than 1 GiB, or the topology is in JSON and longer than 16 MiB"
+            "hosed: the topology {topology:?}, or the input, is longer than 1 GiB, or the topology \
+            is in JSON and longer than 16 MiB"
         ),
         None => eprintln!(rt; "hosed: the input is longer than 1 GiB"),
     }
 }
 
-fn tell_port<R: Eprint>(rt: &R, named: NamedByWords<'_>) -> io::Result<()> {
-    let port = named.port.unwrap_or(0);
+fn tell_door<R: Eprint>(rt: &R, port: u16) -> io::Result<()> {
     eprintln!(rt;
-        "hosed: the port {port} could not be opened: another program listens there, or \
-        rights are missing; or accepting a connection failed"
+        "hosed: the port {port} could not be opened: another program listens there, or rights are \
+        missing; or accepting a connection failed"
     )
 }
 
-fn tell_refused_certificate<R: Eprint>(rt: &R, named: NamedByWords<'_>) -> io::Result<()> {
-    let topology = named.topology.unwrap_or("");
+fn tell_not_valid<R: Eprint>(rt: &R, rule: u64, of: NamedByWords<'_>) -> io::Result<()> {
+    let which = Which {
+        topology: of.topology,
+    };
     eprintln!(rt;
-        "hosed: the certificate in the input is not valid for the topology {topology:?}: \
-        the last line of the output tells the lowest rule that fails"
+        "hosed: the certificate in the input is not valid for the topology {which}: rule {rule} is \
+        the lowest that fails"
     )
+}
+
+// The old network and the new one do not go together.
+fn tell_not_moved<R: Eprint>(
+    rt: &R,
+    stop: MoveStop,
+    old: NamedByWords<'_>,
+    new: NamedByWords<'_>,
+) -> io::Result<()> {
+    let (before, after) = (
+        Which {
+            topology: old.topology,
+        },
+        Which {
+            topology: new.topology,
+        },
+    );
+    let (journal, moved) = (old.journal.unwrap_or(""), new.journal.unwrap_or(""));
+    match stop {
+        MoveStop::Unsound { epoch } => eprintln!(rt;
+            "hosed: the topology {after} has no room for an order of the journal {journal:?}, \
+            which epoch {epoch} of {moved:?} would be; {moved:?} ends before it"
+        ),
+        MoveStop::Differs { epoch } => eprintln!(rt;
+            "hosed: the journal {moved:?} has another order than is to be moved at epoch {epoch}"
+        ),
+        _ => eprintln!(rt;
+            "hosed: the topology {after} does not go on from {before}: the last line of the output \
+            tells the first node or link that is not where it was"
+        ),
+    }
 }

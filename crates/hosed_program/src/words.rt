@@ -2,7 +2,7 @@
 ghost use Rattle.std.specs.Prelude.{◌≡◌, ◌<◌, ◌≤◌, IfNone, IfOk, IfSome, Err, IsNone, IsSomeAnd, length, map, take};
 ghost use Rattle.std.specs.Str.{IsUtf8};
 ghost use Rattle.std.specs.String.{string_bytes};
-ghost use Rattle.hosed_program.specs.steps.Given.{AreTextsOf};
+ghost use Rattle.hosed_program.specs.Given.{AreTextsOf};
 
 use crate::given::Given;
 use std::alloc::{AllocError, Global};

@@ -6,7 +6,7 @@ use Rattle.hose_graph.specs.Network.{IsNetwork, Network}
 use Rattle.hose_topo_json.specs.JsonTopology.{IsJsonTopology}
 use Rattle.hose_offline.specs.Run.{TellsNoNetwork}
 use Rattle.hose_offline.specs.declared.fault.Fault.{Fault}
-use Rattle.hose_offline.specs.declared.fault.Fault.TheVariants.{Topology, Cabinet, Memory, TooLong}
+use Rattle.hose_offline.specs.declared.fault.Fault.TheVariants.{Topology, Text, Memory, TooLong}
 use Rattle.hose_offline.specs.Limits.{json_limit}
 use Rattle.hose_offline.specs.declared.notation.Notation.TheVariants as notation
 
@@ -14,7 +14,7 @@ use Rattle.hose_offline.specs.declared.notation.Notation.TheVariants as notation
 abbrev pub IsPieceFault : Option Stream → Option Stream → Fault → Type 0
 IsPieceFault old new TooLong = (bytes : List ℕ) × Gives old new bytes
     × (json_limit < length bytes) × (length bytes ≤ json_limit + 1)
-IsPieceFault old new Cabinet =
+IsPieceFault old new Text =
     (bytes : List ℕ) × Gives old new bytes × (length bytes ≤ json_limit)
 IsPieceFault old new Memory =
     (bytes : List ℕ) × Gives old new bytes × (length bytes ≤ json_limit)
@@ -25,7 +25,7 @@ abbrev pub IsJsonOf : Option Stream → Option Stream → Result Network Fault �
 IsJsonOf old new (Ok network) =
     IsNetwork network × WhereTold old new (λ bytes _. IsJsonTopology bytes network)
 IsJsonOf old new (Err (Topology refusal)) = TellsNoNetwork notation.Json refusal old new
-IsJsonOf old new (Err Cabinet) = ⊤
+IsJsonOf old new (Err Text) = ⊤
 IsJsonOf old new (Err Memory) = ⊤
 IsJsonOf old new (Err TooLong) = ⊤
 IsJsonOf old new (Err fault) = ⊥

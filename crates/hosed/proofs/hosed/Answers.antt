@@ -1,33 +1,4 @@
-use Rattle.std.proofs.Common.{ap, map, refl, rules}
-use Rattle.std.specs.String.{string_bytes}
-use Rattle.hose_offline.specs.steps.Parts.{held}
-use Rattle.hosed.specs.steps.ProgramWords.{task_of}
-use Rattle.hosed.specs.declared.verb.ProgramVerb.TheVariants as command
-use Rattle.hosed.proofs.Commands.{none_wrong, of_same}
-use Rattle.hosed.proofs.Outcomes.{are_wrong, served_of}
 use Rattle.hosed.proofs.hosed.Goals as goal
 
-pub returns-in-Ok-clause-outcome : goal.returns-in-Ok-clause-outcome
-returns-in-Ok-clause-outcome g c =
-    let are = c.in-Ok.ensures.ok in
-    let outcome = served_of (held c.serve.new.outside) (ap held c.of-outside.ensures) (search rules) (search rules) (search rules) (rw c.costs_of-costs.ensures at c.serve.ensures.outcome) in
-    let right = c.serve.ensures.not_words in
-    record {
-      offline = λ never. absurd (never (search rules));
-      words_at_1 = λ asks. ((λ one. absurd (right one)), λ wrong. absurd (wrong command.Serve (task_of c.in-Ok.request) are));
-      wrong_words = λ asks one. absurd (right one);
-      serves = of_same (map (λ tariff. tariff.name) c.args.tariffs.now) (map string_bytes c.args.words.now) command.Serve _ (task_of c.in-Ok.request) are outcome;
-    }
-
-pub serve-requires-clause-workers : goal.serve-requires-clause-workers
-serve-requires-clause-workers g c = λ _ _. c.in-Ok.ensures.ok.may.2.1.1.1.0.0
-
-pub returns-in-Err-clause-outcome : goal.returns-in-Err-clause-outcome
-returns-in-Err-clause-outcome g c =
-    let wrong = c.in-Err.ensures.wrong in
-    record {
-      offline = λ never. absurd (never (search rules));
-      words_at_1 = λ asks. ((λ one. are_wrong _ _ _ wrong), λ none. c.end.ensures.status);
-      wrong_words = λ asks one. (refl, refl, refl, (_, wrong, c.end.ensures.last_line));
-      serves = λ task are. absurd (none_wrong _ _ command.Serve task _ are wrong);
-    }
+pub returns-clause-outcome : goal.returns-clause-outcome
+returns-clause-outcome g c = rw c.status.ensures c.hosed_ended.ensures.outcome

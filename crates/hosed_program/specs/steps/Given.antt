@@ -1,7 +1,5 @@
--- The words that a program is run with, and what it takes of them.
-use Rattle.std.specs.Prelude.{◌≡◌, ℕ, ◌<◌, ◌≤◌, List, [], length, slice_get, take, Option, None, Some, Result, Ok, Err}
-use Rattle.std.specs.List.{AllZip}
-use Rattle.std.specs.Str.{IsUtf8}
+-- The words that a program is run with, as they are given: steps of proofs.
+use Rattle.std.specs.Prelude.{◌≡◌, ℕ, ◌<◌, ◌≤◌, List, length, slice_get, take, Option, None, Some, Result, Ok, Err}
 use Rattle.std.specs.declared.env.FillError.{FillError}
 use Rattle.std.specs.declared.env.FillError.TheVariants.{NotPresent, TooLong}
 
@@ -22,17 +20,3 @@ IsWordAt all place room into (Ok count) = slice_get all place ≡ Some (take cou
 IsWordAt all place room into (Err TooLong) =
     (word : List ℕ) × (slice_get all place ≡ Some word) × (room < length word)
 IsWordAt all place room into (Err NotPresent) = length all ≤ place
-
--- the most bytes of a word that the program takes
-abbrev pub longest_word : ℕ
-longest_word = 4096
-
--- what the program takes of a word: the text that it is, where it is one and not too long, and else
--- an empty one
-pub record IsTextOf (word text : List ℕ) : Type 0 where
-  pub whole : length word ≤ longest_word → IsUtf8 word → text ≡ word
-  pub none : (length word ≤ longest_word → ¬ IsUtf8 word) → text ≡ []
-
--- what the program takes of words: all of them, in order
-abbrev pub AreTextsOf : List (List ℕ) → List (List ℕ) → Type 0
-AreTextsOf = AllZip IsTextOf

@@ -5,6 +5,7 @@ use Rattle.hose_offline.specs.Parts.{parts, tellings}
 use Rattle.hose_offline.specs.RunOutcome.{RunOutcome}
 use Rattle.hose_offline.specs.steps.Parts.{held}
 use Rattle.hose_offline.specs.declared.notation.Notation.TheVariants.{Lines}
+use Rattle.hose_offline.specs.Why.{why_status}
 use Rattle.hose_offline.proofs.Outcomes.{completes, none_named, refuses, refused_ends, run_not_1, too_long_at_8}
 use Rattle.hose_offline.proofs.answering.run.Goals as goal
 
@@ -25,7 +26,7 @@ returns g c =
       run.takes.2,
       ((λ is. run.takes.3.0 (too_long_at_8 done is)), λ long. ap status_of_done (run.takes.3.1 long)),
     ) in
-    let outcome : RunOutcome tells prices journal before (parts left.input output left.cabinet) c.end.result = record {
+    let outcome : RunOutcome tells prices journal before (parts left.input output left.cabinet) (why_status c.end.result) = record {
       ends = record { left = left.output; done = done; leaves = run.leaves; last_line = c.end.ensures.last_line; is_status = status };
       takes = rw status takes;
       absent = run.absent;
@@ -35,4 +36,4 @@ returns g c =
       complete = λ servable told held. rw status (completes tells prices journal before left output c.end.ensures.output run.takes.0 run.takes.1 servable held done run.leaves run.takes.3.0 told);
       refused_journal = λ servable some told held. rw status (refuses tells prices journal before left output c.end.ensures.output run.takes.0 run.takes.1 servable held done run.leaves run.takes.3.0 some told);
     } in
-    record { outcome = outcome; not_words = λ one. run_not_1 tells prices journal before left done run.leaves (sym status ∙ one); out = run.back ∙ sym c.requires; keeps = search rules }
+    record { outcome = outcome; told = c.end.ensures.told; not_words = λ one. run_not_1 tells prices journal before left done run.leaves (sym status ∙ one); out = run.back ∙ sym c.requires; keeps = search rules }

@@ -2,6 +2,7 @@ use Rattle.std.proofs.Common.{◌∙◌, inr}
 use Rattle.hose_law.specs.History.{IsDecidedAt}
 use Rattle.hose_offline.specs.Parts.{parts, tellings}
 use Rattle.hose_offline.specs.steps.Parts.{held}
+use Rattle.hose_offline.specs.Why.{why_status}
 use Rattle.hose_offline.proofs.Audited.{book_told}
 use Rattle.hose_offline.proofs.Lending.{others_then}
 use Rattle.hose_offline.proofs.auditing.audit_journal.Goals as goal
@@ -12,7 +13,7 @@ returns-in-Ok-clause-audits g c =
     let before = held c.args.outside.now in
     let closed = c.close_journal-closing in
     let after = parts before.input c.tell.new.output closed.new.cabinet in
-    book_told tells c.args.name.now before after c.args.topology IsDecidedAt c.open_journal.new.cabinet c.in-Ok.store closed.result.0 closed.result.1 c.tell.result c.in-Ok.ensures.opens closed.ensures.closes closed.ensures.book (rw c.first_fault.ensures at c.tell.ensures.came)
+    book_told tells c.args.name.now before after c.args.topology IsDecidedAt c.open_journal.new.cabinet c.in-Ok.store closed.result.0 closed.result.1 (why_status c.tell.result) c.in-Ok.ensures.opens closed.ensures.closes closed.ensures.book (rw c.first_fault.ensures at c.tell.ensures.came)
 
 pub returns-in-Err-clause-audits : goal.returns-in-Err-clause-audits
 returns-in-Err-clause-audits g c = inr (c.in-Err.why, c.end.ensures.status, c.in-Err.ensures.refused, c.end.ensures.last_line)

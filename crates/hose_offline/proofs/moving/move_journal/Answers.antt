@@ -1,4 +1,5 @@
 use Rattle.std.proofs.Common.{◌∙◌, inl, inr, refl, rules, subst, sym}
+use Rattle.hose_offline.specs.Why.{why_status}
 use Rattle.hose_store.proofs.OneMeaning.{recovered_once}
 use Rattle.hose_offline.specs.Auditing.{ReadsTopology}
 use Rattle.hose_offline.specs.MoveOutcome.{MoveOutcome}
@@ -23,7 +24,7 @@ returns-in-Ok g c =
     let ended = c.end_move.ensures.came in
     let reads = subst (ReadsTopology g.C.Cabinet before.cabinet c.read_topology.new.cabinet names.prices names.topology) c.in-Ok.is c.read_topology.ensures.reads in
     let moves : MovesNamed tells names before left moved.result = inr (c.in-Ok.old, c.read_topology.new.cabinet, reads, moved.ensures.moves) in
-    let outcome : MoveOutcome tells names before (parts left.input c.end_move.new.output left.cabinet) c.end_move.result = record {
+    let outcome : MoveOutcome tells names before (parts left.input c.end_move.new.output left.cabinet) (why_status c.end_move.result) = record {
       left = left.output;
       done = moved.result;
       moves = moves;
@@ -34,7 +35,7 @@ returns-in-Ok g c =
       complete = λ movable none. completes tells names before left _ c.in-Ok.old c.read_topology.new.cabinet _ _ (recovered_once c.in-Ok.old) reads moved.ensures.moves ended movable none.writing none.keeping_it;
       input = moved.ensures.input;
     } in
-    record { outcome = outcome; not_words = move_not_1 _ _ _ _ _ outcome; out = moved.ensures.back ∙ sym c.requires.none_out; keeps = search rules }
+    record { outcome = outcome; told = c.end_move.ensures.told; not_words = move_not_1 _ _ _ _ _ outcome; out = moved.ensures.back ∙ sym c.requires.none_out; keeps = search rules }
 
 pub returns-in-Err : goal.returns-in-Err
 returns-in-Err g c =
@@ -46,7 +47,7 @@ returns-in-Err g c =
     let ended = c.end_move-in-Err.ensures.came in
     let reads = subst (ReadsTopology g.C.Cabinet before.cabinet c.read_topology.new.cabinet names.prices names.topology) c.in-Err.is c.read_topology.ensures.reads in
     let moves : MovesNamed tells names before left done = inl (c.in-Err.why, refl, reads, refl) in
-    let outcome : MoveOutcome tells names before (parts before.input c.end_move-in-Err.new.output left.cabinet) c.end_move-in-Err.result = record {
+    let outcome : MoveOutcome tells names before (parts before.input c.end_move-in-Err.new.output left.cabinet) (why_status c.end_move-in-Err.result) = record {
       left = before.output;
       done = done;
       moves = moves;
@@ -57,4 +58,4 @@ returns-in-Err g c =
       complete = λ movable none. inr (ended.0 ∙ old_refused tells.cabinet before.cabinet c.read_topology.new.cabinet names.prices names.topology c.in-Err.why reads movable.servable none.keeping_it);
       input = refl;
     } in
-    record { outcome = outcome; not_words = move_not_1 _ _ _ _ _ outcome; out = search rules; keeps = search rules }
+    record { outcome = outcome; told = c.end_move-in-Err.ensures.told; not_words = move_not_1 _ _ _ _ _ outcome; out = search rules; keeps = search rules }

@@ -1,6 +1,6 @@
 -- What the words of a command name.
-use Rattle.std.specs.Prelude.{◌≡◌, ℕ, List, Option, None, Some, option_map}
-use Rattle.hosed.specs.ProgramWords.{AreWords, Task}
+use Rattle.std.specs.Prelude.{◌≡◌, ℕ, List, MatchOption, Option, None, Some, option_map}
+use Rattle.hosed.specs.ProgramWords.{AreWords, AreWrongWords, Task}
 use Rattle.hosed.specs.declared.verb.ProgramVerb.{ProgramVerb}
 use Rattle.hosed.specs.declared.verb.ProgramVerb.TheVariants as command
 use Rattle.hosed.specs.declared.naming.NamedByWords.{NamedByWords}
@@ -60,3 +60,7 @@ pub record AreNamed (names words : List (List ℕ)) (named : NamedByWords) : Typ
   pub task : Task verb
   pub are : AreWords names words verb task
   pub same : named_bytes named ≡ task_names verb task
+
+-- what words name, where they are not wrong
+abbrev pub NamesOf : List (List ℕ) → List (List ℕ) → Option NamedByWords → Type 0
+NamesOf names words named = MatchOption named (AreWrongWords names words) (AreNamed names words)

@@ -1,0 +1,22 @@
+use Rattle.std.proofs.Common.{refl}
+use Rattle.hose_offline.specs.Parts.{parts}
+use Rattle.hosed.proofs.Outcomes.{are_wrong, wrong_words}
+use Rattle.hosed.proofs.offline_ended.Goals as goal
+
+pub returns-in-Ok-clause-outcome : goal.returns-in-Ok-clause-outcome
+returns-in-Ok-clause-outcome g c = c.do_lent.ensures.outcome _ c.in-Ok.ensures
+
+pub returns-in-Ok-clause-names : goal.returns-in-Ok-clause-names
+returns-in-Ok-clause-names g c = c.named_of.ensures _ _ c.in-Ok.ensures
+
+pub do_lent-requires-clause-words : goal.do_lent-requires-clause-words
+do_lent-requires-clause-words g c = λ _ _. (_, c.in-Ok.ensures)
+
+pub returns-in-Err-clause-outcome : goal.returns-in-Err-clause-outcome
+returns-in-Err-clause-outcome g c =
+    let before = parts c.args.input.now c.args.output.now c.args.cabinet.now in
+    let after = parts c.args.input.now c.end.new.output c.args.cabinet.now in
+    wrong_words _ _ before after _ _ _ c.in-Err.ensures refl refl c.end.ensures.status c.end.ensures.last_line
+
+pub returns-in-Err-clause-names : goal.returns-in-Err-clause-names
+returns-in-Err-clause-names g c = are_wrong _ _ _ c.in-Err.ensures

@@ -1,0 +1,64 @@
+-- What the program's words ask for, and what comes of them.
+use Rattle.std.specs.Prelude.{◌≡◌, ◌⊎◌, ℕ, ◌-◌, ◌^◌, ◌<◌, List, [], ◌∷◌, codes, if◌then◌else◌, IfSome, length, Option}
+use Rattle.std.specs.Str.{bytes_eq}
+use Rattle.hose_io.specs.Frame.{Rose}
+use Rattle.hose_io.specs.Stream.{Grows}
+use Rattle.hose_io.specs.Writing.{GrowsInPart}
+use Rattle.hose_io.specs.declared.sink.Sink.{Ghosts}
+use Rattle.hose_offline.specs.Ending.{IsOut}
+use Rattle.hose_offline.specs.Fault.{last_line}
+use Rattle.hose_offline.specs.Parts.{Tellings}
+use Rattle.hose_offline.specs.declared.fault.Fault.TheVariants.{Memory}
+use Rattle.hosed.specs.Hosed.{HosedOutcome}
+use Rattle.hosed.specs.Offline.{Offer}
+use Rattle.hosed.specs.ServerDoor.{OutsideDoor}
+use Rattle.hosed_program.specs.Given.{AreTextsOf}
+use Rattle.hosed_program.specs.declared.choice.TextOrCommand.{TextOrCommand}
+use Rattle.hosed_program.specs.declared.choice.TextOrCommand.TheVariants.{Help, Version, Command}
+use Rattle.hosed_program.specs.declared.texts.TheConstants.{HELP, VERSION}
+
+-- `--help` alone, `--version` alone, or anything else
+abbrev pub text_or_command : List (List ℕ) → TextOrCommand
+text_or_command (word ∷ []) =
+    if bytes_eq word (codes "--help") then Help
+    else if bytes_eq word (codes "--version") then Version else Command
+text_or_command _ = Command
+
+-- A text is out, the status is 0, and the sink has not failed; or it failed, a part is out, and the
+-- status is 4.
+abbrev pub IsTextOut : {S : Type 0} → Ghosts S → S → S → List ℕ → ℕ → Type 0
+IsTextOut sink was now text status =
+    ((status ≡ 0) × (sink.frame now ≡ sink.frame was)
+    × Grows (sink.content was) (sink.content now) text)
+    ⊎ ((status ≡ 4) × Rose (sink.frame was) (sink.frame now)
+    × GrowsInPart (sink.content was) (sink.content now) text)
+
+module _ {I O C E : Type 0} (tells : Tellings I O C E) (before after : OutsideDoor I O C) where
+  -- nothing but the output is another one
+  pub record OutputAlone : Type 0 where
+    pub input : after.others.input ≡ before.others.input
+    pub cabinet : after.others.cabinet ≡ before.others.cabinet
+    pub door : after.door ≡ before.door
+
+  -- nothing was done but that a text was put out
+  abbrev pub TellsText : List ℕ → ℕ → Type 0
+  TellsText text status = OutputAlone
+      × IsTextOut tells.sink before.others.output after.others.output text status
+
+  module _ (offer : Offer) (status : ℕ) where
+    -- What the program's words come to: a text about itself, or all that the server's one call
+    -- says.
+    pub record ProgramOutcome (words : List (List ℕ)) : Type 0 where
+      pub help : text_or_command words ≡ Help → TellsText HELP.now status
+      pub version : text_or_command words ≡ Version → TellsText VERSION.now status
+      pub command : text_or_command words ≡ Command
+          → HosedOutcome tells offer before after status words
+
+    -- What starting the program comes to, with words that are told or not: they were all taken, in
+    -- order, and came to this; or there was no memory for them, and the last line says so.
+    abbrev pub StartOutcome : Option (List (List ℕ)) → Type 0
+    StartOutcome told = ((words : List (List ℕ))
+        × IfSome told (λ all. length all < 2 ^ 64 - 1 → AreTextsOf all words)
+        × ProgramOutcome words)
+        ⊎ ((status ≡ 7) × OutputAlone
+        × IsOut tells.sink before.others.output after.others.output (last_line Memory))

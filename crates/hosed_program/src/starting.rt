@@ -1,0 +1,92 @@
+// The program's one call.
+ghost use Rattle.std.specs.Prelude.{◌≡◌, ◌∷◌, [], None, codes, map};
+ghost use Rattle.hose_offline.specs.Ending.{IsOut};
+ghost use Rattle.hose_offline.specs.Fault.{last_line};
+ghost use Rattle.hose_offline.specs.Parts.{tellings};
+ghost use Rattle.hose_offline.specs.declared.fault.Fault.TheVariants as fault;
+ghost use Rattle.hosed.specs.Offline.{offer_of};
+ghost use Rattle.hosed.specs.ServerDoor.{seen_of, with_door};
+ghost use Rattle.hosed_program.specs.Program.{StartOutcome};
+
+use crate::choice::{OwnedOutside, program};
+use crate::front::Fronted;
+use crate::given::Given;
+use crate::reasons::tell_why;
+use crate::words::program_words;
+use hose_disk::Cabinet;
+use hose_io::{Door, Sink, Source, write_all};
+use hose_offline::{Fault, Refusal, Why};
+use hose_pool::Gate;
+use hose_tariff::{Prices, Tariff};
+use hosed::{Context, Ended};
+use std::fs::File;
+use std::io::Eprint;
+use std::rt::Files;
+use std::sync::Wait;
+use std::thread::Threads;
+
+/// Takes all words that the program is given, does what they say, tells on standard error why that
+/// ended, and gives the exit status. The tariffs are the program's three. Standard error, and the
+/// files that a sentence is about, are reached by `errors`.
+pub fn start<
+    R: Threads + Wait + Sync,
+    E: Eprint + Files<File = File>,
+    W: Given,
+    I: Source + Fronted,
+    O: Sink,
+    C: Cabinet,
+    L: Door + Send,
+    G: Gate + Sync,
+>(
+    context: Context<'_, R, G>,
+    errors: &E,
+    given: &W,
+    tariffs: &[Tariff],
+    world: &mut OwnedOutside<I, O, C, L>,
+) -> u8
+    requires none_out { (C.frame world.old.cabinet).out ≡ None }
+    requires names { map (λ tariff. tariff.name) tariffs.now
+        ≡ codes "flat" ∷ codes "hops" ∷ codes "long" ∷ [] }
+    requires bases { map (λ tariff. tariff.base) tariffs.now ≡ 0 ∷ 1 ∷ 5 ∷ [] }
+    requires pers { map (λ tariff. tariff.per) tariffs.now ≡ 1 ∷ 0 ∷ 2 ∷ [] }
+    ensures { StartOutcome (tellings I.Source O.Sink C.Cabinet C.Disk.Disk)
+        (with_door world.old.input world.old.output world.old.cabinet
+        (seen_of (L.frame world.old.door) (L.told world.old.door) (L.opened_at world.old.door)))
+        (with_door world.new.input world.new.output world.new.cabinet
+        (seen_of (L.frame world.new.door) (L.told world.new.door) (L.opened_at world.new.door)))
+        (offer_of ⟦<Tariff as Prices>⟧.prices (λ tariff. tariff.name) (λ tariff. tariff.base)
+        (λ tariff. tariff.per) tariffs.now) result (W.words given.now) }
+{
+    match program_words(given, context.alloc) {
+        Ok(words) => {
+            let ended = program(context, &words, tariffs, world);
+            let returning = is_of_return(ended.why, &world.input);
+            tell_why(errors, &words, ended, returning);
+            ended.why.status()
+        }
+        Err(_) => no_memory(errors, &mut world.output),
+    }
+}
+
+// Whether the topology in the input was refused in a line in which a carriage return stands.
+fn is_of_return<I: Fronted>(why: Why, input: &I) -> bool {
+    match why {
+        Why::Stopped(Fault::Topology(Refusal::Word { line, word: _ })) => input.returns_in(line),
+        _ => false,
+    }
+}
+
+/// Tells that there is no memory to begin with, and gives the status.
+pub fn no_memory<E: Eprint + Files<File = File>, O: Sink>(errors: &E, output: &mut O) -> u8
+    ensures status { result ≡ 7 }
+    ensures line { IsOut O.Sink output.old output.new (last_line fault.Memory) }
+{
+    // The status stays where the line cannot be written.
+    let _ = write_all(output, b"no memory\n");
+    let ended = Ended {
+        why: Why::Stopped(Fault::Memory),
+        named: None,
+    };
+    tell_why(errors, &[], ended, false);
+    7
+}
