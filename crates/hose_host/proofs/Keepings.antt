@@ -9,7 +9,7 @@ use Rattle.std.proofs.lemmas.List.{append-nil, map_push, get_or-append_right, ge
 use Rattle.std.proofs.lemmas.List.Elements.{All-nil, All-push, All-append, All-weaker}
 use Rattle.hose_words.specs.declared.lines.Line.{Line}
 use Rattle.hose_words.specs.steps.Lines.{Shows}
-use Rattle.hose_host.specs.Answering.{AnswersAt}
+use Rattle.hose_host.specs.steps.Answering.{AnswersAt}
 use Rattle.hose_host.specs.declared.answers.HostAnswers.{Ghosts}
 use Rattle.hose_net.specs.Happening.{Came, Got, Happening, Heard, Left, Refused, Sent}
 use Rattle.hose_net.specs.Story.{Answers, AwaitsMore, Exchange, MayHappen, Happens, IsByDoor, IsHosted, IsServed, IsSettled, Life, Step, AllServed, began, waited, happened, answered, exchanges, heard_in, is_empty, life, lines_of, newcomer, texts_of}

@@ -2,7 +2,7 @@
 ghost use Rattle.std.specs.Prelude.{◌≡◌, ◌≢◌, ℕ, List, Bool, true, false, IfOk};
 ghost use Rattle.hose_io.specs.steps.Writing.{IsPut};
 ghost use Rattle.hose_net.specs.Story.{Exchange};
-ghost use Rattle.hose_host.specs.Answering.{AnswersAt};
+ghost use Rattle.hose_host.specs.steps.Answering.{AnswersAt};
 
 use hose_io::{Failed, Sink};
 use hose_words::Line;

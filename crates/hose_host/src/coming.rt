@@ -13,6 +13,9 @@ use std::alloc::Global;
 /// How many places there are at most.
 pub const MOST: usize = 10_000;
 
+/// How many of them only who comes to the first door is given, so that others cannot shut it.
+pub const OF_FIRST_DOOR: usize = 16;
+
 /// How many connections of a door that gave no line yet are kept.
 pub const SILENT: usize = 256;
 
@@ -32,7 +35,7 @@ pub fn come<N: Connections, A: HostAnswers>(
         (hall network.new answers.new seats.new.items heard) }
     ensures fits { A.fits answers.new }
 {
-    let Some(place) = free_place(alloc, seats, free) else {
+    let Some(place) = free_place(alloc, seats, free, door) else {
         network.put_off(door);
         return;
     };
@@ -114,9 +117,18 @@ fn turn_out<N: Connections, A: HostAnswers>(
 }
 
 // A place where no one is, which is made where there is none.
-fn free_place(alloc: Global, seats: &mut Vec<Seat>, free: &mut Vec<usize>) -> Option<usize>
+fn free_place(
+    alloc: Global,
+    seats: &mut Vec<Seat>,
+    free: &mut Vec<usize>,
+    door: usize,
+) -> Option<usize>
     ensures { GrowsByLost seats.old.items seats.new.items }
 {
+    let taken = seats.len().saturating_sub(free.len());
+    if door != 0 && taken >= MOST - OF_FIRST_DOOR {
+        return None;
+    }
     if let Some(place) = free.pop() {
         return Some(place);
     }

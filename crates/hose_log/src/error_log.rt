@@ -40,6 +40,8 @@ pub struct ErrorLog<R> {
     begun: Option<Begun>,
     line: Vec<u8>,
     lost: u64,
+    // It is told nothing, so it loses nothing.
+    is_silent: bool,
 }
 
 impl<R: Threads + Wait + Clock + Copy + Drop + Send + 'static> ErrorLog<R> {
@@ -50,18 +52,20 @@ impl<R: Threads + Wait + Clock + Copy + Drop + Send + 'static> ErrorLog<R> {
             begun: begin(rt, alloc, output).ok(),
             line: Vec::new(alloc),
             lost: 0,
+            is_silent: false,
         }
     }
 }
 
 impl<R> ErrorLog<R> {
-    /// A log without a thread, in which all is lost: for who tells nothing.
+    /// A log that is not written, for who wants none: nothing counts as lost.
     pub fn silent(rt: R, alloc: Global) -> ErrorLog<R> {
         ErrorLog {
             rt,
             begun: None,
             line: Vec::new(alloc),
             lost: 0,
+            is_silent: true,
         }
     }
 
@@ -113,6 +117,9 @@ fn begin<
 
 impl<R: Clock + Drop> Log for ErrorLog<R> {
     fn tell(&mut self, customer: &[u8], line: &[u8], reply: &[u8]) {
+        if self.is_silent {
+            return;
+        }
         self.line.clear();
         let spelled = spell(&mut self.line, customer, line, reply);
         if spelled.is_err() || !self.hand_on() {

@@ -1,4 +1,3 @@
 pub mod Happening
-pub mod MemTrace
 pub mod Story
-pub mod Told
+pub mod steps

@@ -1,7 +1,7 @@
 // The connections of a network, which one thread holds.
 ghost use Rattle.std.specs.Prelude.{◌<◌, ◌≤◌, List, [], ◌∷◌, length, take, IfOk, MatchResult};
 ghost use Rattle.std.specs.Bool.{MatchBool};
-ghost use Rattle.hose_net.specs.Told.{paused_by, told_by};
+ghost use Rattle.hose_net.specs.steps.Told.{paused_by, told_by};
 ghost use Rattle.hose_net.specs.Happening.{Came, Got, Happening, Left, Sent};
 
 /// What is ready, perhaps.

@@ -2,8 +2,8 @@
 ghost use Rattle.std.specs.Prelude.{◌≡◌, ◌<◌, ◌≤◌, List, [], ◌∷◌, ◌++◌, true, length, take, IfOk, MatchResult};
 ghost use Rattle.std.specs.Bool.{MatchBool};
 ghost use Rattle.hose_net.specs.Happening.{Came, Got, Left, Sent};
-ghost use Rattle.hose_net.specs.MemTrace.{Trace, happening_of};
-ghost use Rattle.hose_net.specs.Told.{told_by};
+ghost use Rattle.hose_net.specs.steps.MemTrace.{Trace, happening_of};
+ghost use Rattle.hose_net.specs.steps.Told.{told_by};
 
 use crate::{Connections, Pause, Ready};
 use std::alloc::Global;
@@ -55,7 +55,7 @@ pub struct MemConnections {
 
 impl Model for MemConnections {
     ghost use Rattle.std.specs.Prelude.{map};
-    ghost use Rattle.hose_net.specs.MemTrace.{Trace, happening_of};
+    ghost use Rattle.hose_net.specs.steps.MemTrace.{Trace, happening_of};
 
     ghost Value = { Trace };
 

@@ -173,6 +173,15 @@ impl Board {
         }
     }
 
+    /// There is more to do at a place, since lines of a piece are left: it is told once more, and who
+    /// does not read there then either is told again.
+    pub fn tell_again(&mut self, place: usize) {
+        if let Some(at) = self.places.get_mut(place) {
+            at.is_left = false;
+        }
+        self.tell_place(place);
+    }
+
     pub fn tell_place(&mut self, place: usize) {
         let Some(at) = self.places.get_mut(place) else {
             return;
@@ -206,7 +215,8 @@ impl Board {
         let Some(at) = self.places.get_mut(place) else {
             return;
         };
-        let is_told_again = at.is_unread && !at.is_left;
+        // Who is told anyhow is looked at again after that turn.
+        let is_told_again = at.is_unread && !at.is_left && !at.is_on_board;
         if is_told_again {
             at.is_left = true;
             self.tell_place(place);

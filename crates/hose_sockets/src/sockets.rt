@@ -214,7 +214,7 @@ impl<N: Clock + Drop> Connections for Sockets<N> {
     }
 
     fn ask_again(&mut self, place: usize) {
-        self.board.tell_place(place);
+        self.board.tell_again(place);
     }
 
     fn read(&mut self, place: usize, into: &mut [u8]) -> Result<usize, Pause> {
