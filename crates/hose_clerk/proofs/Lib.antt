@@ -1,0 +1,3 @@
+mod Placed
+mod Answered
+pub mod Hosted

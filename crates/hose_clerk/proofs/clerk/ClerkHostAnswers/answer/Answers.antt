@@ -1,0 +1,51 @@
+use Rattle.std.proofs.Common.{◌≡◌, ◌∙◌, ◌∷◌, ◌++◌, [], Bool, ap, refl, rules, subst, sym}
+use Rattle.hose_clerk.specs.HostLines.{SaysBy, rule_at}
+use Rattle.hose_clerk.specs.declared.doors.DoorRule.{DoorRule}
+use Rattle.hose_clerk.specs.declared.sessions.Session.TheVariants.{Over}
+use Rattle.hose_clerk.specs.steps.Answering.{HasHosted}
+use Rattle.hose_clerk.specs.steps.Sessions.{is_new_at, is_over_at, session_at}
+use Rattle.hose_clerk.proofs.Hosted.{Answered, hosted_more, kept_put}
+use Rattle.hose_clerk.proofs.Placed.{put_then}
+use Rattle.hose_clerk.proofs.clerk.ClerkHostAnswers.answer.Goals as goal
+
+pub returns-clause-fits : goal.returns-clause-fits
+returns-clause-fits g c =
+    let sessions = c.args.self.now.sessions.items in
+    let after = c.put.new.sessions.items in
+    let left = c.reply_to-reply.result.1 in
+    let answers = c.reply_to-reply.ensures.answers.answers in
+    let put = put_then sessions c.take-session.new.sessions.items after c.args.place Over left c.take-session.ensures.left c.put.ensures in
+    kept_put (g.K.Books.ledger c.args.self.now.desk.core.books) (g.K.Books.ledger c.reply_to-reply.new.self.core.books) c.args.place left sessions after answers.goes c.requires.fits put answers.kept
+
+pub returns-clause-answers : goal.returns-clause-answers
+returns-clause-answers g c = λ from before bytes shows has.
+    let old = c.args.self.now.desk.core.books in
+    let new = c.reply_to-reply.new.self.core.books in
+    let sessions = c.args.self.now.sessions.items in
+    let after = c.put.new.sessions.items in
+    let one = c.take-session.result in
+    let left = c.reply_to-reply.result.1 in
+    let answered = c.reply_to-reply.ensures.answers in
+    let at : session_at sessions c.args.place ≡ one = sym c.take-session.ensures.session in
+    let network = (g.K.Books.ledger old).network in
+    let rule : c.rule_of-rule.result ≡ rule_at c.args.self.now.doors.items c.args.door = search rules in
+    let x : Answered = record {
+      place = c.args.place;
+      door = c.args.door;
+      first = is_new_at (session_at sessions c.args.place);
+      line = bytes;
+      said = answered.said;
+      reply = c.reply_to-reply.result.0;
+      needs = (g.K.Books.ledger new).book.epoch;
+    } in
+    let says = subst (λ (b : Bool). SaysBy network (rule_at c.args.self.now.doors.items c.args.door) b bytes answered.said) (ap is_new_at (sym at))
+    (subst (λ (r : DoorRule). SaysBy network r (is_new_at one) bytes answered.said) rule (answered.says bytes shows)) in
+    let put = put_then sessions c.take-session.new.sessions.items after c.args.place Over left c.take-session.ensures.left c.put.ensures in
+    let was = subst (λ (e : Bool). HasHosted g.K.Books from.0 from.1.desk.core.books old sessions e before) c.requires.goes_on has in
+    let more = hosted_more g.K.Books from.0 from.1.desk.core.books old new before sessions was x one left after at (sym (ap is_over_at at) ∙ c.requires.open) put (ap is_new_at at) answered.answers refl in
+    (answered.said, says, subst (λ (e : Bool). HasHosted g.K.Books from.0 from.1.desk.core.books new after e (before ++ x ∷ [])) (sym c.ends-self.ensures) more)
+
+pub returns-clause-others : goal.returns-clause-others
+returns-clause-others g c = λ other apart.
+    let put = put_then c.args.self.now.sessions.items c.take-session.new.sessions.items c.put.new.sessions.items c.args.place Over c.reply_to-reply.result.1 c.take-session.ensures.left c.put.ensures in
+    (ap is_new_at (put.others other apart), ap is_over_at (put.others other apart))

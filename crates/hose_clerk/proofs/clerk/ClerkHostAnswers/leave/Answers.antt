@@ -1,0 +1,14 @@
+use Rattle.std.proofs.Common.{inl, refl}
+use Rattle.hose_clerk.specs.declared.sessions.Session.TheVariants.{Over}
+use Rattle.hose_clerk.proofs.Hosted.{hosted_put, kept_put}
+use Rattle.hose_clerk.proofs.clerk.ClerkHostAnswers.leave.Goals as goal
+
+pub returns-clause-fits : goal.returns-clause-fits
+returns-clause-fits g c =
+    let ledger = g.K.Books.ledger c.args.self.now.desk.core.books in
+    kept_put ledger ledger c.args.place Over c.args.self.now.sessions.items c.take-gone.new.sessions.items (inl refl) c.requires c.take-gone.ensures.left tt
+
+pub returns-clause-comes : goal.returns-clause-comes
+returns-clause-comes g c = λ from exchanges has.
+    hosted_put g.K.Books from.0 from.1.desk.core.books c.args.self.now.desk.core.books c.args.place Over c.args.self.now.sessions.items c.take-gone.new.sessions.items c.args.self.now.desk.is_ending exchanges
+    (λ network history stage. tt) c.take-gone.ensures.left has

@@ -1,0 +1,97 @@
+-- What the lines of a host say: those of sessions, of which the first is by the rule of its door,
+-- and `end` and `figures`.
+use Rattle.std.specs.Prelude.{◌≡◌, ◌≢◌, ℕ, ◌<◌, ◌≤◌, Bool, true, false, List, [], ◌∷◌, ⊤, codes, length, slice_index_or}
+use Rattle.hose_words.specs.Form.{Form, finish, grammar_of, place, this}
+use Rattle.hose_words.specs.Grammar.{Grammar, IsFirstNotAllowed}
+use Rattle.hose_words.specs.Words.{words_of}
+use Rattle.hose_words.specs.Limits.{line_limit}
+use Rattle.hose_graph.specs.Limits.{operator}
+use Rattle.hose_graph.specs.Name.{IsName}
+use Rattle.hose_graph.specs.Network.{Network}
+use Rattle.hose_law.specs.Transcript.{SessionLine}
+use Rattle.hose_law.specs.Transcript.SessionLine.{Greets, Asks, Leaves, IsBad, IsLong, Unread}
+use Rattle.hose_greeting.specs.SessionLines.{IsGreeting, SaysLater}
+use Rattle.hose_clerk.specs.declared.doors.DoorRule.{DoorRule}
+use Rattle.hose_clerk.specs.declared.doors.DoorRule.TheVariants.{Any, AnyButOperator, Only}
+
+-- What a line at a host says: what a line of a session does, or it asks for the end of the host, or
+-- for what was counted.
+pub data HostLine : Type 0 where
+  Speaks : SessionLine → HostLine
+  Ends : HostLine
+  Counts : HostLine
+
+-- ---- the first line
+
+-- the rule of a door; at a door that has none everyone may greet but the operator
+abbrev pub rule_at : List DoorRule → ℕ → DoorRule
+rule_at doors door = slice_index_or doors door AnyButOperator
+
+-- a customer of this name may greet at a door of this rule
+abbrev pub MayGreet : DoorRule → List ℕ → Type 0
+MayGreet Any name = ⊤
+MayGreet AnyButOperator name = name ≢ operator
+MayGreet (Only bound) name = name ≡ bound
+
+-- the name of a customer who may greet
+pub record IsNameAt (rule : DoorRule) (name : List ℕ) : Type 0 where
+  pub is_name : IsName name
+  pub may_greet : MayGreet rule name
+
+-- `hello NAME`, by a customer who may greet
+pub record IsGreetingAt (rule : DoorRule) (line name : List ℕ) : Type 0 where
+  pub greets : IsGreeting line name
+  pub may_greet : MayGreet rule name
+
+-- the form of a greeting
+abbrev pub greeting_form_at : DoorRule → Form
+greeting_form_at rule = this (codes "hello") (place (IsNameAt rule) finish)
+
+-- the grammar of the line that greets
+abbrev pub greeting_grammar_at : DoorRule → Grammar
+greeting_grammar_at rule = grammar_of (greeting_form_at rule)
+
+-- What the first line of a session says at a door of this rule: it is a greeting by a customer who
+-- may greet there, or it has a first word that is not allowed, or it is too long.
+abbrev pub SaysFirstAt : DoorRule → List ℕ → SessionLine → Type 0
+SaysFirstAt rule bytes (Greets name) = (length bytes ≤ line_limit) × IsGreetingAt rule bytes name
+SaysFirstAt rule bytes (IsBad word) = (length bytes ≤ line_limit)
+    × IsFirstNotAllowed (greeting_grammar_at rule) [] (words_of bytes) word
+SaysFirstAt rule bytes IsLong = line_limit < length bytes
+SaysFirstAt rule bytes (Asks command) = ⊥
+SaysFirstAt rule bytes Leaves = ⊥
+SaysFirstAt rule bytes Unread = ⊥
+
+-- ---- later lines
+
+-- `end`
+abbrev pub IsEnd : List ℕ → Type 0
+IsEnd line = words_of line ≡ codes "end" ∷ []
+
+-- `figures`
+abbrev pub IsCount : List ℕ → Type 0
+IsCount line = words_of line ≡ codes "figures" ∷ []
+
+-- What a later line says: what it does in every session, where one that is bad is neither `end` nor
+-- `figures`; or it is one of these.
+abbrev pub SaysLaterAt : Network → List ℕ → HostLine → Type 0
+SaysLaterAt network bytes (Speaks (IsBad word)) =
+    SaysLater network bytes (IsBad word) × (¬ IsEnd bytes) × (¬ IsCount bytes)
+SaysLaterAt network bytes (Speaks (Greets name)) = ⊥
+SaysLaterAt network bytes (Speaks (Asks command)) = SaysLater network bytes (Asks command)
+SaysLaterAt network bytes (Speaks Leaves) = SaysLater network bytes Leaves
+SaysLaterAt network bytes (Speaks IsLong) = SaysLater network bytes IsLong
+SaysLaterAt network bytes (Speaks Unread) = SaysLater network bytes Unread
+SaysLaterAt network bytes Ends = (length bytes ≤ line_limit) × IsEnd bytes
+SaysLaterAt network bytes Counts = (length bytes ≤ line_limit) × IsCount bytes
+
+-- what a line says at a door of this rule, by whether it is the first of its connection
+abbrev pub SaysBy : Network → DoorRule → Bool → List ℕ → HostLine → Type 0
+SaysBy network rule true bytes (Speaks line) = SaysFirstAt rule bytes line
+SaysBy network rule true bytes Ends = ⊥
+SaysBy network rule true bytes Counts = ⊥
+SaysBy network rule false bytes said = SaysLaterAt network bytes said
+
+-- what a line says, by whether it is the first of its connection and by the door that this came by
+abbrev pub SaysAt : Network → List DoorRule → Bool → ℕ → List ℕ → HostLine → Type 0
+SaysAt network doors first door bytes said = SaysBy network (rule_at doors door) first bytes said

@@ -1,0 +1,53 @@
+-- The texts of the replies of a host.
+use Rattle.std.specs.Prelude.{ℕ, List, ◌++◌, codes, decimal}
+use Rattle.hose_graph.specs.Network.{Network}
+use Rattle.hose_proto.specs.ReplyText.{line_of, reply_text}
+use Rattle.hose_clerk.specs.declared.figures.Figures.{Figures}
+use Rattle.hose_clerk.specs.declared.replies.HostReply.{HostReply}
+use Rattle.hose_clerk.specs.declared.replies.HostReply.TheVariants as reply
+
+-- words, and the number after them
+abbrev pub numbered : List ℕ → ℕ → List ℕ
+numbered words number = words ++ decimal number
+
+-- how many connections and lines there were
+abbrev pub comers_text : Figures → List ℕ
+comers_text figures =
+    numbered (codes "figures connections ") figures.connections
+    ++ numbered (codes " ever ") figures.ever
+    ++ numbered (codes " lines ") figures.lines
+
+-- how many orders there were, by their replies
+abbrev pub orders_text : Figures → List ℕ
+orders_text figures =
+    numbered (codes " admitted ") figures.admitted
+    ++ numbered (codes " refused ") figures.refused
+    ++ numbered (codes " released ") figures.released
+    ++ numbered (codes " down ") figures.down
+    ++ numbered (codes " up ") figures.up
+
+-- how many failures there were, and the epoch
+abbrev pub failures_text : Figures → List ℕ
+failures_text figures =
+    numbered (codes " disk ") figures.disk
+    ++ numbered (codes " memory ") figures.memory
+    ++ numbered (codes " lost ") figures.lost
+    ++ numbered (codes " at ") figures.at
+
+-- what was counted
+abbrev pub figures_text : Figures → List ℕ
+figures_text figures = comers_text figures ++ orders_text figures ++ failures_text figures
+
+-- the line that tells what was counted
+abbrev pub figures_line : Figures → List ℕ
+figures_line figures = line_of (figures_text figures)
+
+-- the line that tells that the host ends, at an epoch
+abbrev pub ending_line : ℕ → List ℕ
+ending_line at = line_of (codes "ending at " ++ decimal at)
+
+-- the text of a reply, with its line feed
+abbrev pub host_text : Network → HostReply → List ℕ
+host_text network (reply.Told told) = line_of (reply_text network told)
+host_text network (reply.Ending at) = ending_line at
+host_text network (reply.Figures figures) = figures_line figures

@@ -1,0 +1,186 @@
+-- What a host answers to the lines of all its connections, in their order: one history, and a
+-- session for each connection.
+use Rattle.std.specs.Prelude.{◌≡◌, ◌≢◌, ◌⊎◌, ℕ, ◌+◌, ◌-◌, ◌^◌, ◌==◌, ◌≤◌, Bool, true, false, if◌then◌else◌, List, [], ◌∷◌, length, slice_get, take, Some}
+use Rattle.hose_net.specs.Story.{Exchange}
+use Rattle.hose_graph.specs.Limits.{operator}
+use Rattle.hose_graph.specs.Network.{Network}
+use Rattle.hose_graph.specs.declared.command.Command.{Command}
+use Rattle.hose_graph.specs.declared.command.Reply.{Reply}
+use Rattle.hose_graph.specs.declared.command.Reply.TheVariants.{Denied, Welcome}
+use Rattle.hose_graph.specs.declared.entry.Entry.{Entry}
+use Rattle.hose_law.specs.Answer.{IsStep, IsStepOf}
+use Rattle.hose_law.specs.Book.{Book}
+use Rattle.hose_law.specs.History.{IsDecidedAt, book_of}
+use Rattle.hose_law.specs.Quotes.{Holding, none_held}
+use Rattle.hose_law.specs.Script.{one_if_disk}
+use Rattle.hose_law.specs.Transcript.{IsPlainReply, SessionLine, Stage, stage_after}
+use Rattle.hose_law.specs.Transcript.SessionLine.{Greets, Asks, Leaves, IsBad, IsLong, Unread}
+use Rattle.hose_law.specs.Transcript.Stage.{Left, Refused, Serving, Waiting}
+use Rattle.hose_clerk.specs.HostLines.{HostLine}
+use Rattle.hose_clerk.specs.HostLines.HostLine.{Counts, Ends, Speaks}
+use Rattle.hose_clerk.specs.declared.replies.HostReply.{HostReply}
+use Rattle.hose_clerk.specs.declared.replies.HostReply.TheVariants as reply
+
+-- where a host is: the history, how far each connection is by its place, and whether no line is
+-- answered any more
+pub record HostState : Type 0 where
+  pub history : List Entry
+  pub stages : ℕ → Stage
+  pub ended : Bool
+
+-- where a host begins: at a history, with no one there
+abbrev pub host_from : List Entry → HostState
+host_from since = record { history = since; stages = λ place. Left; ended = false }
+
+-- ---- one line
+
+-- a line that changes no history is answered, and its session is so far then
+abbrev pub IsPlainStep : List Entry → Stage → SessionLine → Reply → List Entry → Stage → Type 0
+IsPlainStep history stage line reply next after =
+    IsPlainReply line reply × (next ≡ history) × (after ≡ stage_after stage line)
+
+-- A line of a session that is so far is answered at a history: the history and the session then.
+abbrev pub IsSessionAnswer : Network → List Entry → Stage → SessionLine → Reply → List Entry
+    → Stage → Type 0
+IsSessionAnswer network history Waiting (Greets customer) reply next after =
+    (reply ≡ Welcome (length history)) × (next ≡ history) × (after ≡ Serving customer none_held)
+IsSessionAnswer network history Waiting (Asks command) reply next after = ⊥
+IsSessionAnswer network history Waiting Leaves reply next after =
+    IsPlainStep history Waiting Leaves reply next after
+IsSessionAnswer network history Waiting (IsBad word) reply next after =
+    IsPlainStep history Waiting (IsBad word) reply next after
+IsSessionAnswer network history Waiting IsLong reply next after =
+    IsPlainStep history Waiting IsLong reply next after
+IsSessionAnswer network history Waiting Unread reply next after =
+    IsPlainStep history Waiting Unread reply next after
+IsSessionAnswer network history (Serving customer held) (Greets other) reply next after = ⊥
+IsSessionAnswer network history (Serving customer held) (Asks command) reply next after =
+    (left : Holding) × IsStep network 0 history customer held command reply next left
+    × (after ≡ Serving customer left)
+IsSessionAnswer network history (Serving customer held) Leaves reply next after =
+    IsPlainStep history (Serving customer held) Leaves reply next after
+IsSessionAnswer network history (Serving customer held) (IsBad word) reply next after =
+    IsPlainStep history (Serving customer held) (IsBad word) reply next after
+IsSessionAnswer network history (Serving customer held) IsLong reply next after =
+    IsPlainStep history (Serving customer held) IsLong reply next after
+IsSessionAnswer network history (Serving customer held) Unread reply next after =
+    IsPlainStep history (Serving customer held) Unread reply next after
+IsSessionAnswer network history Refused line reply next after = ⊥
+IsSessionAnswer network history Left line reply next after = ⊥
+
+-- the reply to `end` of a customer at an epoch: for the operator alone the host ends
+abbrev pub IsEndReply : ℕ → List ℕ → HostReply → Type 0
+IsEndReply epoch customer (reply.Told told) = (customer ≢ operator) × (told ≡ Denied epoch)
+IsEndReply epoch customer (reply.Ending at) = (customer ≡ operator) × (at ≡ epoch)
+IsEndReply epoch customer (reply.Figures figures) = ⊥
+
+-- the reply to `figures` of a customer at an epoch: to the operator alone they are told
+abbrev pub IsCountReply : ℕ → List ℕ → HostReply → Type 0
+IsCountReply epoch customer (reply.Told told) = (customer ≢ operator) × (told ≡ Denied epoch)
+IsCountReply epoch customer (reply.Ending at) = ⊥
+IsCountReply epoch customer (reply.Figures figures) =
+    (customer ≡ operator) × (figures.at ≡ epoch)
+
+-- a line of a customer that a session serves is answered by such a reply, and nothing changes
+abbrev pub IsOwnAnswer : (ℕ → List ℕ → HostReply → Type 0) → List Entry → Stage → HostReply
+    → List Entry → Stage → Type 0
+IsOwnAnswer Is history (Serving customer held) told next after =
+    Is (length history) customer told × (next ≡ history) × (after ≡ Serving customer held)
+IsOwnAnswer Is history Waiting told next after = ⊥
+IsOwnAnswer Is history Refused told next after = ⊥
+IsOwnAnswer Is history Left told next after = ⊥
+
+-- A line is answered at a history, and who gave it is so far before it and then.
+abbrev pub IsHostAnswer : Network → List Entry → Stage → HostLine → HostReply → List Entry → Stage
+    → Type 0
+IsHostAnswer network history stage (Speaks line) (reply.Told told) next after =
+    IsSessionAnswer network history stage line told next after
+IsHostAnswer network history stage (Speaks line) (reply.Ending at) next after = ⊥
+IsHostAnswer network history stage (Speaks line) (reply.Figures figures) next after = ⊥
+IsHostAnswer network history stage Ends told next after =
+    IsOwnAnswer IsEndReply history stage told next after
+IsHostAnswer network history stage Counts told next after =
+    IsOwnAnswer IsCountReply history stage told next after
+
+-- how far who gives a line is before it: with the first line of a connection a session begins
+abbrev pub stage_before : Bool → Stage → Stage
+stage_before true stage = Waiting
+stage_before false stage = stage
+
+-- stages by places, with this one at a place
+abbrev pub with_stage : (ℕ → Stage) → ℕ → Stage → ℕ → Stage
+with_stage stages place stage = λ other. if place == other then stage else stages other
+
+-- no line is answered after this reply
+abbrev pub ends_host : HostReply → Bool
+ends_host (reply.Told told) = false
+ends_host (reply.Ending at) = true
+ends_host (reply.Figures figures) = false
+
+-- A line is answered where a host is: the reply is right at the history, the connection alone that
+-- gave it goes on, and as many entries are needed as stand then.
+pub record IsHostStep (network : Network) (exchange : Exchange HostLine HostReply)
+    (old new : HostState) : Type 0 where
+  pub goes_on : old.ended ≡ false
+  pub after : Stage
+  pub answer : IsHostAnswer network old.history
+      (stage_before exchange.first (old.stages exchange.place)) exchange.said exchange.reply
+      new.history after
+  pub stages : new.stages ≡ with_stage old.stages exchange.place after
+  pub ended : new.ended ≡ ends_host exchange.reply
+  pub needs : exchange.needs ≡ length new.history
+
+-- ---- all lines
+
+-- lines are answered one after the other, and lead a host from here to there
+abbrev pub AreHostSteps : Network → List (Exchange HostLine HostReply) → HostState → HostState
+    → Type 0
+AreHostSteps network [] first last = last ≡ first
+AreHostSteps network (exchange ∷ exchanges) first last = (next : HostState)
+    × IsHostStep network exchange first next × AreHostSteps network exchanges next last
+
+-- An exchange asks for an entry where a host is: its line is a command of the customer whom its
+-- connection is served as, and its reply is that of a step by what is held there, whose answer has
+-- the entry.
+pub record IsAskedAt (network : Network) (state : HostState)
+    (exchange : Exchange HostLine HostReply) (entry : Entry) : Type 0 where
+  pub customer : List ℕ
+  pub held : Holding
+  pub command : Command
+  pub told : Reply
+  pub later : exchange.first ≡ false
+  pub serves : state.stages exchange.place ≡ Serving customer held
+  pub asks : exchange.said ≡ Speaks (Asks command)
+  pub tells : exchange.reply ≡ reply.Told told
+  pub next : List Entry
+  pub after : Holding
+  pub step : IsStepOf network 0 state.history customer held command told (Some entry) next after
+
+-- The entry is decided at the book, and one of the exchanges asks for it: those before it lead a
+-- host, from this history on, to where the history is that of the book.
+pub record IsAskedOf (since : List Entry) (exchanges : List (Exchange HostLine HostReply))
+    (network : Network) (book : Book) (entry : Entry) : Type 0 where
+  pub decided : IsDecidedAt network book entry
+  pub place : ℕ
+  pub exchange : Exchange HostLine HostReply
+  pub there : slice_get exchanges place ≡ Some exchange
+  pub state : HostState
+  pub before : AreHostSteps network (take place exchanges) (host_from since) state
+  pub is_book : book_of 0 state.history ≡ book
+  pub asks : IsAskedAt network state exchange entry
+
+-- how many failures of a disk a reply tells
+abbrev pub disks_told : HostReply → ℕ
+disks_told (reply.Told told) = one_if_disk told
+disks_told (reply.Ending at) = 0
+disks_told (reply.Figures figures) = 0
+
+-- how many failures of a disk the replies of exchanges tell
+abbrev pub disks_of : List (Exchange HostLine HostReply) → ℕ
+disks_of [] = 0
+disks_of (exchange ∷ exchanges) = disks_of exchanges + disks_told exchange.reply
+
+-- Failures of a disk were told at most as often as a count rose, or it stands at its type's end.
+abbrev pub TellsDisks : ℕ → List (Exchange HostLine HostReply) → ℕ → Type 0
+TellsDisks before exchanges after =
+    (before + disks_of exchanges ≤ after) ⊎ (2 ^ 64 - 1 ≤ after)

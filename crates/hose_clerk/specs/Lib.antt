@@ -1,0 +1,4 @@
+pub mod HostLines
+pub mod HostReplies
+pub mod Hosting
+pub mod steps

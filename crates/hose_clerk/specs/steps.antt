@@ -1,0 +1,5 @@
+-- Steps of proofs: what no clause of the top calls names.
+pub mod Answering
+pub mod Hosting
+pub mod Sessions
+pub mod Shown

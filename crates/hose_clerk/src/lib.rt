@@ -1,0 +1,37 @@
+//! Who answers the lines of many connections by one book: each connection is a session of its own.
+//!
+//! The first line of a connection is `hello NAME`, and is answered `welcome at N`. Who may greet is
+//! said by the rule of the door: another name is a word that is not allowed there, `bad 2`. After a
+//! first line that is no greeting no line of the connection is answered. Later lines are commands,
+//! without the customer's name, and `bye`, which ends the session. What is quoted is the session's
+//! own, and ends with it.
+//!
+//! Two lines more are the operator's alone, and any other customer is told `denied at N`. `end` is
+//! answered `ending at N`, and then no line of anyone is answered; `figures` is answered by one
+//! line of what was counted since the start.
+//!
+//! Each order, and each reply that tells a failure, is told to a log.
+//!
+//! ```
+//! let doors = vec![in alloc; DoorRule::AnyButOperator]?;
+//! let mut clerk = Clerk::new(alloc, core, RowsInAdvance::new(), doors, NoLog);
+//! host(rt, alloc, &mut network, &mut clerk);
+//! let books = clerk.into_books();
+//! ```
+#![tactic(auto)]
+
+mod clerk;
+mod desk;
+mod doors;
+mod figures;
+mod log_lines;
+mod own_words;
+mod replies;
+mod sessions;
+
+pub use clerk::Clerk;
+pub use desk::Desk;
+pub use doors::DoorRule;
+pub use figures::Figures;
+pub use replies::HostReply;
+pub use sessions::{Client, Session};
