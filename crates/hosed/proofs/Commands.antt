@@ -163,10 +163,10 @@ no_number least most more misses = wrong_choice (Misses-stronger (λ word choice
 -- ---- options
 
 -- a word is told from others by itself
-same_apart : {is : List ℕ → Type 0} → AreApart is (λ word. word)
+pub same_apart : {is : List ℕ → Type 0} → AreApart is (λ word. word)
 same_apart = record { apart = λ one other here there same. same }
 
-is_itself : (word : List ℕ) → bytes_eq word word ≡ true
+pub is_itself : (word : List ℕ) → bytes_eq word word ≡ true
 is_itself word = (bytes_eq-Decides word word).1 refl
 
 is_another : (word other : List ℕ) → (word ≡ other → ⊥) → bytes_eq word other ≡ false
@@ -177,7 +177,7 @@ is_another word other never = by (bytes_eq word other) (λ yes. never ((bytes_eq
     by false never = refl
 
 -- no option names a file
-no_file : IsFileName tariff_option → ⊥
+pub no_file : IsFileName tariff_option → ⊥
 no_file is = is.no_option refl
 
 no_live_file : IsFileName live_option → ⊥
@@ -197,12 +197,12 @@ no_file_named more misses = wrong_choice (Misses-stronger (λ word choice. subst
 
 module _ (option : List ℕ) (form : Form) (first : FirstWord) where
   -- the option is there, and a later word is wrong
-  option_wrong : {old new : Position} {number : ℕ} → Took old new option → IsWrong form new number → IsWrong (first_form (with_option option form first)) old number
+  pub option_wrong : {old new : Position} {number : ℕ} → Took old new option → IsWrong form new number → IsWrong (first_form (with_option option form first)) old number
   option_wrong {new = new} {number = number} took wrong =
       wrong_chosen option (inl refl) same_apart took (subst (λ (is : Bool). IsWrong (form_if is form (first.after option)) new number) (sym (is_itself option)) wrong)
 
   -- where it does not stand, what is wrong of the form without it is wrong
-  skip_wrong : (old : Position) (number : ℕ) → (IsFirst (λ word. word ≡ option) old.left → ⊥) → IsWrong (first_form first) old number → IsWrong (first_form (with_option option form first)) old number
+  pub skip_wrong : (old : Position) (number : ℕ) → (IsFirst (λ word. word ≡ option) old.left → ⊥) → IsWrong (first_form first) old number → IsWrong (first_form (with_option option form first)) old number
   skip_wrong old number none wrong = at old.left refl
     where
       -- a word came that may stand first
@@ -238,18 +238,18 @@ module _ (option : List ℕ) (form : Form) (first : FirstWord) where
   option_passes words passes = pass_branch option (inl refl) same_apart (subst (λ (is : Bool). Passes (form_if is form (first.after option)) words) (sym (is_itself option)) passes)
 
   -- so do those that begin with another word that may stand first
-  skip_passes : (word : List ℕ) (words : List (List ℕ)) → (word ≡ option → ⊥) → first.may word → Passes (first.after word) words → Passes ((with_option option form first).after word) words
+  pub skip_passes : (word : List ℕ) (words : List (List ℕ)) → (word ≡ option → ⊥) → first.may word → Passes (first.after word) words → Passes ((with_option option form first).after word) words
   skip_passes word words never may passes = subst (λ (is : Bool). Passes (form_if is form (first.after word)) words) (sym (is_another word option never)) passes
 
-is_named : (names : List (List ℕ)) (which : ℕ) → IsFirstNamed names which → IsTariffName names (get_or names which [])
+pub is_named : (names : List (List ℕ)) (which : ℕ) → IsFirstNamed names which → IsTariffName names (get_or names which [])
 is_named names which is = record { place = which; within = is.within; is = refl }
 
 -- no tariff is of the name that follows the option
-no_tariff : (names : List (List ℕ)) (form : Form) (first : FirstWord) (words : List (List ℕ)) (number : ℕ) → NamesNoTariff names words number → IsWrong (first_form (with_tariff names form first)) (at_word 2 words) number
+pub no_tariff : (names : List (List ℕ)) (form : Form) (first : FirstWord) (words : List (List ℕ)) (number : ℕ) → NamesNoTariff names words number → IsWrong (first_form (with_tariff names form first)) (at_word 2 words) number
 no_tariff names form first words number none = option_wrong tariff_option (place (IsTariffName names) form) first none.option (wrong_place none.misses)
 
 -- what is wrong of the words after a tariff, if one was chosen
-chosen_wrong : (names : List (List ℕ)) (first : FirstWord) (words : List (List ℕ)) (tariff : Option ℕ) (at number : ℕ) → Chooses names words tariff at → IsWrong (first_form first) (at_word at words) number
+pub chosen_wrong : (names : List (List ℕ)) (first : FirstWord) (words : List (List ℕ)) (tariff : Option ℕ) (at number : ℕ) → Chooses names words tariff at → IsWrong (first_form first) (at_word at words) number
     → IsWrong (first_form (with_tariff names (first_form first) first)) (at_word 2 words) number
 chosen_wrong names first words None at number chosen wrong = skip_wrong tariff_option (place (IsTariffName names) (first_form first)) first (at_word 2 words) number chosen.none (subst (λ n. IsWrong (first_form first) (at_word n words) number) chosen.at_once wrong)
 chosen_wrong names first words (Some which) at number chosen wrong = option_wrong tariff_option (place (IsTariffName names) (first_form first)) first chosen.option
@@ -489,7 +489,7 @@ asks_for names words verb task are = subst (AsksFor verb) (sym are.are) refl
 -- ---- words tell one thing
 
 -- nothing, or what begins with no option
-abbrev NoOption : List (List ℕ) → Type 0
+abbrev pub NoOption : List (List ℕ) → Type 0
 NoOption words = IsFirst (λ word. word ≡ tariff_option) words → ⊥
 
 -- the first of a name is one place
@@ -502,11 +502,11 @@ one_place names one other is is' same = by (cases_lt one other) (cases_lt other 
     by (inr le) (inr ge) = omega (arith, le, ge)
 
 -- one tariff, and the same words after it
-record IsSameRest (one other : Option ℕ) (rest rest' : List (List ℕ)) : Type 0 where
+pub record IsSameRest (one other : Option ℕ) (rest rest' : List (List ℕ)) : Type 0 where
   pub tariffs : one ≡ other
   pub rests : rest ≡ rest'
 
-one_tariff : (names : List (List ℕ)) (one other : Option ℕ) (rest rest' : List (List ℕ)) → IsChosen names one → IsChosen names other → NoOption rest → NoOption rest' → tariff_words names one ++ rest ≡ tariff_words names other ++ rest'
+pub one_tariff : (names : List (List ℕ)) (one other : Option ℕ) (rest rest' : List (List ℕ)) → IsChosen names one → IsChosen names other → NoOption rest → NoOption rest' → tariff_words names one ++ rest ≡ tariff_words names other ++ rest'
     → IsSameRest one other rest rest'
 one_tariff names None None rest rest' is is' plain plain' same = record { tariffs = refl; rests = same }
 one_tariff names None (Some which) rest rest' is is' plain plain' same = absurd (plain (subst (IsFirst (λ word. word ≡ tariff_option)) (sym same) refl))

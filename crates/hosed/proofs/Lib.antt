@@ -1,6 +1,8 @@
 pub mod Commands
 pub mod Connections
 mod EndsSeen
+pub mod HostCommands
+mod HostDoors
 mod Names
 pub mod Outcomes
 pub mod Served

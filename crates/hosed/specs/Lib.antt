@@ -1,4 +1,5 @@
 pub mod Hosed
+pub mod HostWords
 pub mod Limits
 pub mod Naming
 pub mod Offline

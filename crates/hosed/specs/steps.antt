@@ -1,4 +1,5 @@
 -- Steps of proofs: what no clause of the top calls names.
+pub mod HostReading
 pub mod ProgramWords
 pub mod Reading
 pub mod ServerDoor

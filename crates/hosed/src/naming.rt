@@ -17,6 +17,11 @@ pub struct NamedByWords<'w> {
 }
 
 impl<'w> NamedByWords<'w> {
+    /// A topology and a journal, and nothing else.
+    pub fn of_journal(topology: &'w str, journal: &'w str) -> NamedByWords<'w> {
+        files(Some(topology), Some(journal))
+    }
+
     /// What words name that are wrong.
     pub fn nothing() -> NamedByWords<'w> {
         files(None, None)

@@ -359,9 +359,9 @@ fn topology_at<'w>(words: &'w [String], tariffs: &[Tariff]) -> Result<(OfTopolog
     Ok((OfTopology { tariff, topology }, at + 1))
 }
 
-// The tariff that the words after the first choose, and the number of the word from which on the
-// others follow; or the first of them that is not allowed.
-fn tariff_at(words: &[String], tariffs: &[Tariff]) -> Result<(Option<usize>, u64), u64>
+/// The tariff that the words after the first choose, and the number of the word from which on the
+/// others follow; or the first of them that is not allowed.
+pub fn tariff_at(words: &[String], tariffs: &[Tariff]) -> Result<(Option<usize>, u64), u64>
     ensures ok { IfOk result (λ found. Chooses (map (λ tariff. tariff.name) tariffs.now)
         (map string_bytes words.now) found.0 found.1) }
     ensures at { IfOk result (λ found. (2 ≤ found.1) × (found.1 ≤ 4)) }
@@ -390,8 +390,8 @@ fn named_at(words: &[String], tariffs: &[Tariff]) -> Option<usize>
     find(tariffs, word_at(words, 3)?.as_bytes())
 }
 
-// The name of a file that this word is, counted from 1; else its number is told.
-fn name_at(words: &[String], at: u64) -> Result<&str, u64>
+/// The name of a file that this word is, counted from 1; else its number is told.
+pub fn name_at(words: &[String], at: u64) -> Result<&str, u64>
     requires { 1 ≤ at }
     ensures ok { IfOk result (λ name. Took (at_word at (map string_bytes words.now))
         (at_word (at + 1) (map string_bytes words.now)) name.now) }
@@ -444,8 +444,8 @@ fn none_at(words: &[String], at: u64) -> Result<(), u64>
     }
 }
 
-// This word, counted from 1, if there is one.
-fn word_at(words: &[String], at: u64) -> Option<&str>
+/// This word, counted from 1, if there is one.
+pub fn word_at(words: &[String], at: u64) -> Option<&str>
     requires { 1 ≤ at }
     ensures some { IfSome result (λ word. Took (at_word at (map string_bytes words.now))
         (at_word (at + 1) (map string_bytes words.now)) word.now) }

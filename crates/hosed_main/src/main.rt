@@ -8,8 +8,10 @@ use hose_disk::DirCabinet;
 use hose_door::TcpDoor;
 use hose_io::{StdSink, StdSource};
 use hose_pool::PlainGate;
+use hose_sockets::Ports;
 use hosed_program::{
-    Context, FrontKept, OwnedOutside, SystemWords, flat, hops, long, no_memory, start, tariffs,
+    Context, FrontKept, HostOutside, OwnedOutside, SystemWords, flat, hops, long, no_memory, start,
+    tariffs,
 };
 use std::process::ExitCode;
 
@@ -20,6 +22,11 @@ fn main(rt: HostRuntime) -> ExitCode {
         output: StdSink::new(rt.stdout()),
         cabinet: DirCabinet::new(rt),
         door: TcpDoor::new(rt),
+    };
+    let mut host = HostOutside {
+        doors: Ports::new(rt),
+        threads: rt,
+        errors: Some(rt.stderr()),
     };
     // A rule is boxed here, since what a function gives away of its own making is known by no
     // clause.
@@ -43,5 +50,6 @@ fn main(rt: HostRuntime) -> ExitCode {
         &SystemWords { env: &rt },
         &tariffs,
         &mut world,
+        &mut host,
     ))
 }

@@ -1,2 +1,3 @@
 mod Ruled
 mod WordsTaken
+mod HostAsked

@@ -12,7 +12,10 @@ use Rattle.hose_offline.specs.declared.fault.Fault.TheVariants.{Memory}
 use Rattle.hosed.specs.Hosed.{HosedOutcome}
 use Rattle.hosed.specs.Offline.{Offer}
 use Rattle.hosed.specs.ServerDoor.{OutsideDoor}
+use Rattle.hosed.specs.HostWords.{AsksToHost}
+use Rattle.hosed_host.specs.HostBook.{DoorTellings}
 use Rattle.hosed_program.specs.Given.{AreTextsOf}
+use Rattle.hosed_program.specs.HostCommand.{HostCommand}
 use Rattle.hosed_program.specs.declared.choice.TextOrCommand.{TextOrCommand}
 use Rattle.hosed_program.specs.declared.choice.TextOrCommand.TheVariants.{Help, Version, Command}
 use Rattle.hosed_program.specs.declared.texts.TheConstants.{HELP, VERSION}
@@ -54,11 +57,22 @@ module _ {I O C E : Type 0} (tells : Tellings I O C E) (before after : OutsideDo
       pub command : text_or_command words ≡ Command
           → HosedOutcome tells offer before after status words
 
-    -- What starting the program comes to, with words that are told or not: they were all taken, in
-    -- order, and came to this; or there was no memory for them, and the last line says so.
-    abbrev pub StartOutcome : Option (List (List ℕ)) → Type 0
-    StartOutcome told = ((words : List (List ℕ))
-        × IfSome told (λ all. length all < 2 ^ 64 - 1 → AreTextsOf all words)
-        × ProgramOutcome words)
-        ⊎ ((status ≡ 7) × OutputAlone
-        × IsOut tells.sink before.others.output after.others.output (last_line Memory))
+module _ {I O C E D N : Type 0} (tells : Tellings I O C E) (by : DoorTellings D N) (offer : Offer)
+    (before after : OutsideDoor I O C) (was now : D) (status : ℕ) where
+  -- What the program's words come to, those of a host too: it leaves the one door as it is, and all
+  -- others the doors of a host.
+  pub record WordsOutcome (words : List (List ℕ)) : Type 0 where
+    pub others : (¬ AsksToHost words)
+        → ProgramOutcome tells before after offer status words × (now ≡ was)
+    pub host : AsksToHost words
+        → HostCommand tells by offer before.others after.others was now status words
+        × (after.door ≡ before.door)
+
+  -- What starting the program comes to, with words that are told or not: they were all taken, in
+  -- order, and came to this; or there was no memory for them, and the last line says so.
+  abbrev pub StartOutcome : Option (List (List ℕ)) → Type 0
+  StartOutcome told = ((words : List (List ℕ))
+      × IfSome told (λ all. length all < 2 ^ 64 - 1 → AreTextsOf all words)
+      × WordsOutcome words)
+      ⊎ ((status ≡ 7) × OutputAlone tells before after × (now ≡ was)
+      × IsOut tells.sink before.others.output after.others.output (last_line Memory))

@@ -6,13 +6,15 @@
 //! let tariffs = tariffs(alloc, by_flat, by_hops, by_long)?;
 //! let context = Context { rt: &rt, alloc, gate: &PlainGate };
 //! let mut world = OwnedOutside { input, output, cabinet, door };
-//! let status = start(context, &rt, &SystemWords { env: &rt }, &tariffs, &mut world);
+//! let mut host = HostOutside { doors, threads, errors };
+//! let status = start(context, &rt, &SystemWords { env: &rt }, &tariffs, &mut world, &mut host);
 //! ```
 #![tactic(auto)]
 
 mod choice;
 mod front;
 mod given;
+mod hosting;
 mod looking;
 mod reasons;
 mod rules;
@@ -24,6 +26,7 @@ pub use choice::{OwnedOutside, TextOrCommand, program};
 pub use front::{FrontKept, Fronted};
 pub use given::{Given, ListedWords, SystemWords};
 pub use hosed::{Context, Ended};
+pub use hosting::{HostEnded, HostOutside, host_ended};
 pub use rules::{flat, hops, long, tariffs};
 pub use starting::{no_memory, start};
 pub use texts::{HELP, VERSION};

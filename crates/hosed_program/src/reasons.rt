@@ -1,7 +1,9 @@
 // Why the program ended, as one sentence on standard error.
+use crate::hosting::HostEnded;
 use crate::looking::{journal_trouble, returns_in, text_trouble};
 use hose_offline::{Fault, MoveStop, Refusal, Why};
 use hosed::{Ended, NamedByWords};
+use hosed_host::HostWhy;
 use std::fmt::{Display, Formatter};
 use std::fs::File;
 use std::io::Eprint;
@@ -48,6 +50,46 @@ pub fn tell_why<R: Eprint + Files<File = File>>(
         Why::NotMoved(MoveStop::New(fault)) => tell_fault(rt, fault, named.of_new(), false),
         Why::NotMoved(stop) => tell_not_moved(rt, stop, named, named.of_new()),
     };
+}
+
+/// Tells on standard error why a host ended, if not all was done.
+pub fn tell_host_why<R: Eprint + Files<File = File>>(
+    rt: &R,
+    words: &[String],
+    ended: HostEnded<'_>,
+) {
+    let named = match ended.named {
+        Some(said) => NamedByWords::of_journal(said.topology, said.journal),
+        None => NamedByWords::nothing(),
+    };
+    // The output tells it too, so a standard error that fails is passed over.
+    let _ = match ended.why {
+        HostWhy::Door(number) => tell_host_door(rt, word_at(words, number)),
+        HostWhy::Ended(Why::Stopped(Fault::Door)) => {
+            eprintln!(rt; "hosed: the system tells no more of the connections of the doors")
+        }
+        HostWhy::Ended(why) => {
+            tell_why(
+                rt,
+                words,
+                Ended {
+                    why,
+                    named: Some(named),
+                },
+                false,
+            );
+            Ok(())
+        }
+    };
+}
+
+// A door of a host could not be opened.
+fn tell_host_door<R: Eprint>(rt: &R, word: Option<&str>) -> io::Result<()> {
+    eprintln!(rt;
+        "hosed: the door {:?} could not be opened: another program serves there, what lies there \
+        is no socket, its folder is not there, or rights are missing",
+        word.unwrap_or("")
+    )
 }
 
 // The word of a number, counted from 1; an empty one where it is missing.

@@ -6,24 +6,28 @@ ghost use Rattle.hose_offline.specs.Parts.{tellings};
 ghost use Rattle.hose_offline.specs.declared.fault.Fault.TheVariants as fault;
 ghost use Rattle.hosed.specs.Offline.{offer_of};
 ghost use Rattle.hosed.specs.ServerDoor.{seen_of, with_door};
+ghost use Rattle.hosed_host.specs.HostBook.{door_tellings};
 ghost use Rattle.hosed_program.specs.Program.{StartOutcome};
 
 use crate::choice::{OwnedOutside, program};
 use crate::front::Fronted;
 use crate::given::Given;
-use crate::reasons::tell_why;
+use crate::hosting::{HostOutside, host_ended};
+use crate::reasons::{tell_host_why, tell_why};
 use crate::words::program_words;
 use hose_disk::Cabinet;
 use hose_io::{Door, Sink, Source, write_all};
+use hose_net::Doors;
 use hose_offline::{Fault, Refusal, Why};
 use hose_pool::Gate;
 use hose_tariff::{Prices, Tariff};
-use hosed::{Context, Ended};
+use hosed::{Context, Ended, asks_to_host};
 use std::fs::File;
-use std::io::Eprint;
+use std::io::{Eprint, Write};
 use std::rt::Files;
 use std::sync::Wait;
 use std::thread::Threads;
+use std::time::Clock;
 
 /// Takes all words that the program is given, does what they say, tells on standard error why that
 /// ended, and gives the exit status. The tariffs are the program's three. Standard error, and the
@@ -37,12 +41,16 @@ pub fn start<
     C: Cabinet,
     L: Door + Send,
     G: Gate + Sync,
+    D: Doors,
+    T: Threads + Wait + Clock + Copy + Drop + Send + 'static,
+    S: Write + Drop + Send + 'static,
 >(
     context: Context<'_, R, G>,
     errors: &E,
     given: &W,
     tariffs: &[Tariff],
     world: &mut OwnedOutside<I, O, C, L>,
+    host: &mut HostOutside<D, T, S>,
 ) -> u8
     requires none_out { (C.frame world.old.cabinet).out ≡ None }
     requires names { map (λ tariff. tariff.name) tariffs.now
@@ -50,15 +58,31 @@ pub fn start<
     requires bases { map (λ tariff. tariff.base) tariffs.now ≡ 0 ∷ 1 ∷ 5 ∷ [] }
     requires pers { map (λ tariff. tariff.per) tariffs.now ≡ 1 ∷ 0 ∷ 2 ∷ [] }
     ensures { StartOutcome (tellings I.Source O.Sink C.Cabinet C.Disk.Disk)
+        (door_tellings D.Doors D.Network.Connections.did)
+        (offer_of ⟦<Tariff as Prices>⟧.prices (λ tariff. tariff.name) (λ tariff. tariff.base)
+        (λ tariff. tariff.per) tariffs.now)
         (with_door world.old.input world.old.output world.old.cabinet
         (seen_of (L.frame world.old.door) (L.told world.old.door) (L.opened_at world.old.door)))
         (with_door world.new.input world.new.output world.new.cabinet
         (seen_of (L.frame world.new.door) (L.told world.new.door) (L.opened_at world.new.door)))
-        (offer_of ⟦<Tariff as Prices>⟧.prices (λ tariff. tariff.name) (λ tariff. tariff.base)
-        (λ tariff. tariff.per) tariffs.now) result (W.words given.now) }
+        host.old.doors host.new.doors result (W.words given.now) }
 {
     match program_words(given, context.alloc) {
         Ok(words) => {
+            if asks_to_host(&words) {
+                let ended = host_ended(
+                    context.rt,
+                    context.alloc,
+                    &words,
+                    tariffs,
+                    &mut world.input,
+                    &mut world.output,
+                    &mut world.cabinet,
+                    host,
+                );
+                tell_host_why(errors, &words, ended);
+                return ended.why.status();
+            }
             let ended = program(context, &words, tariffs, world);
             let returning = is_of_return(ended.why, &world.input);
             tell_why(errors, &words, ended, returning);

@@ -5,6 +5,7 @@ pub const HELP: &str = "\
 usage: hosed run [--tariff NAME] [JOURNAL] < FILE
        hosed audit [--tariff NAME] TOPOLOGY JOURNAL
        hosed serve [--tariff NAME] TOPOLOGY JOURNAL PORT CONNECTIONS WORKERS
+       hosed host [--tariff NAME] [--operator PATH] [--quiet] TOPOLOGY JOURNAL DOOR ..
        hosed prove [--tariff NAME] TOPOLOGY NAME:RATE ..
        hosed check [--tariff NAME] TOPOLOGY < CERTIFICATE
        hosed price TOPOLOGY < SHEET
@@ -78,6 +79,18 @@ connection is a session of one customer, with one line in reply to each:
     bye                                 ends the session; the reply is: bye
 
 PORT is 1 to 65535, CONNECTIONS is 1 to 10000, WORKERS is 1 to 16.
+
+hosed host answers the sessions of all who come to its doors, 1 to 64 of them and thousands of
+customers at once, until the customer operator says `end`; then it writes what audit writes. It
+writes `ready` once all doors are open, and a line for each order on standard error, but with
+--quiet. A session is that of serve; besides, these two lines are for operator alone:
+
+    end                                 the reply is: ending at N, and no line is answered any more
+    figures                             what there was since the start, in one line
+
+DOOR is a port at 127.0.0.1, 1 to 65535; or the path of a Unix socket, with a `/` in it; or
+PATH=NAME, where no other name than NAME may be said. PATH of --operator is a socket where operator
+alone may greet, who then may do so at no other door but one of that name.
 
 hosed prove reads a topology from the file TOPOLOGY, as audit does, plans a hose of 2 to 64
 endpoints on the whole network, as if nothing were reserved and whatever links can carry, and writes
@@ -172,7 +185,8 @@ status  comes                           last line
         than 1 GiB, in JSON than
         16 MiB                          too long
 9       the port could not be opened,
-        or accepting failed             door
+        or accepting failed; in host
+        the door of the word K          door | door K
 10      the certificate is not valid    no K
 11      at this byte of the input no
         whole packet begins             packet P

@@ -1,4 +1,4 @@
-use Rattle.std.proofs.Common.{refl, rules}
+use Rattle.std.proofs.Common.{rules}
 use Rattle.hose_offline.proofs.Told.{told_failed}
 use Rattle.hosed.proofs.Served.{ends_unserved, ends_unwritten}
 use Rattle.hosed.proofs.server.tell_unserved.Goals as goal

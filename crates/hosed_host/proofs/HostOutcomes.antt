@@ -1,0 +1,147 @@
+-- What a host comes to, from what was read, what was hosted and what was told.
+use Rattle.std.proofs.Common.{◌≡◌, ◌≢◌, ◌∙◌, ◌⊎◌, inl, inr, ℕ, List, Bool, true, false, Some, IsErr, Result, Ok, Err, refl, sym, ap, subst}
+use Rattle.std.specs.Prelude.{⊤}
+use Rattle.hose_io.specs.Frame.{Frame, Met, Rose}
+use Rattle.hose_io.specs.declared.Failed.{Failed}
+use Rattle.hose_io.specs.declared.sink.Sink.{Ghosts as SinkGhosts}
+use Rattle.hose_net.specs.Story.{exchanges}
+use Rattle.hose_graph.specs.Network.{Network}
+use Rattle.hose_graph.specs.declared.entry.Entry.{Entry}
+use Rattle.hose_audit.specs.Audit.{audit_text}
+use Rattle.hose_disk.specs.Cabinet.{object_of}
+use Rattle.hose_store.specs.Recovery.{IsHistoryOf}
+use Rattle.hose_offline.specs.Auditing.{PricedNames, ReadsTopology}
+use Rattle.hose_offline.specs.CabinetText.{OnlyTextsRead}
+use Rattle.hose_offline.specs.Ending.{EndsTold, IsOut, NoneFailed}
+use Rattle.hose_offline.specs.Fault.{last_line, status_of}
+use Rattle.hose_offline.specs.steps.Journal.{TouchesOnly}
+use Rattle.hose_offline.specs.OnDisk.{CabinetFailed, CabinetWorked, JournalIsTold}
+use Rattle.hose_offline.specs.Parts.{Tellings}
+use Rattle.hose_offline.specs.declared.fault.Fault.{Fault}
+use Rattle.hose_offline.specs.declared.fault.Fault.TheVariants.{Cabinet, Door}
+use Rattle.hose_offline.proofs.Audited.{named_not_1, named_not_read, named_read, no_store, no_topology, told_status}
+use Rattle.hose_offline.proofs.Audits.{has_before, held_before}
+use Rattle.hose_offline.proofs.Outcomes.{clash}
+use Rattle.hosed_host.specs.HostBook.{Announces, DoorTellings, EndsHosted, HostProgress, HostsByJournal, KeepsHosted, end_of_host, host_progress}
+use Rattle.hosed_host.specs.HostDoors.{DoorsAsked}
+use Rattle.hosed_host.specs.HostOutcome.{HostOutcome, OutsideDoors, to_host}
+use Rattle.hosed_host.specs.steps.HostOutcome.{HostsJournal}
+use Rattle.hosed_host.specs.declared.hosting.HostEnd.{HostEnd}
+use Rattle.hosed_host.specs.declared.hosting.NotHosted.{NotHosted}
+use Rattle.hosed_host.specs.declared.hosting.NotHosted.TheVariants as none
+
+-- ---- statuses
+
+-- a fault after the opening is the doors' or the cabinet's
+failed_is : (ended : Bool) (closing : Result ⊤ Failed) (why : Fault) → end_of_host ended closing ≡ Err why → (why ≡ Door) ⊎ (why ≡ Cabinet)
+failed_is false closing why is = inl (cc is)
+failed_is true (Err failed) why is = inr (cc is)
+failed_is true (Ok done) why is = absurd (cc is)
+
+-- a host that opened its store ends with one of these
+hosted_status : {O : Type 0} (sink : SinkGhosts O) (output left : O) (status : ℕ) (came : Result HostEnd NotHosted) → EndsHosted sink output left status came → (other : ℕ) → other ≢ 0 → other ≢ 4 → other ≢ 6 → other ≢ 7 → other ≢ 9 → status ≢ other
+hosted_status sink output left status (Err none.Memory) ends other no_0 no_4 no_6 no_7 no_9 is = no_7 (sym is ∙ ends.0)
+hosted_status sink output left status (Err (none.Door word)) ends other no_0 no_4 no_6 no_7 no_9 is = no_9 (sym is ∙ ends.0)
+hosted_status sink output left status (Err none.Write) ends other no_0 no_4 no_6 no_7 no_9 is = no_4 (sym is ∙ ends.0)
+hosted_status sink output left status (Ok end) ends other no_0 no_4 no_6 no_7 no_9 is =
+    told_status sink output left status (end_of_host end.ended end.closing) (audit_text end.book.network end.book.book) ends other no_0 no_4
+    (λ why fault same. by why (failed_is end.ended end.closing why fault) same) is
+  where
+    by : (why : Fault) → (why ≡ Door) ⊎ (why ≡ Cabinet) → status_of why ≢ other
+    by why (inl door) same = no_9 (sym same ∙ ap status_of door)
+    by why (inr cabinet) same = no_6 (sym same ∙ ap status_of cabinet)
+
+-- ---- where texts alone were read before, and no call of the cabinet failed
+
+module _ {I O C E D N : Type 0} (tells : Tellings I O C E) (by : DoorTellings D N) (name : List ℕ) (asked : DoorsAsked) (old mid new : C) (only : OnlyTextsRead tells.cabinet old mid) (same : CabinetWorked tells.cabinet old mid) (network : Network) where
+  keeps_before : (made : HostProgress) (closing : Result ⊤ Failed) → KeepsHosted tells name mid new made closing → KeepsHosted tells name old new made closing
+  keeps_before made closing has = record {
+    begun = held_before tells.cabinet tells.disk old mid new only name _ has.begun;
+    begins = has.begins;
+    state = has.state;
+    leads = has.leads;
+    steps = has.steps;
+    ends = has.ends;
+    decided = has.decided;
+    told = has.told;
+    met = subst (λ (f : Frame). Met f (object_of (tells.cabinet.frame new)) closing) same has.met;
+    left = has_before tells.cabinet tells.disk old mid new only name _ has.left;
+    none_oversold = has.none_oversold;
+    held = has.held;
+    kept = has.kept;
+    cheapest = has.cheapest;
+  }
+
+  hosts_before : (was now : D) (came : Result HostEnd NotHosted) → HostsByJournal tells by name asked mid new network was now came → HostsByJournal tells by name asked old new network was now came
+  hosts_before was now (Ok end) hosts = record {
+    since = hosts.since;
+    history = hosts.history;
+    first = hosts.first;
+    last = hosts.last;
+    between = hosts.between;
+    addresses = hosts.addresses;
+    rules = hosts.rules;
+    as_asked = hosts.as_asked;
+    opened = hosts.opened;
+    closed = hosts.closed;
+    hosted = record {
+      story = hosts.hosted.story;
+      hosts = hosts.hosted.hosts;
+      comes_to = keeps_before (host_progress network hosts.since hosts.history (exchanges hosts.hosted.story) end.ended) end.closing hosts.hosted.comes_to;
+      settled = hosts.hosted.settled;
+    };
+    is = hosts.is;
+  }
+  hosts_before was now (Err why) stays = record { since = stays.since; closing = stays.closing; kept = keeps_before (host_progress network stays.since stays.since _ false) stays.closing stays.kept }
+
+module _ {I O C E D N : Type 0} (tells : Tellings I O C E) (by : DoorTellings D N) (names : PricedNames) (asked : DoorsAsked) (before after : OutsideDoors I O C D) where
+  -- the words are not what is wrong
+  pub host_not_1 : (status : ℕ) → HostOutcome tells by names asked before after status → status ≢ 1
+  host_not_1 status outcome = named_not_1 tells names before.others after.others (to_host tells by names asked before after status) outcome.left status
+      (λ network told. hosted_status tells.sink told.mid after.others.output status told.came told.ends 1 (λ e. absurd (cc e)) (λ e. absurd (cc e)) (λ e. absurd (cc e)) (λ e. absurd (cc e)) (λ e. absurd (cc e))) outcome.named.ends
+
+  -- no topology was read
+  pub no_topology_read : (why : Fault) (status : ℕ) → ReadsTopology tells.cabinet before.others.cabinet after.others.cabinet names.prices names.topology (Err why) → status ≡ status_of why → IsOut tells.sink before.others.output after.others.output (last_line why) → after.doors ≡ before.doors → after.others.input ≡ before.others.input
+      → HostOutcome tells by names asked before after status
+  no_topology_read why status reads is out same_doors same_input = named_not_read tells names before.others after.others (to_host tells by names asked before after status) why status (no_topology tells names before.others after.others why reads) is out same_doors same_input
+
+  module _ (read : C) (network : Network) (status : ℕ) (reads : ReadsTopology tells.cabinet before.others.cabinet read names.prices names.topology (Ok network)) (alone : TouchesOnly tells.cabinet names.journal read after.others.cabinet)
+      (same_input : after.others.input ≡ before.others.input) where
+    abbrev Failing : Type 0
+    Failing = NoneFailed tells before.others after.others (status ≢ 9)
+
+    abbrev Hosts : Result HostEnd NotHosted → Type 0
+    Hosts one = HostsByJournal tells by names.journal asked before.others.cabinet after.others.cabinet network before.doors after.doors one
+
+    hosted_ends : (mid : O) (ended : Bool) (closing : Result ⊤ Failed) (text : List ℕ) → Failing → (IsErr closing → CabinetFailed tells.cabinet before.others.cabinet after.others.cabinet) → tells.sink.frame mid ≡ tells.sink.frame before.others.output
+        → EndsTold tells.sink mid after.others.output status (end_of_host ended closing) text → (status ≡ 0) ⊎ (status ≡ 7)
+    hosted_ends mid false closing text held closes same out = absurd (held.others out.0)
+    hosted_ends mid true (Err failed) text held closes same out = absurd (held.keeping_it (closes refl))
+    hosted_ends mid true (Ok closed) text held closes same (inl whole) = inl whole.0
+    hosted_ends mid true (Ok closed) text held closes same (inr part) = absurd (held.writing (subst (λ (f : Frame). Rose f (tells.sink.frame after.others.output)) same part.1))
+
+    completes : (mid : O) (one : Result HostEnd NotHosted) → Failing → Hosts one → Announces tells.sink asked before.others.output mid one → EndsHosted tells.sink mid after.others.output status one → (status ≡ 0) ⊎ (status ≡ 7)
+    completes mid (Ok end) held kept says out = hosted_ends mid end.ended end.closing (audit_text end.book.network end.book.book) held kept.hosted.comes_to.met.failed says.1 out
+    completes mid (Err none.Memory) held is says out = inr out.0
+    completes mid (Err (none.Door word)) held is says out = absurd (held.others out.0)
+    completes mid (Err none.Write) held is says out = absurd (held.writing (subst (λ (o : O). Rose (tells.sink.frame before.others.output) (tells.sink.frame o)) (sym out.1) says.1))
+
+    refuses : (mid : O) (one : Result HostEnd NotHosted) → Failing → JournalIsTold tells.cabinet tells.disk before.others.cabinet (Some names.journal) (λ bytes. (history : List Entry) → ¬ IsHistoryOf network history bytes)
+        → Hosts one → Announces tells.sink asked before.others.output mid one → EndsHosted tells.sink mid after.others.output status one → (status ≡ 5) ⊎ (status ≡ 7)
+    refuses mid (Ok end) held told kept says out = absurd (clash tells.cabinet tells.disk before.others.cabinet after.others.cabinet names.journal _ _ (λ image is none. none kept.since is) kept.hosted.comes_to.begun told)
+    refuses mid (Err none.Memory) held told is says out = inr out.0
+    refuses mid (Err (none.Door word)) held told is says out = absurd (held.others out.0)
+    refuses mid (Err none.Write) held told is says out = absurd (held.writing (subst (λ (o : O). Rose (tells.sink.frame before.others.output) (tells.sink.frame o)) (sym out.1) says.1))
+
+    -- a journal was used, or not
+    pub is_hosted : HostsJournal tells by names.journal asked (record before { others = record before.others { cabinet = read } }) after status network → HostOutcome tells by names asked before after status
+    is_hosted (inr (why, is, not, out, same_doors)) = named_not_read tells names before.others after.others (to_host tells by names asked before after status) why status (no_store tells names before.others after.others read network why reads alone not) is out same_doors same_input
+    is_hosted (inl told) =
+        named_read tells names before.others after.others (to_host tells by names asked before after status) read network status reads alone same_input
+        (record { mid = told.mid; came = told.came; hosts = hosts; announces = told.announces; ends = told.ends })
+        (hosted_status tells.sink told.mid after.others.output status told.came told.ends 8 (λ e. absurd (cc e)) (λ e. absurd (cc e)) (λ e. absurd (cc e)) (λ e. absurd (cc e)) (λ e. absurd (cc e)))
+        (λ journal held. completes told.mid told.came held hosts told.announces told.ends)
+        (λ journal held. refuses told.mid told.came held journal hosts told.announces told.ends)
+      where
+        hosts : Hosts told.came
+        hosts = hosts_before tells by names.journal asked before.others.cabinet read after.others.cabinet reads.only_texts reads.text.1 network before.doors after.doors told.came told.hosts

@@ -1,0 +1,3 @@
+mod HostOutcomes
+mod Hosted
+mod OpenDoors

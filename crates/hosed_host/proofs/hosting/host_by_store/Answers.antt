@@ -1,0 +1,43 @@
+use Rattle.std.proofs.Common.{◌≡◌, ◌∙◌, ap, refl, rules}
+use Rattle.hose_store.specs.steps.Store.{KeptStore}
+use Rattle.hose_core.specs.steps.Holding.{State}
+use Rattle.hose_offline.specs.Parts.{tellings}
+use Rattle.hosed_host.specs.HostBook.{door_tellings}
+use Rattle.hosed_host.specs.steps.HostOutcome.{asked_of}
+use Rattle.hosed_host.proofs.Hosted.{begun, hosts_doors, stays_unhosted}
+use Rattle.hosed_host.proofs.hosting.host_by_store.Goals as goal
+
+-- there was no memory for the rows
+pub returns-in_default-clause-hosts : goal.returns-in_default-clause-hosts
+returns-in_default-clause-hosts g c = λ name before network is opens.
+    let closed = c.close_journal in
+    stays_unhosted (tellings g.I.Source g.O.Sink g.C.Cabinet g.C.Disk.Disk) name before c.args.outside.now.cabinet.now closed.new.cabinet network is c.args.store opens closed.result.0 closed.ensures.closes
+
+-- or for the doors
+pub returns-in_default-opened_as-clause-hosts : goal.returns-in_default-opened_as-clause-hosts
+returns-in_default-opened_as-clause-hosts g c = λ name before network is opens.
+    let closed = c.close_journal-in_default-opened_as in
+    stays_unhosted (tellings g.I.Source g.O.Sink g.C.Cabinet g.C.Disk.Disk) name before c.args.outside.now.cabinet.now closed.new.cabinet network is c.args.store opens closed.result.0 closed.ensures.closes
+
+-- the doors were not opened
+pub returns-in-Err-clause-hosts : goal.returns-in-Err-clause-hosts
+returns-in-Err-clause-hosts g c = λ name before network is opens.
+    let closed = c.close_journal-in-Err in
+    stays_unhosted (tellings g.I.Source g.O.Sink g.C.Cabinet g.C.Disk.Disk) name before c.args.outside.now.cabinet.now closed.new.cabinet network is c.args.store opens closed.result.0 closed.ensures.closes
+
+-- connections were hosted
+pub returns-clause-hosts : goal.returns-clause-hosts
+returns-clause-hosts g c = λ name before network is opens.
+    let tells = tellings g.I.Source g.O.Sink g.C.Cabinet g.C.Disk.Disk in
+    let by = door_tellings g.D.Doors g.D.Network.Connections.did in
+    let core = c.with_rows-core in
+    let made = c.new-clerk in
+    let closed = c.close_journal-closing in
+    let last = c.host.new.answers in
+    let first : made.result.desk.core.books ≡ core.result.books = ap (λ (s : State (KeptStore _)). s.books) made.ensures.core in
+    let closes = rw c.into_books.ensures at closed.ensures.closes in
+    let start = begun tells by name (asked_of c.args.request.doors) before c.args.outside.now.cabinet.now closed.new.cabinet network is c.args.store last.desk.core.books opens closed.result.0 closes core.result.books core.ensures.books made.result.desk.core.books first made.result.sessions.items made.result.desk.is_ending made.ensures.ending made.ensures.hosted in
+    hosts_doors tells by name (asked_of c.args.request.doors) before c.args.outside.now.cabinet.now closed.new.cabinet network is c.args.store last.desk.core.books opens closed.result.0 closes
+    c.args.doors.now c.open_doors.new.doors c.close.new.self c.in-Ok-open_doors.network c.host.new.network _ _ _ made.result.desk.core.books last.sessions.items last.desk.is_ending made.result.desk.core.books.ledger.network
+    (first ∙ core.ensures.books) (ap (λ (kept : KeptStore _). kept.ledger.network) (first ∙ core.ensures.books) ∙ opens.opens.opened.network) (search rules)
+    (rw made.ensures.doors at (c.host.ensures.hosted (opens.opens.opened.history, made.result) start)) c.in-Ok-open_doors.ensures.opened c.close.ensures c.is_ending-ended.ensures refl (search rules)

@@ -1,0 +1,28 @@
+use Rattle.std.proofs.Common.{◌∙◌, inl, inr, refl, rules}
+use Rattle.hose_offline.specs.steps.Parts.{held}
+use Rattle.hose_offline.proofs.Lending.{others_then}
+use Rattle.hosed_host.proofs.hosting.host_journal.Goals as goal
+
+pub returns-in-Ok-clause-hosts : goal.returns-in-Ok-clause-hosts
+returns-in-Ok-clause-hosts g c =
+    let came = c.host_by_store-came in
+    inl (record {
+      mid = (held came.new.outside).output;
+      came = came.result;
+      hosts = came.ensures.hosts c.args.request.journal.now (held c.args.outside.now).cabinet c.args.topology (search rules) c.in-Ok.ensures.opens;
+      announces = came.ensures.announces;
+      ends = c.tell_hosted.ensures.came;
+    })
+
+pub returns-in-Err-clause-hosts : goal.returns-in-Err-clause-hosts
+returns-in-Err-clause-hosts g c = inr (c.in-Err.why, c.end.ensures.status, c.in-Err.ensures.refused, c.end.ensures.last_line, refl)
+
+pub returns-in-Ok-clause-alone : goal.returns-in-Ok-clause-alone
+returns-in-Ok-clause-alone g c =
+    let before = (held c.args.outside.now).cabinet in
+    let opened = c.in-Ok.ensures in
+    let came = c.host_by_store-came in
+    record {
+      absent = came.ensures.absent ∙ opened.call.absent;
+      others = others_then g.C.Cabinet c.args.request.journal.now before c.open_journal.new.cabinet (held came.new.outside).cabinet opened.call.out c.open_journal.ensures.others came.ensures.others;
+    }

@@ -1,0 +1,178 @@
+-- What a host does to its journal, and what it tells.
+use Rattle.std.specs.Prelude.{◌≡◌, ℕ, ◌≤◌, List, [], codes, length, take, Bool, true, false, Result, Ok, Err, ⊤}
+use mathlib.Core.List.{IsPrefix}
+use Rattle.hose_io.specs.Frame.{Met, Rose}
+use Rattle.hose_io.specs.Stream.{Grows}
+use Rattle.hose_io.specs.Writing.{GrowsInPart}
+use Rattle.hose_io.specs.declared.Failed.{Failed}
+use Rattle.hose_io.specs.declared.sink.Sink.{Ghosts as SinkGhosts}
+use Rattle.hose_net.specs.Happening.{Happening}
+use Rattle.hose_net.specs.Story.{Exchange, IsHosted}
+use Rattle.hose_net.specs.declared.doors.Address.{Address}
+use Rattle.hose_net.specs.declared.doors.Doors.{Ghosts as DoorsGhosts}
+use Rattle.hose_graph.specs.Network.{Network}
+use Rattle.hose_graph.specs.declared.entry.Entry.{Entry}
+use Rattle.hose_law.specs.Book.{IsOversold}
+use Rattle.hose_law.specs.Cheapest.{AreCheapest}
+use Rattle.hose_law.specs.History.{IsDecided, book_of}
+use Rattle.hose_law.specs.Live.{AreLiveUnreleased, StaysLive}
+use Rattle.hose_book.specs.Ledger.{IsLedgerOf}
+use Rattle.hose_clerk.specs.HostLines.{HostLine, SaysAt}
+use Rattle.hose_clerk.specs.HostReplies.{host_text}
+use Rattle.hose_clerk.specs.Hosting.{AreHostSteps, HostState, IsAskedOf, TellsDisks, host_from}
+use Rattle.hose_clerk.specs.declared.doors.DoorRule.{DoorRule}
+use Rattle.hose_clerk.specs.declared.replies.HostReply.{HostReply}
+use Rattle.hose_audit.specs.Audit.{audit_text}
+use Rattle.hose_disk.specs.Cabinet.{object_of}
+use Rattle.hose_proto.specs.ReplyText.{line_of}
+use Rattle.hose_store.specs.Beginning.{HasLeft}
+use Rattle.hose_store.specs.Recovery.{IsHistoryOf}
+use Rattle.hose_offline.specs.Ending.{EndsTold, IsOut}
+use Rattle.hose_offline.specs.Fault.{last_line, status_of}
+use Rattle.hose_offline.specs.OnDisk.{HadContent, OfHeld, opening_of}
+use Rattle.hose_offline.specs.Parts.{Tellings}
+use Rattle.hose_offline.specs.declared.fault.Fault.{Fault}
+use Rattle.hose_offline.specs.declared.fault.Fault.TheVariants as fault
+use Rattle.hosed_host.specs.HostDoors.{AreOpenedAt, DoorsAsked, IsNumberAt}
+use Rattle.hosed_host.specs.HostWhy.{door_line}
+use Rattle.hosed_host.specs.declared.hosting.HostEnd.{HostEnd}
+use Rattle.hosed_host.specs.declared.hosting.NotHosted.{NotHosted}
+use Rattle.hosed_host.specs.declared.hosting.NotHosted.TheVariants as none
+
+-- ---- the book that is kept
+
+-- lines that were answered by a host on a network, from a history on to another one, and whether
+-- the operator ended it
+pub record HostProgress : Type 0 where
+  pub network : Network
+  pub since : List Entry
+  pub history : List Entry
+  pub exchanges : List (Exchange HostLine HostReply)
+  pub ended : Bool
+
+-- how lines were answered, of its parts
+abbrev pub host_progress : Network → List Entry → List Entry
+    → List (Exchange HostLine HostReply) → Bool → HostProgress
+host_progress network since history exchanges ended = record {
+  network = network;
+  since = since;
+  history = history;
+  exchanges = exchanges;
+  ended = ended;
+}
+
+module _ {I O C E : Type 0} (tells : Tellings I O C E) (name : List ℕ) (old new : C) where
+  -- The journal of a name was kept from its opening, when it stood for the first history, to its
+  -- closing. The exchanges, in their order, are those of the sequential book from there on: each is
+  -- a step at the history to which those before it led, and it is told whether the operator ended
+  -- the host. Where an image of the disk has one entry more than a part of the history, one of the
+  -- lines asked for it. The cabinet failed exactly where closing did, and failures of the disk were
+  -- told no more often than it failed. At each place of the history since no link is oversold, and
+  -- exactly those VPNs are live that were admitted before it and not released since; what each
+  -- later admission reserves carries every matrix within the rates of its hose, and no tree over
+  -- the links allowed at the book before it carries them at less cost.
+  pub record KeepsHosted (made : HostProgress) (closing : Result ⊤ Failed) : Type 0 where
+    pub begun : HadContent tells.cabinet tells.disk old name
+        (IsHistoryOf made.network made.since)
+    pub begins : IsPrefix made.since made.history
+    pub state : HostState
+    pub leads : state.history ≡ made.history
+    pub steps : AreHostSteps made.network made.exchanges (host_from made.since) state
+    pub ends : state.ended ≡ made.ended
+    pub decided : IsDecided made.network 0 (length made.since) made.history
+    pub told : TellsDisks 0 made.exchanges (tells.cabinet.frame new).returned
+    pub met : Met (object_of (tells.cabinet.frame old)) (object_of (tells.cabinet.frame new))
+        closing
+    pub left : OfHeld tells.cabinet name old new (λ was left. HasLeft tells.disk
+        (IsAskedOf made.since made.exchanges) (tells.disk.may_leave was)
+        (opening_of tells.disk made.network made.since was) made.history left closing)
+    pub none_oversold : (place l : ℕ)
+        → ¬ IsOversold made.network (book_of 0 (take place made.history)) l
+    pub held : (place : ℕ) → place ≤ length made.history
+        → AreLiveUnreleased 0 made.history place
+    pub kept : (place : ℕ) → StaysLive 0 made.history place
+    pub cheapest : AreCheapest made.network 0 (length made.since) made.history
+
+  -- The journal was opened and closed, and stands for what it stood for.
+  pub record StaysUnhosted (network : Network) : Type 0 where
+    pub since : List Entry
+    pub closing : Result ⊤ Failed
+    pub kept : KeepsHosted (host_progress network since since [] false) closing
+
+-- ---- the doors
+
+-- what doors and the connections that come to them tell
+pub record DoorTellings (D N : Type 0) : Type 1 where
+  pub doors : DoorsGhosts D N
+  pub did : N → List Happening → N → Type 0
+
+-- what doors and their connections tell, of its parts
+abbrev pub door_tellings : {D N : Type 0} → DoorsGhosts D N
+    → (N → List Happening → N → Type 0) → DoorTellings D N
+door_tellings doors did = record { doors = doors; did = did }
+
+module _ {I O C E D N : Type 0} (tells : Tellings I O C E) (by : DoorTellings D N)
+    (name : List ℕ) (asked : DoorsAsked) (old new : C) (network : Network) where
+  -- The doors that were asked for were opened, and closed again; between, connections came to them
+  -- and were hosted: by a story whose exchanges are those by which the journal is kept. The book is
+  -- that of its history.
+  pub record HostsDoors (was now : D) (end : HostEnd) : Type 0 where
+    pub since : List Entry
+    pub history : List Entry
+    pub first : N
+    pub last : N
+    pub between : D
+    pub addresses : List Address
+    pub rules : List DoorRule
+    pub as_asked : AreOpenedAt asked addresses rules
+    pub opened : by.doors.opens was addresses first
+    pub closed : by.doors.closes between last now
+    pub hosted : IsHosted (record {
+      did = by.did;
+      says = SaysAt network rules;
+      text = host_text network;
+    }) (λ exchanges. KeepsHosted tells name old new
+        (host_progress network since history exchanges end.ended) end.closing)
+        end.ended first last
+    pub is : IsLedgerOf network 0 history end.book
+
+  -- what hosting by a journal that was opened comes to: connections were hosted, or nothing was
+  -- entered
+  abbrev pub HostsByJournal : D → D → Result HostEnd NotHosted → Type 0
+  HostsByJournal was now (Ok end) = HostsDoors was now end
+  HostsByJournal was now (Err why) = StaysUnhosted tells name old new network
+
+-- ---- what a host says
+
+-- what came of the doors and then of closing: the first fault. Doors that no one was told to leave
+-- failed.
+abbrev pub end_of_host : Bool → Result ⊤ Failed → Result ⊤ Fault
+end_of_host false closing = Err fault.Door
+end_of_host true (Err failed) = Err fault.Cabinet
+end_of_host true (Ok _) = Ok tt
+
+module _ {O : Type 0} (sink : SinkGhosts O) (asked : DoorsAsked) (output output' : O) where
+  -- What a host that opened its journal has said before its last lines: that customers may come,
+  -- once the doors are open; or nothing, where there was no memory or a door could not be opened;
+  -- or a part of that, and the output failed.
+  abbrev pub Announces : Result HostEnd NotHosted → Type 0
+  Announces (Ok end) = Grows (sink.content output) (sink.content output') (line_of (codes "ready"))
+      × (sink.frame output' ≡ sink.frame output)
+  Announces (Err none.Memory) = output' ≡ output
+  Announces (Err (none.Door word)) = (output' ≡ output)
+      × ((place : ℕ) × IsNumberAt asked place word)
+  Announces (Err none.Write) = GrowsInPart (sink.content output) (sink.content output')
+      (line_of (codes "ready"))
+      × Rose (sink.frame output) (sink.frame output')
+
+module _ {O : Type 0} (sink : SinkGhosts O) (output output' : O) where
+  -- How the output ends: after connections the text of the book is told, and the last line of a
+  -- fault follows it; else there is the last line alone, and none after an output that failed.
+  abbrev pub EndsHosted : ℕ → Result HostEnd NotHosted → Type 0
+  EndsHosted status (Ok end) = EndsTold sink output output' status
+      (end_of_host end.ended end.closing) (audit_text end.book.network end.book.book)
+  EndsHosted status (Err none.Memory) =
+      (status ≡ status_of fault.Memory) × IsOut sink output output' (last_line fault.Memory)
+  EndsHosted status (Err (none.Door word)) =
+      (status ≡ status_of fault.Door) × IsOut sink output output' (door_line word)
+  EndsHosted status (Err none.Write) = (status ≡ status_of fault.Write) × (output' ≡ output)

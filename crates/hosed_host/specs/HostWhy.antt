@@ -1,0 +1,29 @@
+-- Why a host ended: the status and the last line that come of it.
+use Rattle.std.specs.Prelude.{ℕ, List, ◌++◌, codes, decimal}
+use Rattle.hose_io.specs.declared.sink.Sink.{Ghosts}
+use Rattle.hose_proto.specs.ReplyText.{line_of}
+use Rattle.hose_offline.specs.Ending.{IsOut}
+use Rattle.hose_offline.specs.Why.{why_line, why_status}
+use Rattle.hosed_host.specs.declared.why.HostWhy.{HostWhy}
+use Rattle.hosed_host.specs.declared.why.HostWhy.TheVariants.{Door, Ended}
+
+-- the status
+abbrev pub host_status : HostWhy → ℕ
+host_status (Ended why) = why_status why
+host_status (Door word) = 9
+
+-- the line that tells which door could not be opened, by the number of its word
+abbrev pub door_line : ℕ → List ℕ
+door_line word = line_of (codes "door " ++ decimal word)
+
+-- the last line
+abbrev pub last_of_host : HostWhy → List ℕ
+last_of_host (Ended why) = why_line why
+last_of_host (Door word) = door_line word
+
+-- What was put out last ends with the line that tells why; or the output failed, and a part of that
+-- is out.
+pub record TellsWhy {O : Type 0} (sink : Ghosts O) (now : O) (why : HostWhy) : Type 0 where
+  pub was : O
+  pub text : List ℕ
+  pub out : IsOut sink was now (text ++ last_of_host why)

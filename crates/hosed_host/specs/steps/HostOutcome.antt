@@ -1,0 +1,47 @@
+-- What stands after `host`: steps of proofs.
+use Rattle.std.specs.Prelude.{◌≡◌, ◌⊎◌, ℕ, ◌+◌, ◌^◌, ◌<◌, ◌≤◌, All, List, Err, length, map, option_map}
+use Rattle.std.specs.String.{string_bytes}
+use Rattle.hose_graph.specs.Network.{Network}
+use Rattle.hose_offline.specs.Ending.{IsOut}
+use Rattle.hose_offline.specs.Fault.{last_line, status_of}
+use Rattle.hose_offline.specs.Parts.{Tellings}
+use Rattle.hose_offline.specs.ServingOnDisk.{IsNotServed}
+use Rattle.hose_offline.specs.steps.Parts.{held}
+use Rattle.hose_offline.specs.declared.fault.Fault.{Fault}
+use Rattle.hose_offline.specs.declared.outside.Outside.{Outside}
+use Rattle.hose_doors.specs.Doors.{NamesDoor}
+use Rattle.hose_doors.specs.Limits.{most_doors}
+use Rattle.hosed_host.specs.HostBook.{DoorTellings}
+use Rattle.hosed_host.specs.HostDoors.{DoorsAsked}
+use Rattle.hosed_host.specs.HostOutcome.{HostsConnections, OutsideDoors}
+use Rattle.hosed_host.specs.declared.opening.HostDoors.{HostDoors}
+
+-- what the request says of the doors
+abbrev pub asked_of : HostDoors → DoorsAsked
+asked_of doors = record {
+  operator = option_map (λ path. (path.0.now, path.1)) doors.operator;
+  doors = map string_bytes doors.words.now;
+  first = doors.first;
+}
+
+-- each word names a door, and there are no more than there may be
+pub record AreServable (doors : HostDoors) : Type 0 where
+  pub named : All NamesDoor (map string_bytes doors.words.now)
+  pub few : length doors.words.now ≤ most_doors
+  pub numbers : doors.first + most_doors < 2 ^ 64
+
+-- what is lent to a host
+abbrev pub doors_beside : {I O C E D : Type 0} → Outside I O C E → D → OutsideDoors I O C D
+doors_beside outside doors = record { others = held outside; doors = doors }
+
+-- What hosting by the journal of a name comes to: connections were hosted, or why not, once a store
+-- was opened; or none was, and the last line tells why.
+abbrev pub HostsJournal : {I O C E D N : Type 0} → Tellings I O C E → DoorTellings D N → List ℕ
+    → DoorsAsked → OutsideDoors I O C D → OutsideDoors I O C D → ℕ → Network → Type 0
+HostsJournal tells by name asked before after status network =
+    HostsConnections tells by name asked before after status network
+    ⊎ ((why : Fault) × (status ≡ status_of why)
+    × IsNotServed tells.cabinet tells.disk name before.others.cabinet after.others.cabinet network
+    (Err why)
+    × IsOut tells.sink before.others.output after.others.output (last_line why)
+    × (after.doors ≡ before.doors))

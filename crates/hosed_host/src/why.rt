@@ -1,0 +1,26 @@
+// Why a host ended.
+ghost use Rattle.std.specs.Prelude.{◌≡◌};
+ghost use Rattle.hosed_host.specs.HostWhy.{host_status};
+
+use hose_offline::Why;
+
+/// Why a host ended.
+#[derive(Clone, Copy, Debug, PartialEq, Eq)]
+pub enum HostWhy {
+    /// As every command may end.
+    Ended(Why),
+    /// The door that the word of this number names could not be opened.
+    Door(u64),
+}
+
+impl HostWhy {
+    /// The status with which the program ends.
+    pub fn status(self) -> u8
+        ensures { result ≡ host_status self }
+    {
+        match self {
+            HostWhy::Ended(why) => why.status(),
+            HostWhy::Door(_) => 9,
+        }
+    }
+}

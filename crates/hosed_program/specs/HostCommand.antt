@@ -1,0 +1,41 @@
+-- What the words of a host come to.
+use Rattle.std.specs.Prelude.{◌≡◌, ◌↔◌, ℕ, List, option_map}
+use Rattle.hose_offline.specs.Auditing.{priced_names}
+use Rattle.hose_offline.specs.Ending.{IsOut}
+use Rattle.hose_offline.specs.Fault.{last_line}
+use Rattle.hose_offline.specs.Parts.{Parts, Tellings}
+use Rattle.hose_offline.specs.declared.fault.Fault.TheVariants.{Words}
+use Rattle.hosed.specs.HostWords.{AreHostWords, HostAsked, IsFirstWrongOfHost, first_door, operator_number}
+use Rattle.hosed.specs.Offline.{Offer}
+use Rattle.hosed_host.specs.HostBook.{DoorTellings}
+use Rattle.hosed_host.specs.HostDoors.{DoorsAsked}
+use Rattle.hosed_host.specs.HostOutcome.{HostOutcome, OutsideDoors}
+
+-- the doors that a host is asked for, with the numbers of their words
+abbrev pub doors_of : List (List ℕ) → HostAsked → DoorsAsked
+doors_of names asked = record {
+  operator = option_map (λ path. (path, operator_number names asked)) asked.operator;
+  doors = asked.doors;
+  first = first_door names asked;
+}
+
+-- all that is outside of a host, of its parts
+abbrev pub beside_doors : {I O C D : Type 0} → Parts I O C → D → OutsideDoors I O C D
+beside_doors others doors = record { others = others; doors = doors }
+
+module _ {I O C E D N : Type 0} (tells : Tellings I O C E) (by : DoorTellings D N) (offer : Offer)
+    (before after : Parts I O C) (was now : D) (status : ℕ) where
+  -- Words that are wrong end with the status 1 and take nothing; the last line tells the first of
+  -- them that is not allowed. Right ones do what a host does, at the prices of the tariff that is
+  -- chosen.
+  pub record HostCommand (words : List (List ℕ)) : Type 0 where
+    pub words_at_1 : (status ≡ 1)
+        ↔ ((asked : HostAsked) → ¬ AreHostWords offer.pricing.names words asked)
+    pub wrong_words : status ≡ 1 → (after.input ≡ before.input) × (after.cabinet ≡ before.cabinet)
+        × (now ≡ was) × ((word : ℕ) × IsFirstWrongOfHost offer.pricing.names words word
+        × IsOut tells.sink before.output after.output (last_line (Words word)))
+    pub hosts : (asked : HostAsked) → AreHostWords offer.pricing.names words asked
+        → HostOutcome tells by
+        (priced_names (offer.prices asked.tariff) asked.topology asked.journal)
+        (doors_of offer.pricing.names asked) (beside_doors before was) (beside_doors after now)
+        status
