@@ -1,5 +1,5 @@
 #!/usr/bin/env python3
-"""A customer's session with `hosed serve` or `tools/front.py`, as a module and as a program.
+"""A customer's session with `hosed host` or `hosed serve`, as a module and as a program.
 
     with Session("127.0.0.1", 7000, "acme") as session:
         vpn = session.admit({"a": 3, "b": 4})
@@ -20,12 +20,16 @@ import re
 import socket
 import sys
 import time
-from dataclasses import dataclass
-from typing import Callable, ClassVar, Dict, Iterable, Mapping, Optional, Tuple, Union
+from typing import Callable, Dict, Iterable, Mapping, Optional, Tuple, Union
 
 import networks
 import reply_tables
-from lines import COMMANDS, FIELD_KINDS, ORDERS, PARTS, fields_of, first_word, told
+from lines import COMMANDS, ORDERS
+from replies import (
+    KINDS, NAME, NUMBER, Admitted, Already, Bad, Bye, Denied, DiskFailed, Down, Ending, Figures,
+    Full, LinkState, Newest, NoQuote, NoVpn, OutOfMemory, Quoted, Refusal, Refused, Released,
+    Reply, Spent, Stale, TooLong, TooManyQuotes, Up, Vpn, Vpns, Welcome, read_reply,
+)
 
 HOST = "127.0.0.1"
 TIMEOUT = 60.0  # seconds for a connection and for each reply
@@ -34,207 +38,7 @@ TRIES = 10  # at an order that is to stand once, a connection each
 PAUSE = 0.2  # seconds before the second of them, and twice as long before each one after it
 
 
-# ---- Replies.
-
-
-class Reply:
-    """What the server answers to a line; `line` is its name in the table of lines.py."""
-
-    line: ClassVar[str] = ""
-
-    def __str__(self):
-        return told(self.line, *(getattr(self, name) for name in fields_of(self.line)))
-
-
-class Refusal(Reply, Exception):
-    """A reply that tells why the server did not do what it was asked."""
-
-
-@dataclass
-class Welcome(Reply):
-    line = "Welcome"
-    epoch: int
-
-
-@dataclass
-class Admitted(Reply):
-    line = "Admitted"
-    id: int
-    cost: int
-    epoch: int
-    links: Dict[int, int]
-    """What is reserved on each link of the tree."""
-
-
-@dataclass
-class Quoted(Reply):
-    line = "Quoted"
-    quote: int
-    cost: int
-    epoch: int
-    links: Dict[int, int]
-
-
-@dataclass
-class Released(Reply):
-    line = "Released"
-    id: int
-    epoch: int
-
-
-@dataclass
-class Vpn(Reply):
-    line = "Shown"
-    id: int
-    cost: int
-    epoch: int
-    ends: Dict[str, int]
-    """Each endpoint's rate."""
-    links: Dict[int, int]
-
-
-@dataclass
-class Vpns(Reply):
-    line = "Vpns"
-    ids: Tuple[int, ...]
-    """The numbers of the customer's live VPNs, ascending."""
-    epoch: int
-
-    def newest(self) -> int:
-        """The number of the newest live VPN; 0 where there is none."""
-        return self.ids[-1] if self.ids else 0
-
-
-@dataclass
-class LinkState(Reply):
-    line = "LinkState"
-    link: int
-    a: str
-    b: str
-    capacity: int
-    cost: int
-    load: int
-    out: bool
-    """Whether the link is out of service."""
-    epoch: int
-
-
-@dataclass
-class Down(Reply):
-    line = "Down"
-    link: int
-    epoch: int
-
-
-@dataclass
-class Up(Reply):
-    line = "Up"
-    link: int
-    epoch: int
-
-
-@dataclass
-class Bye(Reply):
-    line = "Bye"
-
-
-@dataclass(eq=False)
-class Refused(Refusal):
-    line = "Refused"
-    epoch: int
-    side: Tuple[str, ...]
-    """The nodes that the lowest-numbered endpoint reaches over links with enough room."""
-
-
-@dataclass(eq=False)
-class Stale(Refusal):
-    line = "Stale"
-    quoted_at: int
-    epoch: int
-
-
-@dataclass(eq=False)
-class Newest(Refusal):
-    """Another VPN is the customer's newest than was known when the order was given."""
-
-    line = "Newest"
-    id: int
-    """The newest live VPN of the customer; 0 where there is none."""
-    epoch: int
-
-
-@dataclass(eq=False)
-class NoVpn(Refusal):
-    line = "NoVpn"
-    id: int
-    epoch: int
-
-
-@dataclass(eq=False)
-class NoQuote(Refusal):
-    line = "NoQuote"
-    quote: int
-    epoch: int
-
-
-@dataclass(eq=False)
-class TooManyQuotes(Refusal):
-    line = "TooMany"
-    epoch: int
-
-
-@dataclass(eq=False)
-class Already(Refusal):
-    """The link is out of service, or in service, as was asked for."""
-
-    line = "Already"
-    link: int
-    epoch: int
-
-
-@dataclass(eq=False)
-class Denied(Refusal):
-    """Only the customer `operator` may ask for this."""
-
-    line = "Denied"
-    epoch: int
-
-
-@dataclass(eq=False)
-class Full(Refusal):
-    line = "Full"
-    epoch: int
-
-
-@dataclass(eq=False)
-class Spent(Refusal):
-    line = "Spent"
-    epoch: int
-
-
-@dataclass(eq=False)
-class DiskFailed(Refusal):
-    """Nothing was entered; until the next order a stop may leave the entry all the same."""
-
-    line = "Disk"
-    epoch: int
-
-
-@dataclass(eq=False)
-class OutOfMemory(Refusal):
-    line = "Memory"
-
-
-@dataclass(eq=False)
-class Bad(Refusal):
-    line = "Bad"
-    word: int
-    """The first word that is not allowed, counted from 1."""
-
-
-@dataclass(eq=False)
-class TooLong(Refusal):
-    line = "Long"
+# ---- Faults.
 
 
 class ConnectionLost(ConnectionError):
@@ -259,77 +63,6 @@ class MalformedReply(Exception):
 
 FAULTS = (Refusal, ConnectionLost, MalformedReply)
 """All that a session raises of what the server does."""
-
-NUMBER = "(?:0|[1-9][0-9]{0,19})"
-NAME = "[a-z0-9-]{1,16}"
-# Of each kind of field a pattern with the space before it, as there may be no number and no flag.
-TEXTS = {
-    "number": f" ({NUMBER})",
-    "name": f" ({NAME})",
-    "flag out": "((?: out)?)",
-    "names": f" ({NAME}(?: {NAME})*)",
-    "numbers": f"((?: {NUMBER})*)",
-    "ends": f" ({NAME}:{NUMBER}(?: {NAME}:{NUMBER})*)",
-    "amounts": f" ({NUMBER}:{NUMBER}(?: {NUMBER}:{NUMBER})*)",
-}
-
-
-def table(text: str, key: Callable) -> Dict:
-    """The pairs of a list; each key stands once."""
-    pairs = [pair.split(":") for pair in text.split(" ")]
-    found = {key(one): int(amount) for one, amount in pairs}
-    if len(found) < len(pairs):
-        raise ValueError(f"a pair repeats: {text}")
-    return found
-
-
-def ascending(text: str) -> Tuple[int, ...]:
-    """Numbers, each above the one before it."""
-    ids = tuple(map(int, text.split()))
-    if any(after <= before for before, after in zip(ids, ids[1:])):
-        raise ValueError("numbers do not ascend")
-    return ids
-
-
-VALUES = {
-    "number": int,
-    "name": str,
-    "flag out": bool,
-    "names": lambda text: tuple(text.split(" ")),
-    "numbers": ascending,
-    "ends": lambda text: table(text, str),
-    "amounts": lambda text: table(text, int),
-}
-
-
-def reader_of(kind):
-    """A kind of reply with the pattern of its lines, and how each field is read."""
-    parts = [(FIELD_KINDS.get(word, "number") if is_field else None, word)
-             for word, is_field in PARTS[kind.line]]
-    pattern = "".join(TEXTS[what] if what else f" {word}" for what, word in parts)
-    return kind, re.compile(pattern[1:]), [VALUES[what] for what, _ in parts if what]
-
-
-KINDS = [
-    Welcome, Admitted, Quoted, Released, Vpn, Vpns, LinkState, Down, Up, Bye,
-    *Refusal.__subclasses__(),
-]
-READERS = {}  # by the first word
-for _kind in KINDS:
-    READERS.setdefault(first_word(_kind.line), []).append(reader_of(_kind))
-
-
-def read_reply(line: str) -> Optional[Reply]:
-    """The reply, a refusal as well, that a line without its line feed is; none where it is none."""
-    for kind, pattern, values in READERS.get(line.partition(" ")[0], ()):
-        found = pattern.fullmatch(line)
-        try:
-            if found:
-                return kind(*(read(text) for read, text in zip(values, found.groups())))
-        except ValueError:
-            pass  # a pair repeats, or numbers do not ascend
-    return None
-
 
 # ---- Connections.
 
@@ -435,7 +168,10 @@ def done(command: str):
     return kind
 
 
-DONE = {"hello": Welcome, **{command: done(command) for command in COMMANDS}, "bye": Bye}
+DONE = {
+    "hello": Welcome, **{command: done(command) for command in COMMANDS}, "bye": Bye,
+    "end": Ending, "figures": Figures,
+}
 # The field that repeats the number of a command.
 REPEATS = {
     Released: "id", Vpn: "id", NoVpn: "id", NoQuote: "quote",
@@ -515,6 +251,14 @@ class Session:
         """Puts a link back into service; for `operator` alone."""
         return self._do("up", link)
 
+    def end(self) -> Ending:
+        """Ends a host, in order; for `operator` alone."""
+        return self._do("end")
+
+    def figures(self) -> Figures:
+        """What a host counted since its start; for `operator` alone."""
+        return self._do("figures")
+
     def bye(self) -> None:
         """Ends the session; where it is over already, nothing."""
         if not self._over:
@@ -533,7 +277,7 @@ class Session:
         except (ConnectionLost, MalformedReply):
             self._end()
             raise
-        if isinstance(reply, Bye):
+        if isinstance(reply, (Bye, Ending)):
             self._end()
         return reply
 
@@ -686,7 +430,7 @@ class Order:
 # ---- The program.
 
 DESCRIPTION = """\
-Gives one command to `hosed serve` or `tools/front.py` as a customer, and prints the reply; without
+Gives one command to `hosed host` or `hosed serve` as a customer, and prints the reply; without
 a COMMAND, each line of standard input up to `bye`, all in one session, as a `take` needs after its
 `quote`. PORT is a number, or the path of a Unix socket.
 
@@ -698,6 +442,7 @@ EPILOG = """\
 commands:
   admit NAME:RATE ..    admit-after K NAME:RATE ..    quote NAME:RATE ..    take Q    release ID
   show ID    vpns    link L    down L    up L    (the last two as the customer operator)
+  end    figures    (both as operator, to a host: it ends in order; what it counted)
 
 with --once COMMAND is an `admit`, and one VPN comes of it, whatever becomes of connections: it is
 given as `admit-after K`, and looked for where a reply is lost (docs/OPERATING.md, "Stop").

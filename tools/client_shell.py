@@ -4,7 +4,7 @@ completion by readline, help, and a session that is opened anew where it is lost
 An `admit` is given as `admit-after K`, with K for the customer's newest VPN, so that one VPN comes
 of it whatever becomes of connections, as with `client.Customer.order_once`. Questions, releases,
 and links that go out of service or back are given again after a loss, which changes nothing where
-the line that was lost was done. A `take` is not, since its quote may be gone.
+the line that was lost was done. A `take` is not, since its quote may be gone, nor is an `end`.
 """
 import os
 import time
@@ -52,6 +52,11 @@ Admits what was quoted under the number Q, or says `stale S N` where what decide
 The link L: its nodes, capacity, cost and load, and `out` where it is out of service."""),
     "down": Help(usage("down"), f"Takes the link L out of service; {OPERATOR}"),
     "up": Help(usage("up"), f"Puts the link L back into service; {OPERATOR}"),
+    "end": Help("end", f"""\
+Ends a host: `ending at N`. No line of anyone is answered after it; {OPERATOR}"""),
+    "figures": Help("figures", f"""\
+What a host counted since its start, as connections, lines, and orders by their replies;
+{OPERATOR}"""),
     "help": Help("help [COMMAND]", "The commands, or one of them."),
     "table": Help("table", "Replies as tables, or as lines again."),
     "again": Help("again", """\
@@ -189,6 +194,8 @@ class Shell:
     def show(self, reply: client.Reply) -> None:
         self.note(reply)
         self.say(tabled(reply) if self.is_tabled else str(reply))
+        if isinstance(reply, client.Ending):
+            raise Left
 
     def note(self, reply: client.Reply) -> None:
         self.epoch = getattr(reply, "epoch", self.epoch)
@@ -244,7 +251,7 @@ class Shell:
                 return self.give(self.in_doubt)
             newest = self.again(lambda session: session.vpns().newest())
             return self.give(client.Order(newest, ends, False))
-        if words[0] == "take":
+        if words[0] in ("take", "end"):  # a host that was begun anew is not ended by the same line
             return self.session().reply_to(line)
         is_new = True
 

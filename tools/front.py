@@ -6,7 +6,7 @@ which they come, each behind its customer's name, and hands each reply back to w
 Sessions are those of `hosed serve` (docs/GUIDE.md), any number of them one after another, and
 thousands at once, without a limit in time. It decides nothing: what is admitted, entered and
 answered is the program's. What differs from `serve`, and what is trusted of this program, is in
-docs/OPERATING.md, "Serve without an end".
+docs/OPERATING.md, "A standby that loses nothing".
 
 Customers come to Unix sockets, and to 127.0.0.1. At a socket PATH=NAME no other name than NAME may
 be said, so who may open that file may order as that customer, and as no other.

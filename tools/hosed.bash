@@ -24,8 +24,8 @@ _hosed_files() {
 }
 
 _hosed() {
-    local commands="run audit serve prove check price ship follow move gen"
-    local with_tariff=" run audit serve prove check ship follow move "
+    local commands="run audit host serve prove check price ship follow move gen"
+    local with_tariff=" run audit host serve prove check ship follow move "
     local typed verb place words=() line=$COMP_LINE
     COMPREPLY=()
     # Bash parts words at `:`, so the words up to the cursor are read anew.
@@ -49,9 +49,18 @@ _hosed() {
         ((place == 2)) && _hosed_words --live
         [[ ${words[${#words[@]} - place + 1]} == --live ]] && ((place > 2)) && place=$((place - 1))
     fi
+    if [[ $verb == host ]]; then
+        ((place == 2)) && _hosed_words "--operator --quiet"
+        if [[ ${words[${#words[@]} - place + 1]} == --operator ]] && ((place > 2)); then
+            ((place == 3)) && _hosed_files && return
+            place=$((place - 2))
+            ((place == 2)) && _hosed_words --quiet
+        fi
+        [[ ${words[${#words[@]} - place + 1]} == --quiet ]] && ((place > 2)) && place=$((place - 1))
+    fi
     [[ $typed == -* ]] && return
     case $verb:$place in
-        run:2 | audit:[23] | serve:[23] | prove:2 | check:2 | price:2 | ship:[23] | follow:[23] | \
+        run:2 | audit:[23] | host:* | serve:[23] | prove:2 | check:2 | price:2 | ship:[23] | follow:[23] | \
             move:[2-5])
             _hosed_files
             ;;

@@ -4,7 +4,8 @@ text of each reply.
 The tables are made of the sources by make_documents.py of tools/documents/: commands of `verb.rt`
 and replies of `ReplyWords.antt` of hose_proto, and what answers a command of `Answer.antt` of
 hose_law. A test fails where they are not what it makes. `hello` and `bye`, with which a session
-begins and ends, are no commands of a book; their replies are here.
+begins and ends, are no commands of a book; their replies are here. Nor are `end` and `figures`,
+which `hosed host` answers to its operator.
 """
 import re
 from typing import Dict, Iterator, List, NamedTuple, Optional, Tuple
@@ -80,6 +81,15 @@ FIELD_KINDS: Dict[str, str] = {
     "side": "names",
 }
 # ---- end of lines
+
+# What a host answers to its operator besides: the reply to each line, and its text.
+OF_HOST: Dict[str, str] = {"end": "Ending", "figures": "Figures"}
+REPLIES.update({
+    "Ending": "ending at <epoch>",
+    "Figures": "figures connections <connections> ever <ever> lines <lines> admitted <admitted> "
+               "refused <refused> released <released> down <down> up <up> disk <disk> "
+               "memory <memory> lost <lost> at <epoch>",
+})
 
 ORDERS = tuple(word for word, command in COMMANDS.items() if command.entered)
 """The commands that may leave an entry."""

@@ -5,10 +5,12 @@ JOURNAL is read without a lock and without a copy, up to its last entry, as by t
 epoch, how many VPNs are live, of all and by customer, load, capacity and state of each link by its
 ends, orders by kind, what is reserved costs, the bytes of the file, and when it was written last.
 Besides, as seen from beside the server: whether a program has the journal open (`hosed_up`) and the
-room of its file system; with --ask whether it answers a question, and in which time, by a session
-of the customer `metrics` that stays open; with --figures what a front, or tools/standby.py, writes
-into a file by its own --figures: sessions, replies, times, the standby. A file older than 30
-seconds is left out, and `hosed_figures_age_seconds` tells its age. They are written once
+room of its file system; with --operator what a host tells at its operator's door: connections,
+lines, orders by their replies, lost lines of the log, so that `hosed_up` is an answer of the host;
+with --ask whether a server answers a question, and in which time, by a session of the customer
+`metrics` that stays open; with --figures what tools/standby.py, or a front, writes into a file by
+its own --figures. A file older than 30 seconds is left out, and `hosed_figures_age_seconds` tells
+its age. They are written once
 
 - as a text for Prometheus, on standard output, or to the file of --write, which is replaced as a
   whole, as the textfile collector of node_exporter wants it; with --every again and again, and
@@ -60,6 +62,7 @@ class Watched:
         self.path, self.topology = path, topology
         self.picture: Optional[Picture] = None  # which takes seconds, and stays
         self.question: Optional[server_state.Question] = None
+        self.host: Optional[server_state.HostQuestion] = None
         self.files = server_state.Figures([])
         self.digest = journals.digest_of(topology)
         self.journal: Optional[LiveJournal] = LiveJournal(path, self.digest)
@@ -78,8 +81,9 @@ class Watched:
             os.stat(self.path)
         except OSError as fault:
             raise Unreadable(f"{self.path} is gone: {fault.strerror}") from None
-        if self.question:
-            self.question.ask()
+        for question in (self.question, self.host):
+            if question:
+                question.ask()
 
     def _read(self) -> None:
         """Reads up to the last entry. After a fault the next call begins anew."""
@@ -116,7 +120,9 @@ def families(watched: Watched, now: float) -> Iterator[Family]:
     yield gauge("hosed_last_entry_age_seconds", "How long ago that was when this was written.",
                 f"{max(now - written, 0):.3f}")
     held = server_state.is_held(watched.path)
-    if held is not None:
+    if watched.host:
+        yield from watched.host.families()
+    elif held is not None:
         yield gauge("hosed_up", "1 where a program has the journal open, as a server, else 0.",
                     int(held))
     if watched.question:
@@ -154,13 +160,23 @@ def as_json(watched: Watched) -> str:
         "orders": dict(book.orders), "live_vpns": len(book.live), "cost": book.cost(),
         "customers": book.customers(), "journal_bytes": watched.journal.size(),
         "journal_free_bytes": server_state.free_bytes(watched.path),
-        "up": server_state.is_held(watched.path),
+        "up": is_up(watched),
         "last_entry_time_seconds": round(written, 3),
         "last_entry_age_seconds": round(max(time.time() - written, 0), 3),
         "links": [{"link": link.number, "a": link.a, "b": link.b, "capacity": link.capacity,
                    "cost": link.cost, "load": link.load, "out": link.out}
                   for link in book.links()]}
+    figures_of_host = watched.host.told() if watched.host else None
+    if figures_of_host:
+        told["host"] = vars(figures_of_host)
     return json.dumps(told, indent=1) + "\n"
+
+
+def is_up(watched: Watched) -> Optional[bool]:
+    """Whether the host answers, or else whether a program has the journal open."""
+    if watched.host:
+        return watched.host.told() is not None
+    return server_state.is_held(watched.path)
 
 
 def as_page(watched: Watched) -> str:
@@ -234,12 +250,14 @@ def words_of() -> argparse.ArgumentParser:
     forms.add_argument("--http", metavar="PORT", type=number_word(1, 65_535),
                        help="answer at this port of 127.0.0.1")
     words.add_argument("--write", metavar="FILE", help="write to a file, which is replaced")
+    words.add_argument("--operator", metavar="PATH", type=client.place,
+                       help="the operator's door of a host, which is asked for its figures")
     words.add_argument("--ask", metavar="PORT", type=client.place,
                        help="a port or a Unix socket of the server, which is asked each time")
     words.add_argument("--as", metavar="NAME", dest="customer", default=server_state.NAME,
                        help=f"the customer who asks there ({server_state.NAME})")
     words.add_argument("--figures", metavar="FILE", action="append", default=[],
-                       help="figures of a front or a standby, which are told, too; may come again")
+                       help="figures of a standby or a front, which are told, too; may come again")
     words.add_argument("--every", metavar="SECONDS", type=number_word(1, 86_400),
                        help="write again and again, with a pause of so long")
     return networks.add_tariff(words)
@@ -250,10 +268,14 @@ def main() -> None:
     given = words.parse_args()
     if given.http and (given.write or given.every):
         words.error("--http takes neither --write nor --every")
+    if given.ask and given.operator:
+        words.error("--operator takes no --ask: the answer at that door is what is asked for")
     watched = Watched(given.journal, networks.load_topology(given.topology, given.tariff))
     watched.files = server_state.Figures(given.figures)
     if given.ask:
         watched.question = server_state.Question(given.ask, given.customer)
+    if given.operator:
+        watched.host = server_state.HostQuestion(given.operator)
     if given.http:
         serve(given.http, watched.update, {
             "/": ("text/html; charset=us-ascii", lambda: renewed(as_page(watched))),

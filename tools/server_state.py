@@ -1,7 +1,9 @@
 """What is seen of a server from beside it: whether a program has its journal open, whether it
-answers a question, and what its front and its standby write into files of their own.
+answers a question, what a host tells its operator, and what its front and its standby write into
+files of their own.
 
-Nothing of this asks anything of a server but to answer a question as a customer.
+Nothing of this asks anything of a server but to answer a question as a customer, or a host to tell
+its figures.
 """
 import os
 import re
@@ -15,7 +17,7 @@ LOCKS = "/proc/locks"
 LOCK = re.compile(r"[0-9]+: (?!->).* ([0-9a-f]+:[0-9a-f]+):([0-9]+) [0-9]+ \S+")
 PATIENCE = 5.0  # seconds for an answer
 FRESH = 30.0  # seconds for which a file of figures holds; a front writes its own every five
-NAME = "metrics"
+NAME, OPERATOR = "metrics", "operator"
 
 
 def is_held(path: str, locks: str = LOCKS) -> Optional[bool]:
@@ -40,13 +42,17 @@ def free_bytes(path: str) -> int:
 
 
 class Question:
-    """A session that is asked `link 0` each time, and the times that answers took. It is opened
-    anew where it is lost."""
+    """A session that is asked the same line each time, and the times that answers took. It is
+    opened anew where it is lost."""
+
+    line = "link 0"
 
     def __init__(self, place: client.Place, customer: str = NAME, patience: float = PATIENCE):
         self._words = client.HOST, place, customer, patience
         self._session: Optional[client.Session] = None
         self.answers = False
+        self.reply: Optional[client.Reply] = None
+        """The last answer, where there was one."""
         self.seconds = Histogram()
 
     def ask(self) -> None:
@@ -54,7 +60,7 @@ class Question:
         try:
             if self._session is None:
                 self._session = client.Session(*self._words)
-            self._session.reply_to("link 0")
+            self.reply = self._session.reply_to(self.line)
             self.answers = True
             self.seconds.add(time.monotonic() - before)
         except client.FAULTS:
@@ -71,6 +77,55 @@ class Question:
                     int(self.answers))
         yield Family("hosed_answer_seconds", "histogram",
                      "Seconds from that question to its answer.", self.seconds.samples())
+
+
+# The figures of a host that each tell how many replies of a kind there were.
+REPLIES = "admitted", "refused", "released", "down", "up", "disk", "memory"
+
+
+class HostQuestion(Question):
+    """A session of a host's operator, which is asked for the host's figures."""
+
+    line = "figures"
+
+    def __init__(self, place: client.Place, patience: float = PATIENCE):
+        super().__init__(place, OPERATOR, patience)
+
+    def ask(self) -> None:
+        """Of a host that was begun anew the session of before is lost, and it answers another."""
+        was_there = self._session is not None
+        super().ask()
+        if was_there and not self.answers:
+            super().ask()
+
+    def told(self) -> Optional[client.Figures]:
+        """What the host told just now."""
+        is_told = self.answers and isinstance(self.reply, client.Figures)
+        return self.reply if is_told else None
+
+    def families(self) -> Iterator[Family]:
+        told = self.told()
+        yield gauge("hosed_up", "1 where the host told its operator its figures just now, else 0.",
+                    int(told is not None))
+        yield Family("hosed_answer_seconds", "histogram",
+                     "Seconds from that question to its answer.", self.seconds.samples())
+        if told:
+            yield from of_host(told)
+
+
+def of_host(told: client.Figures) -> Iterator[Family]:
+    """What a host counted since its start."""
+    yield gauge("hosed_host_connections", "Connections at this moment.", told.connections)
+    yield gauge("hosed_host_connections_ever",
+                "Connections that are there or gave a line, since the start.", told.ever)
+    yield Family("hosed_host_lines_total", "counter", "Lines that were answered since the start.",
+                 [Sample({}, told.lines)])
+    yield Family("hosed_host_replies_total", "counter",
+                 "Replies to orders and of failures since the start, by the first word.",
+                 [Sample({"reply": reply}, getattr(told, reply)) for reply in REPLIES])
+    yield Family("hosed_host_log_lines_lost_total", "counter",
+                 "Lines of the log that could not be written.", [Sample({}, told.lost)])
+    yield gauge("hosed_host_epoch", "Orders in the host's book.", told.epoch)
 
 
 # ---- Files of figures.

@@ -1,15 +1,15 @@
 #!/usr/bin/env python3
 """Makes each alert of tools/monitoring/hosed.rules.yml fire once, by its fault.
 
-A real Prometheus reads the figures of tools/metrics.py beside a front, its program and a standby,
-all on loopback, with the rules as they are, but for times: what has to hold for minutes has to for
-seconds. First no alert fires of a server that is well. Then each fault is made to happen: hoses
-that are refused, links and books that are full, a disk that is full, a program without memory, one
-that is stopped, a log that cannot be written, a follower that is stopped, a front that begins again
-and again, a standby that never comes, a front that is killed, a journal that is moved away. Prints
+A real Prometheus reads the figures of tools/metrics.py beside a host and a standby, all on loopback,
+with the rules as they are, but for times: what has to hold for minutes has to for seconds. First no
+alert fires of a host that is well. Then each fault is made to happen: hoses that are refused, links
+and books that are full, a disk that is full, a host without memory, one that is stopped, a log that
+nobody reads, a follower that is stopped and one that is gone, a host that begins again and again,
+one that is killed, a customer's question that has no answer, a journal that is moved away. Prints
 each alert with the seconds until it fired; ends with status 1 where one does not fire in time or
-fires of a server that is well, and with 2, and a sentence, where there is no Prometheus, or no
-root, whom a disk that is full wants.
+fires of a host that is well, and with 2, and a sentence, where there is no Prometheus, or no root,
+whom a disk that is full wants.
 
 usage: bench/judge/alerts.py [PROGRAM]
 The PROGRAM (./hosed) is seen from the top of the repository.
@@ -46,6 +46,8 @@ PATIENCE = 240  # seconds for an alert
 WELL = 4 * SCRAPE  # seconds in which nothing fires
 MANY = 19_001  # VPNs
 BEHIND = 1_200  # orders, more than the rule allows a standby to lack
+STOPPED = 4  # seconds, less than a question has, and no part of the time between two
+LONG = 3_900  # spaces in a line that fills a log
 
 
 def ends(status, sentence):
@@ -154,7 +156,7 @@ class Watch:
 
 
 class Server:
-    """A front with its program, on a disk of its own, a standby, and their figures."""
+    """A host on a disk of its own, a standby, and their figures."""
 
     def __init__(self, program, folder, disk):
         self.program, self.folder, self.disk = program, folder, disk
@@ -173,26 +175,28 @@ class Server:
         self.running.append(process)
         return process
 
-    def front(self, *words):
-        """Starts a front, and waits until customers may come."""
-        process = self.tool(
-            "front.py", "--program", self.program, "--port", self.port, "--log", self.at("log"),
-            "--figures", self.at("front.prom"), *words, self.network, self.journal,
-            stdout=subprocess.PIPE)
+    def host(self):
+        """Starts a host, and waits until customers may come. Nobody reads its log."""
+        process = subprocess.Popen(
+            [self.program, "host", "--operator", self.at("operator"), self.network, self.journal,
+             str(self.port)],
+            stdin=subprocess.DEVNULL, stdout=subprocess.PIPE, stderr=subprocess.PIPE)
+        self.running.append(process)
         if process.stdout.readline() != b"ready\n":
-            ends(1, "the front does not begin")
+            ends(1, "the host does not begin")
         return process
 
     def standby(self):
+        """A standby whose follower never answers again once the file `silent` is there."""
+        follows = (f"test -e {self.at('silent')} && exec sleep 1000; "
+                   f"exec {self.program} follow {self.network} {self.at('follower.journal')}")
         return self.tool("standby.py", "--figures", self.at("standby.prom"), self.network,
-                         self.journal, self.program, "follow", self.network,
-                         self.at("follower.journal"), stdout=subprocess.DEVNULL,
+                         self.journal, "sh", "-c", follows, stdout=subprocess.DEVNULL,
                          stderr=subprocess.DEVNULL)
 
-    def metrics(self):
-        return self.tool("metrics.py", "--http", self.told, "--ask", self.port, "--figures",
-                         self.at("front.prom"), "--figures", self.at("standby.prom"),
-                         self.network, self.journal)
+    def metrics(self, *asked):
+        return self.tool("metrics.py", "--http", self.told, *asked, "--figures",
+                         self.at("standby.prom"), self.network, self.journal)
 
     def replies(self, *lines):
         """What a customer is answered, in one session whose lines are sent at once."""
@@ -226,13 +230,10 @@ def faults_of_customers(server, watch):
     watch.wait("HosedLinkFull")
 
 
-def faults_of_disks(server, watch, front):
-    """A log that may not grow, and then a disk that is full, which has its room again."""
-    limit = os.path.getsize(server.at("log"))
-    resource.prlimit(front.pid, resource.RLIMIT_FSIZE, (limit, resource.RLIM_INFINITY))
-    server.replies(*["admit a:20 c:20"] * 20)
-    watch.wait("HosedLogLost")
-    resource.prlimit(front.pid, resource.RLIMIT_FSIZE, (resource.RLIM_INFINITY,) * 2)
+def faults_of_disks(server, watch):
+    """A log that nobody reads, and then a disk that is full, which has its room again."""
+    long_line = "admit-after 4000000000 a:1 b:1" + " " * LONG
+    watch.wait("HosedLogLost", fault=lambda: server.replies(*[long_line] * 100))
     ballast = os.path.join(server.disk, "ballast")
     with contextlib.suppress(OSError), open(ballast, "wb", buffering=0) as file:
         while True:
@@ -242,55 +243,55 @@ def faults_of_disks(server, watch, front):
     os.unlink(ballast)
 
 
-def faults_of_programs(server, watch, front):
-    """A program that gets no memory more, and then one that is stopped for a while."""
-    program = child_of(front, "run")
-    resource.prlimit(program, resource.RLIMIT_AS, (1 << 20, resource.RLIM_INFINITY))
+def faults_of_programs(server, watch, host):
+    """A host that gets no memory more, and then one that is stopped again and again."""
+    resource.prlimit(host.pid, resource.RLIMIT_AS, (1 << 20, resource.RLIM_INFINITY))
     server.until("memory", "admit a:1 b:1")
-    resource.prlimit(program, resource.RLIMIT_AS, (resource.RLIM_INFINITY,) * 2)
+    resource.prlimit(host.pid, resource.RLIMIT_AS, (resource.RLIM_INFINITY,) * 2)
     watch.wait("HosedMemory")
-    os.kill(program, signal.SIGSTOP)
-    waiting = [socket.create_connection(("127.0.0.1", server.port)) for _ in range(20)]
-    for opened in waiting:
-        opened.sendall(b"hello acme\n")
-    watch.wait("HosedDoesNotAnswer")
-    os.kill(program, signal.SIGCONT)
-    watch.wait("HosedSlow")
-    for opened in waiting:
-        opened.close()
+
+    def stop_for_a_while():
+        os.kill(host.pid, signal.SIGSTOP)
+        time.sleep(STOPPED)
+        os.kill(host.pid, signal.SIGCONT)
+
+    watch.wait("HosedSlow", fault=stop_for_a_while)
 
 
 def faults_of_standbys(server, watch, standby):
-    """A follower that is stopped while customers order, and a standby.py that is gone."""
+    """A follower that is stopped while customers order and then does not answer, and a standby.py
+    that is gone."""
     follower = child_of(standby, "follow")
     os.kill(follower, signal.SIGSTOP)
     server.replies(*["admit a:1 b:1"] * BEHIND)
     watch.wait("HosedStandbyBehind")
-    os.kill(follower, signal.SIGCONT)
+    with open(server.at("silent"), "wb"):
+        os.kill(follower, signal.SIGKILL)
+    watch.wait("HosedStandbyMissing")
     server.end(standby)
     watch.wait("HosedFiguresOld")
 
 
-def faults_of_fronts(server, watch, front):
-    """One that begins again and again, one whose book is full and whose standby never comes, one
-    that is killed; and then the journal is gone."""
+def faults_of_hosts(server, watch, host, metrics):
+    """One that begins again and again, one whose book is full, one that is killed; then a server
+    that does not answer a customer, and a journal that is gone."""
     def begin_again():
-        nonlocal front
-        server.end(front)
-        front = server.front()
-        time.sleep(SCRAPE)
+        nonlocal host
+        server.end(host)
+        host = server.host()
+        server.replies("link 0")
+        time.sleep(2 * SCRAPE)
 
     watch.wait("HosedRestarts", fault=begin_again)
-    server.end(front)
+    server.end(host)
     many_vpns(server.journal, networks.load_topology(server.network))
-    front = server.front("--standby", "exec sleep 1000", "--standby-seconds", "1",
-                         "--standby-start-seconds", "1")
-    watch.wait("HosedManyVpns", "HosedStandbyMissing")
-    program = child_of(front, "run")
-    server.end(front, signal.SIGKILL)
-    with contextlib.suppress(ProcessLookupError):
-        os.kill(program, signal.SIGKILL)
+    host = server.host()
+    watch.wait("HosedManyVpns")
+    server.end(host, signal.SIGKILL)
     watch.wait("HosedDown")
+    server.end(metrics)
+    server.metrics("--ask", server.port)
+    watch.wait("HosedDoesNotAnswer")
     os.rename(server.journal, f"{server.journal}.away")
     watch.wait("HosedFiguresMissing")
 
@@ -305,23 +306,23 @@ def status_of_figures(server):
 
 
 def tried(server, folder):
-    front = server.front()
+    host = server.host()
     server.replies("admit a:1 b:1")
     standby = server.standby()
-    server.metrics()
+    metrics = server.metrics("--operator", server.at("operator"))
     watch = Watch(folder, server.told)
     server.running.append(watch.process)
     watch.wait_for("hosed_standby_epoch", 1)
-    watch.wait_for("hosed_answers", 1)
+    watch.wait_for("hosed_up", 1)
     time.sleep(WELL)
     if watch.firing():
         ends(1, f"of a server that is well fires: {', '.join(sorted(watch.firing()))}")
     print(f"alerts: none in {WELL} s of a server that is well", flush=True)
     faults_of_customers(server, watch)
-    faults_of_disks(server, watch, front)
-    faults_of_programs(server, watch, front)
+    faults_of_disks(server, watch)
+    faults_of_programs(server, watch, host)
     faults_of_standbys(server, watch, standby)
-    faults_of_fronts(server, watch, front)
+    faults_of_hosts(server, watch, host, metrics)
     if status_of_figures(server) != 503:
         ends(1, f"without the journal /metrics answers {status_of_figures(server)}")
     if set(watch.alerts) != set(watch.fired):

@@ -461,13 +461,13 @@ def start_front(program, topology, journal, *options, files=None):
 
 
 def start_host(program, topology, journal, doors=(), files=None, environment=None):
-    """A host that is ready, and its port. Its operator's door is beside the journal."""
-    operator = ["--operator", f"{journal}.operator"]
+    """A host that is ready, and its port. A door of its operator's own is beside the journal."""
+    doors = [f"{journal}.operator=operator", *doors]
     for _ in range(TRIES):
         with socket.socket() as probe:
             probe.bind(("127.0.0.1", 0))
             port = probe.getsockname()[1]
-        words = [program, "host", "--quiet", *operator, topology, journal, str(port), *doors]
+        words = [program, "host", "--quiet", topology, journal, str(port), *doors]
         host = subprocess.Popen(words, stdout=subprocess.PIPE, text=True, preexec_fn=files,
                                 env=environment)
         first = host.stdout.readline()
@@ -534,16 +534,19 @@ def serve(program, work, seed, kinds, way):
     else:
         server, port = start(program, topology, journal, SESSIONS)
     sessions = [Session(port, network, f"{seed} {number}") for number in range(SESSIONS)]
-    for session in sessions:
-        session.start()
-    for session in sessions:
-        session.join()
-        if session.fault:
-            raise Differs(f"a session failed: {session.fault}")
-    if way:
-        status, audit = way.ended(server, program, topology, journal)
-    else:
-        audit, status = server.stdout.read(), server.wait(HANGS)
+    try:
+        for session in sessions:
+            session.start()
+        for session in sessions:
+            session.join()
+            if session.fault:
+                raise Differs(f"a session failed: {session.fault}")
+        if way:
+            status, audit = way.ended(server, program, topology, journal)
+        else:
+            audit, status = server.stdout.read(), server.wait(HANGS)
+    finally:
+        server.kill()
     same(status, 0, "the status")
     orders = way.orders(sessions) if way else by_session(sessions)
     judge(network, orders, audit.splitlines(), kinds)

@@ -10,7 +10,8 @@ within a line, and some that break off; the audit must have the orders of all. A
 that says less or more, or that is silent for a minute is a failure: then the input up to there is
 printed, and it ends with status 1.
 
-With --host there are sessions alone, with a host, which never does a last line without a line feed.
+With --host there are sessions alone, with a host, which never does a last line without a line feed,
+and denies its operator's lines, `end` and `figures`, to others.
 With --front there are sessions alone, with `tools/front.py` over the PROGRAM, where a quote is its
 customer's and not its session's.
 
@@ -161,6 +162,8 @@ class Desk(Server):
         words = [word for word in line.split(b" ") if word]
         if words == [b"bye"]:
             return told("Bye")
+        if self.needs_ends and words in ([b"end"], [b"figures"]):
+            return told("Denied", self.epoch)
         try:
             return self.command(session, words, 0)
         except Refused as refused:
@@ -300,8 +303,9 @@ def converse(port, text, breaks_off):
         return b"".join(pieces).decode("ascii", "replace").splitlines()
 
 
-def session_text(draw, good):
-    """What a session says: mostly a greeting, then lines, of which the last may be cut."""
+def session_text(draw, good, asks_host):
+    """What a session says: mostly a greeting, then lines, of which the last may be cut. Who is not
+    the operator may ask a host for what it does for him alone."""
     kind = draw.random()
     lines = [draw.choice((b"hello acme", b"hello zeta", b"hello operator"))]
     if kind < 0.15:
@@ -309,6 +313,8 @@ def session_text(draw, good):
     for _ in range(draw.randint(0, 6)):
         line, _ = random_command(draw, good, FORCED, WEIGHTS)
         lines.append(hostile(draw, line.encode().split(b" ", 1)[1]))
+    if asks_host and lines[0] in (b"hello acme", b"hello zeta") and draw.random() < 0.2:
+        lines.append(draw.choice((b"end", b"figures", b" end ", b"figures  ")))
     if draw.random() < 0.5:
         lines.append(b"bye")
     text = b"".join(line + b"\n" for line in lines)
@@ -328,7 +334,7 @@ def run_sessions(program, draw, count, kinds, way):
         process, port = served
         try:
             for number in range(count):
-                text = session_text(draw, good)
+                text = session_text(draw, good, way is WAYS["--host"])
                 breaks_off = draw.random() < 0.05
                 if breaks_off:
                     # What it asks for changes nothing, whether it is read or not.

@@ -1,25 +1,27 @@
 #!/usr/bin/env python3
 """Runs the program to each of its statuses, and compares what it says on standard error.
 
-At the status 0 that is nothing, and else one sentence, which names what the words named. What is
-wanted stands here, written by hand. Each status has one trial at least, and each command one that
-ends well; 1 and 6 have one for each cause that an operator meets: a word that is wrong, missing or
-empty, or the name of no node; a file that is not there, a folder that is not, rights that are
-missing, a journal that another program holds. One trial has as many words as the program takes.
-Files that no words name lie beside, and have to stay as they are. Ends with status 1 where a
+At the status 0 that is nothing, or the log of a host, and else one sentence, which names what the
+words named. What is wanted stands here, written by hand. Each status has one trial at least, and
+each command one that ends well; 1, 6 and 9 have one for each cause that an operator meets: a word
+that is wrong, missing or empty, or the name of no node; a file that is not there, a folder that is
+not, rights that are missing, a journal that another program holds; a port that is taken, a path
+where no socket can be. Two trials have as many words as their command takes. Files that no words
+name lie beside, and have to stay as they are; a socket has to be gone. Ends with status 1 where a
 status, a sentence, an output that is written here or such a file is another one. The gate runs it,
 since no clause says what `main` does around the one call that it makes.
 
 usage: bench/judge/reasons.py [PROGRAM]
 
 The PROGRAM is crates/hosed_main/out/hosed_main where none is named. It listens at a port of
-127.0.0.1 at most, and its files lie in a folder that is removed at the end. One trial reads 1 GiB,
-which takes a second or two.
+127.0.0.1 at most, and at sockets beside its files, which lie in a folder that is removed at the
+end. One trial reads 1 GiB, which takes a second or two.
 """
 import os
 import resource
 import shutil
 import socket
+import stat
 import subprocess
 import sys
 import tempfile
@@ -34,13 +36,17 @@ GIB, JSON_LIMIT = 1 << 30, 16 << 20
 
 HELP = ", see hosed --help"
 LAST = "the last line of the output tells"
-TEXT = "could not be read: it or its folder is not there, rights are missing, or its disk failed"
-JOURNAL = ("could not be opened or closed: its folder is not there, rights are missing, another "
-           "program holds it, or its disk failed")
-OTHER = "is damaged, or it is that of another network, or of other costs, than the topology"
+UNREAD, UNKEPT = "could not be read", "could not be opened or closed"
+OTHER = "is that of another network, or of other costs, than the topology"
+RETURNS = "a carriage return stands in that line, and a line ends with a line feed alone"
 TWO_NODES = "node a\nnode b\nlink a b 10 7\nend\n"
 BESIDE = ("orders.journal", "other.journal", "beside.txt")  # that no words name
 ENDS = 64  # of a hose at most
+DOORS = [f"./door{place}" for place in range(63)]  # one fewer than at most
+DOOR = ("could not be opened: another program serves there, what lies there is no socket, its "
+        "folder is not there, or rights are missing")
+HOST = ["--tariff", "flat", "--operator", "./operator", "--quiet", "net.txt", "j"]  # all but doors
+RULE = 1  # the lowest that the certificate breaks: its text has no numbers of nodes
 CERTIFICATE = "cost 1\nhose a:1 b:1\nuse 0 1\nend\n"
 
 
@@ -63,7 +69,10 @@ class Trials:
             self.write(name, name)
 
     def are_beside(self):
-        """Whether the files that no words name are as they were laid there."""
+        """Whether the files that no words name are as they were laid there, and no socket is."""
+        for name in os.listdir(self.folder):
+            if stat.S_ISSOCK(os.lstat(self.path(name)).st_mode):
+                return False
         for name in BESIDE:
             with open(self.path(name), encoding="ascii") as file:
                 if file.read() != name:
@@ -97,11 +106,20 @@ def words_that_are_wrong(trials):
     trials.comes(["audit", "net.txt"], 1, f"word 3 is not allowed: it is missing{HELP}")
     trials.comes(["serve", "net.txt", "j", "0", "1", "1"], 1,
                  f'word 4 is not allowed: "0"{HELP}')
+    for words, wrong in ((["net.txt", "j"], None), (["net.txt", "j", "0"], "0"),
+                         (["net.txt", "j", "./a=A"], "./a=A"),
+                         (["--operator", "acme", "net.txt", "j", "./door"], "acme"),
+                         (["--quiet", "--tariff", "hops", "net.txt", "j", "./door"], "--tariff"),
+                         (["net.txt", "j", "./door", "--quiet"], "--quiet"),
+                         ([*HOST, *DOORS, "./door", "./more"], "./more")):
+        at = 2 + words.index(wrong) if wrong else 2 + len(words)
+        told = f'"{wrong}"' if wrong else "it is missing"
+        trials.comes(["host", *words], 1, f"word {at} is not allowed: {told}{HELP}", "",
+                     f"words {at}\n")
     trials.comes(["run", ""], 1, f"word 2 is not allowed: it is empty, too long or no text{HELP}")
     trials.comes(["run", "j", 'a "b"\nc'], 1, f'word 3 is not allowed: "a \\"b\\"\\nc"{HELP}')
     trials.comes(["prove", "net.txt", "a:1", "z:1"], 1,
-                 f"the word that {LAST} is not allowed: it is the name of no node of the topology "
-                 f'"net.txt"{HELP}')
+                 'word 4 is not allowed: "z:1" is an endpoint at no node of the topology "net.txt"')
 
 
 def topologies(trials):
@@ -109,18 +127,17 @@ def topologies(trials):
     trials.write("later.txt", "# one\r\n" + TWO_NODES.replace("7\n", "7\r\n"))
     trials.write("bad.txt", "# one\r\nnode a b\n")
     trials.write("bad.json", "{}\r\n")
-    refused = f"the topology in the input is not allowed at the place that {LAST}"
-    for text, line in (("node a\r\n", 1), (TWO_NODES.replace("7\n", "7\r\n"), 3)):
-        trials.comes(["run"], 2, f"{refused}: a carriage return stands in line {line}, and a line "
-                     "ends with a line feed alone", text)
-    trials.comes(["run"], 2, refused, "node a b\n")
-    for name, line in (("returns.txt", 1), ("later.txt", 4)):
-        trials.comes(["audit", name, "j"], 2,
-                     f'the topology "{name}" is not allowed at the place that {LAST}: a carriage '
-                     f"return stands in line {line}, and a line ends with a line feed alone")
-    for name in ("bad.txt", "bad.json"):
-        trials.comes(["audit", name, "j"], 2,
-                     f'the topology "{name}" is not allowed at the place that {LAST}')
+    refused = "the topology in the input is not allowed at line"
+    for text, place in (("node a\r\n", "1, word 2"),
+                        (TWO_NODES.replace("7\n", "7\r\n"), "3, word 5")):
+        trials.comes(["run"], 2, f"{refused} {place}: {RETURNS}", text)
+    trials.comes(["run"], 2, f"{refused} 1, word 3", "node a b\n")
+    for name, place in (("returns.txt", f"line 1, word 2: {RETURNS}"),
+                        ("later.txt", f"line 4, word 5: {RETURNS}"),
+                        ("bad.txt", "line 2, word 3"),
+                        ("bad.json", f"the place that {LAST}")):
+        for command in (["audit", name, "j"], ["host", name, "j", "./door"]):
+            trials.comes(command, 2, f'the topology "{name}" is not allowed at {place}')
 
 
 def streams(trials):
@@ -128,7 +145,7 @@ def streams(trials):
     trials.comes(["run"], 3, "the input could not be read", stdin=folder)
     os.close(folder)
     with open("/dev/full", "w", encoding="ascii") as full:
-        for words in (["--help"], ["run"]):
+        for words in (["--help"], ["run"], ["host", "net.txt", "j", "./door"]):
             trials.comes(words, 4, "the output could not be written: its disk is full, or what "
                          "reads it has ended", TWO_NODES + "acme link 0\n", stdout=full)
 
@@ -137,8 +154,14 @@ def journals(trials):
     trials.comes(["run", "kept"], 0, None, TWO_NODES + "acme admit a:1 b:1\n")
     trials.comes(["run", "kept"], 5, f'the journal "kept" {OTHER} in the input tells',
                  TWO_NODES.replace("10 7", "10 8"))
-    trials.comes(["audit", "--tariff", "hops", "net.txt", "kept"], 5,
-                 f'the journal "kept" {OTHER} "net.txt" tells')
+    for command, door in (("audit", []), ("host", ["./door"])):
+        trials.comes([command, "--tariff", "hops", "net.txt", "kept", *door], 5,
+                     f'the journal "kept" {OTHER} "net.txt" tells')
+    with open(trials.path("kept"), "rb") as kept, open(trials.path("torn"), "wb") as torn:
+        torn.write(kept.read().replace(b"acme", b"bcme"))
+    trials.comes(["audit", "net.txt", "torn"], 5,
+                 'the journal "torn" is damaged: no whole record stands at byte 38, or one that '
+                 "its network does not take", "", "journal damaged at 38\n")
 
 
 def closed_error(trials):
@@ -155,22 +178,29 @@ def closed_error(trials):
 
 
 def files(trials):
-    trials.comes(["audit", "none.txt", "j"], 6,
-                 f'the topology "none.txt" {TEXT}; or the journal "j" {JOURNAL}')
-    trials.comes(["check", "none.txt"], 6, f'the topology "none.txt" {TEXT}')
-    trials.comes(["run", "none/j"], 6, f'the journal "none/j" {JOURNAL}', TWO_NODES)
+    trials.comes(["audit", "none.txt", "j"], 6, f'the topology "none.txt" {UNREAD}: no such file')
+    trials.comes(["check", "none.txt"], 6, f'the topology "none.txt" {UNREAD}: no such file')
+    trials.comes(["host", "none.txt", "j", "./door"], 6,
+                 f'the topology "none.txt" {UNREAD}: no such file', "", "cabinet\n")
+    trials.comes(["check", "."], 6, f'the topology "." {UNREAD}: it is a folder')
+    trials.comes(["audit", "net.txt", "."], 6, f'the journal "." {UNKEPT}: it is a folder')
+    trials.comes(["run", "none/j"], 6,
+                 f'the journal "none/j" {UNKEPT}: no such file, and none is made there', TWO_NODES)
     held = subprocess.Popen([trials.program, "run", "held"], cwd=trials.folder, text=True,
                             stdin=subprocess.PIPE, stdout=subprocess.PIPE)
     held.stdin.write(TWO_NODES + "acme link 0\n")
     held.stdin.flush()
     held.stdout.readline()
-    trials.comes(["run", "held"], 6, f'the journal "held" {JOURNAL}', TWO_NODES)
+    for words in (["run", "held"], ["host", "net.txt", "held", "./door"]):
+        trials.comes(words, 6, f'the journal "held" {UNKEPT}: another program holds it',
+                     TWO_NODES)
     held.communicate(timeout=SECONDS)
     trials.write("closed.txt", TWO_NODES)
     os.chmod(trials.path("closed.txt"), 0)
     os.chmod(trials.folder, 0o755)
     nobody = {"preexec_fn": lambda: os.setuid(NOBODY)} if os.getuid() == 0 else {}
-    trials.comes(["price", "closed.txt"], 6, f'the topology "closed.txt" {TEXT}', **nobody)
+    trials.comes(["price", "closed.txt"], 6,
+                 f'the topology "closed.txt" {UNREAD}: permission denied', **nobody)
 
 
 def limits(trials):
@@ -198,13 +228,23 @@ def ports(trials):
         trials.comes(["serve", "net.txt", "j", port, "1", "1"], 9,
                      f"the port {port} could not be opened: another program listens there, or "
                      "rights are missing; or accepting a connection failed")
+        left = set(os.listdir(trials.folder))
+        for words, door in ((["net.txt", "j", "./door", port], port),
+                            (["net.txt", "j", "./door", "./none/door"], "./none/door"),
+                            (["net.txt", "j", "./door", "./beside.txt=acme"], "./beside.txt=acme"),
+                            (["--operator", "./none/door", "net.txt", "j", "./door"],
+                             "./none/door"),
+                            ([*HOST, *DOORS, "./none/door"], "./none/door")):
+            trials.comes(["host", *words], 9, f'the door "{door}" {DOOR}', "",
+                         f"door {2 + words.index(door)}\n")
+            trials.wrong += set(os.listdir(trials.folder)) != left
 
 
 def inputs(trials):
     trials.comes(["check", "net.txt"], 10, "the certificate in the input is not valid for the "
-                 f'topology "net.txt": {LAST} the lowest rule that fails', CERTIFICATE)
+                 f'topology "net.txt": rule {RULE} is the lowest that fails', CERTIFICATE)
     trials.comes(["follow", "net.txt", "follower"], 11,
-                 f"the input has no whole packet at the byte that {LAST}", "packet")
+                 "the input has no whole packet at byte 0", "packet")
 
 
 def moves(trials):
@@ -217,35 +257,34 @@ def moves(trials):
     trials.comes(["run", "kept"], 0, None, TWO_NODES + "acme admit a:2 b:2\n")
     comes(0, None)
     comes(0, None)
-    comes(2, f'the topology "net.txt", or "bad.txt", is not allowed at the place that {LAST}',
-          "bad.txt")
-    comes(5, 'the journal "kept", or "moved", is damaged, or it is that of another network, or of '
-          "other costs, than its topology tells", "small.txt")
+    comes(2, 'the topology "bad.txt" is not allowed at line 2, word 3', "bad.txt")
+    comes(2, 'the topology "bad.txt" is not allowed at line 2, word 3', old="bad.txt")
+    comes(5, f'the journal "moved" {OTHER} "small.txt" tells', "small.txt")
+    comes(5, f'the journal "kept" {OTHER} "big.txt" tells', old="big.txt")
     for new, old in (("none.txt", "net.txt"), ("big.txt", "none.txt")):
-        comes(6, f'the topology "{old}" or "{new}" {TEXT}; or the journal "kept", which has to be '
-              f'there, or "moved" could not be opened: {JOURNAL.partition(": ")[2]}; or both '
-              "journals are one file", new, old=old)
+        comes(6, f'the topology "none.txt" {UNREAD}: no such file', new, old=old)
+    trials.comes(["move", "net.txt", "none", "big.txt", "moved"], 6,
+                 f'the journal "none" {UNKEPT}: no such file, and none is made there')
+    comes(6, f'the journal "none/j" {UNKEPT}: no such file, and none is made there', to="none/j")
     os.symlink("kept", trials.path("link"))
     os.link(trials.path("kept"), trials.path("hard"))
     with open(trials.path("kept"), "rb") as file:
         before = file.read()
     for to in ("./kept", "link", "hard"):
-        sentence = (f'the topology "net.txt" or "big.txt" {TEXT}; or the journal "kept", which has '
-                    f'to be there, or "{to}" could not be opened: {JOURNAL.partition(": ")[2]}; or '
-                    "both journals are one file")
+        sentence = f'the journal "{to}" {UNKEPT}: it and the other journal are one file'
         trials.comes(["move", "net.txt", "kept", "big.txt", to], 6, sentence, "", "new cabinet\n")
         with open(trials.path("kept"), "rb") as file:
             trials.wrong += file.read() != before
-    comes(8, 'the topology "net.txt", or "long.json", is longer than 1 GiB, or it is in JSON and '
-          "longer than 16 MiB", "long.json")
+    comes(8, 'the topology "long.json", or the input, is longer than 1 GiB, or the topology is in '
+          "JSON and longer than 16 MiB", "long.json")
     comes(12, f'the topology "other.txt" does not go on from "net.txt": {LAST} the first node or '
           "link that is not where it was", "other.txt")
-    comes(13, 'the topology "small.txt" has no room for an order of the journal "kept", whose '
-          f'epoch {LAST}; "low" ends before it', "small.txt", "low")
+    comes(13, 'the topology "small.txt" has no room for an order of the journal "kept", which '
+          'epoch 2 of "low" would be; "low" ends before it', "small.txt", "low")
     trials.comes(["run", "another"], 0, None, TWO_NODES.replace("10 7", "20 7")
                  + "acme admit a:3 b:3\n")
-    comes(14, 'the journal "another" has another order than is to be moved, at the epoch that '
-          f"{LAST}", to="another")
+    comes(14, 'the journal "another" has another order than is to be moved at epoch 1',
+          to="another")
 
 
 def commands(trials):
@@ -289,6 +328,40 @@ def serves(trials):
           f"{output!r}")
 
 
+def hosts(trials):
+    """A host ends well once its operator says so, and its order is in the journal."""
+    words = ["--operator", "./operator", "net.txt", "hosted", "./any", "./acme=acme"]
+    order = "admitted 1 cost 7 at 1 links 0:1"
+    book = ("epoch 1\nlink 0 a b capacity 10 cost 7 load 1\n"
+            "vpn 1 acme cost 7 ends a:1 b:1 links 0:1\nlive 1 cost 7\n")
+    figures = ("figures connections 1 ever 5 lines 9 admitted 1 refused 0 released 0 down 0 up 0 "
+               "disk 0 memory 0 lost 0 at 1")
+    host = subprocess.Popen([trials.program, "host", *words], cwd=trials.folder, text=True,
+                            stdin=subprocess.DEVNULL, stdout=subprocess.PIPE,
+                            stderr=subprocess.PIPE)
+    try:
+        replies = host.stdout.readline()
+        for door, text in (("acme", "hello acme\nadmit a:1 b:1\nbye\n"), ("acme", "hello beta\n"),
+                           ("any", "hello operator\n"), ("any", "hello beta\nend\nbye\n"),
+                           ("operator", "hello operator\nfigures\nend\n")):
+            with socket.socket(socket.AF_UNIX) as peer:
+                peer.settimeout(SECONDS)
+                peer.connect(trials.path(door))
+                peer.sendall(text.encode())
+                replies += peer.makefile().read()
+        output, error = host.communicate(timeout=SECONDS)
+    finally:
+        host.kill()
+    same = (host.returncode, error, replies, output) == (
+        0, f'acme "admit a:1 b:1" {order}\n',
+        f"ready\nwelcome at 0\n{order}\nbye\nbad 2\nbad 2\nwelcome at 1\ndenied at 1\nbye\n"
+        f"welcome at 1\n{figures}\nending at 1\n", book) and trials.are_beside()
+    trials.wrong += not same
+    print(f"{'as wanted' if same else 'OTHERWISE'}: host: {host.returncode} {error} {replies!r} "
+          f"{output!r}")
+    trials.comes(["audit", "net.txt", "hosted"], 0, None, "", book)
+
+
 def most_words(trials):
     """All words are taken: a hose of the most endpoints, and then one whose last word is wrong."""
     leaves = [f"n{leaf}" for leaf in range(ENDS)]
@@ -301,8 +374,8 @@ def most_words(trials):
     trials.wrong += hoses != [" ".join(["hose", *ends])]
     trials.comes(["check", "--tariff", "hops", "wide.txt"], 0, None, certificate, f"yes {ENDS}\n")
     trials.comes([*words, *ends[:-1], "x:1"], 1,
-                 f"the word that {LAST} is not allowed: it is the name of no node of the topology "
-                 f'"wide.txt"{HELP}', "", f"words {len(words) + ENDS}\n")
+                 f'word {len(words) + ENDS} is not allowed: "x:1" is an endpoint at no node of the '
+                 'topology "wide.txt"', "", f"words {len(words) + ENDS}\n")
     trials.comes([*words, *ends, "h:1"], 1,
                  f'word {len(words) + ENDS + 1} is not allowed: "h:1"{HELP}', "",
                  f"words {len(words) + ENDS + 1}\n")
@@ -319,7 +392,7 @@ def main(words):
         trials.write("net.txt", TWO_NODES)
         trials.lay_beside()
         for part in (words_that_are_wrong, topologies, streams, journals, closed_error, files,
-                     limits, ports, inputs, moves, commands, serves, most_words):
+                     limits, ports, inputs, moves, commands, serves, hosts, most_words):
             part(trials)
     finally:
         shutil.rmtree(folder)

@@ -5,8 +5,8 @@ Two machines are booted by systemd-nspawn, over an overlay of a minimal Debian t
 written to, with a wire between them: a leader, and a standby of the same network. On them
 
 - the blocks after <!-- run: NAME --> of docs/OPERATING.md are run as they stand, by root, from an
-  archive of tools/package.sh on: install, start, upgrade, go back, the front with its sockets by
-  name and its log in a file, the standby, back up, restore, move, and promote;
+  archive of tools/package.sh on: install, start, sockets by name, upgrade, go back, the standby,
+  the front with its log in a file, back up, restore, move, and promote;
 - the examples of README.md, docs/GUIDE.md and docs/OPERATING.md are run by the user hosed, in the
   folder of the release;
 - each unit is started and stopped again and again, and asked something after each start; a start
@@ -41,9 +41,9 @@ from machines import Hangs, Machine, Wrong
 CURRENT = "/usr/local/lib/hosed/current/tools"
 JOURNAL, NETWORK = "/var/lib/hosed/orders.journal", "/etc/hosed/network.txt"
 AS_HOSED = "setpriv --reuid hosed --regid hosed --clear-groups"
-SOCKET = "/run/hosed/front.socket"
+OPERATOR, SOCKET = "/run/hosed/operator", "/run/hosed/front.socket"
 START = 60  # seconds for a unit to start, also beside other work
-SERVED = {"hosed": "7000", "hosed-front": SOCKET}
+SERVED = {"hosed-host": "7000", "hosed": "7000", "hosed-front": SOCKET}
 
 
 def blocks():
@@ -158,8 +158,10 @@ def by_hand(machine, script):
     return [re.escape(line) for line in told.splitlines() if line]
 
 
-def serve_by_hand(machine):
-    return by_hand(machine, f"timeout 20 hosed serve {NETWORK} {JOURNAL} 7009 1 1 </dev/null")
+def serve_by_hand(machine, unit):
+    words = (f"host {NETWORK} {JOURNAL} 7009" if unit == "hosed-host"
+             else f"serve {NETWORK} {JOURNAL} 7009 1 1")
+    return by_hand(machine, f"timeout 20 hosed {words} </dev/null")
 
 
 # ---- The parts of the day, in their order.
@@ -192,14 +194,46 @@ def examples(day):
     tell(f"as the user hosed: {told.splitlines()[-1]}")
 
 
+def host(day):
+    """hosed-host.service, its starts and its ends."""
+    leader = day.leader
+    day.block(leader, "start")
+    since = leader.now()
+    same("an order", client(leader, "admit a:3 b:4 c:5"),
+         "admitted 1 cost 26 at 1 links 0:3 1:4 2:5")
+    day.says(leader, "hosed-host", since,
+             'acme "admit a:3 b:4 c:5" admitted 1 cost 26 at 1 links 0:3 1:4 2:5')
+    same("the operator at the port", client(leader, "vpns", "7000", "operator")[-5:], "bad 2")
+    same("who may open the operator's socket",
+         leader.run(f"stat -c %U:%G:%a {OPERATOR} {os.path.dirname(OPERATOR)}"),
+         "hosed:hosed:770\nhosed:hosed:750\n")
+    for unit in ("hosed-host", "hosed-metrics"):
+        started_often(day, leader, unit)
+    since = leader.now()
+    leader.run("systemctl stop hosed-host")
+    same("a stop", leader.run("systemctl show -P Result -P ExecMainStatus hosed-host").split(),
+         ["success", "0"])
+    day.says(leader, "hosed-host", since, "ending at 1", "live 1 cost 26")
+    leader.run("systemctl start hosed-host")
+    for what, script, sentence in (
+            ("killed", "systemctl kill --signal KILL hosed-host",
+             ".*Main process exited, code=killed, status=9/KILL"),
+            ("ended by its operator", f"python3 {CURRENT}/client.py {OPERATOR} operator end",
+             "live 1 cost 26")):
+        since = leader.now()
+        leader.run(script)
+        day.says(leader, "hosed-host", since, sentence)
+        leader.until("systemctl is-active hosed-host", f"a host that was {what} is started again")
+        asks(leader, "hosed-host")
+    leader.run("systemctl stop hosed-host")
+    wrong_files(day, "hosed-host")
+
+
 def server(day):
     """hosed.service, its starts and its faults."""
     leader = day.leader
-    day.block(leader, "start")
-    same("an order", client(leader, "admit a:3 b:4 c:5"),
-         "admitted 1 cost 26 at 1 links 0:3 1:4 2:5")
-    for unit in ("hosed", "hosed-metrics"):
-        started_often(day, leader, unit)
+    leader.run("systemctl disable --now hosed-host; systemctl enable --now hosed")
+    started_often(day, leader, "hosed")
     ready_at_once(day)
     since = leader.now()
     leader.run("systemctl kill --signal KILL hosed")
@@ -208,10 +242,11 @@ def server(day):
     leader.until("systemctl is-active hosed", "it is started again")
     asks(leader, "hosed")
     leader.run("systemctl stop hosed")
-    wrong_files(day)
+    wrong_files(day, "hosed")
+    leader.run("systemctl disable --now hosed; systemctl enable --now hosed-host")
 
 
-def wrong_files(day):
+def wrong_files(day, unit):
     """What the journal and the network may be that a server cannot begin with."""
     leader = day.leader
     leader.run(f"cp -a {JOURNAL} kept; cp -a {NETWORK} network")
@@ -223,31 +258,31 @@ def wrong_files(day):
             ("root's", f"chown root {JOURNAL}", "cabinet"),
             ("a folder", f"rm {JOURNAL}; mkdir {JOURNAL}", "cabinet")):
         leader.run(script)
-        sentences = serve_by_hand(leader)
+        sentences = serve_by_hand(leader, unit)
         if not sentences:
             raise Wrong(f"the program says nothing where its file is {what}")
         tell(f"a file that is {what}")
-        stays_down(day, leader, "hosed", leader.now(), *sentences, last)
+        stays_down(day, leader, unit, leader.now(), *sentences, last)
         leader.run(f"rm -rf {JOURNAL}; cp -a kept {JOURNAL}; cp -a network {NETWORK}")
     since = leader.now()
     leader.run(f"mv {JOURNAL} away")
-    same("a start without a journal", bool(leader.attempt("systemctl start hosed")[0]), True)
-    day.says(leader, "hosed", since, ".*asserts? failed.*|.*Assertion failed.*")
-    leader.run(f"mv away {JOURNAL}; systemctl reset-failed hosed || true; systemctl start hosed")
-    locked(day)
+    same("a start without a journal", bool(leader.attempt(f"systemctl start {unit}")[0]), True)
+    day.says(leader, unit, since, ".*asserts? failed.*|.*Assertion failed.*")
+    leader.run(f"mv away {JOURNAL}; systemctl reset-failed {unit} || true; systemctl start {unit}")
+    locked(day, unit)
 
 
-def locked(day):
+def locked(day, unit):
     """Another program has the journal at the moment of a start."""
     leader = day.leader
-    leader.run("systemctl stop hosed")
+    leader.run(f"systemctl stop {unit}")
     leader.run(f"{AS_HOSED} sh -c 'sleep 30 | hosed follow {NETWORK} {JOURNAL}' "
                "> /dev/null 2>&1 < /dev/null & sleep 1")
-    sentences = serve_by_hand(leader)
+    sentences = serve_by_hand(leader, unit)
     tell("a journal that another program has")
-    stays_down(day, leader, "hosed", leader.now(), *sentences, "cabinet")
-    leader.run("pkill --uid hosed --exact sleep; systemctl reset-failed hosed; sleep 1; "
-               "systemctl start hosed")
+    stays_down(day, leader, unit, leader.now(), *sentences, "cabinet")
+    leader.run(f"pkill --uid hosed --exact sleep; systemctl reset-failed {unit}; sleep 1; "
+               f"systemctl start {unit}")
 
 
 def upgrade(day):
@@ -257,28 +292,27 @@ def upgrade(day):
     same("an order", client(leader, "admit a:1 b:1"), "admitted 2 cost 3 at 2 links 0:1 1:1")
     day.block(leader, "go back")
     same("the book", client(leader, "vpns"), "vpns 1 2 at 2")
-    leader.run("systemctl stop hosed")
+    leader.run("systemctl stop hosed-host")
     day.block(leader, "go back without the orders since")
-    leader.run("systemctl start hosed")
+    leader.run("systemctl start hosed-host")
     same("the book", client(leader, "vpns"), "vpns 1 at 1")
 
 
 def front(day):
-    """hosed-front.service, its starts, its sockets and its log."""
+    """hosed-front.service, its starts and its log."""
     leader = day.leader
     day.block(leader, "front")
-    same("the other server", leader.attempt("systemctl is-active hosed")[1], "inactive\n")
+    same("the other server", leader.attempt("systemctl is-active hosed-host")[1], "inactive\n")
     started_often(day, leader, "hosed-front")
-    for one, other in (("hosed", "hosed-front"), ("hosed-front", "hosed")):
+    for one, other in (("hosed", "hosed-front"), ("hosed-host", "hosed"),
+                       ("hosed-front", "hosed-host")):
         leader.run(f"systemctl reset-failed {one} || true; systemctl start {one}")
         same(f"{other} where {one} is started",
              leader.attempt(f"systemctl is-active {other}")[1], "inactive\n")
         asks(leader, one)
     since = leader.now()
-    same("an order", client(leader, "admit a:1 b:1", SOCKET),
-         "admitted 2 cost 3 at 2 links 0:1 1:1")
-    day.says(leader, "hosed-front", since,
-             '[^ ]+ order acme "admit a:1 b:1" admitted 2 cost 3 at 2 links 0:1 1:1')
+    told = client(leader, "admit a:1 b:1", SOCKET)
+    day.says(leader, "hosed-front", since, f'[^ ]+ order acme "admit a:1 b:1" {told}')
     leader.run("pkill --uid hosed --exact hosed")
     day.says(leader, "hosed-front", since, "[^ ]+ error the program was ended by the signal 15",
              "[^ ]+ note the end, with the status 20", ".*status=20.*")
@@ -300,10 +334,10 @@ def customers(day):
         leader.run(f"useradd --no-create-home {name}")
     leader.run("usermod -aG acme alice; usermod -aG beta bob")
     for name, groups, path, customer, wanted in (
-            ("alice", "acme", "acme/socket", "acme", "vpns 1 2 at 2"),
-            ("bob", "beta", "beta/socket", "beta", "vpns at 2"),
+            ("alice", "acme", "acme/socket", "acme", "vpns 1 at 1"),
+            ("bob", "beta", "beta/socket", "beta", "vpns at 1"),
             ("bob", "beta", "acme/socket", "acme", "Permission denied"),
-            ("alice", "acme", "front.socket", "acme", "Permission denied"),
+            ("alice", "acme", "operator", "operator", "Permission denied"),
             ("alice", "acme", "acme/socket", "beta", "bad 2")):
         told = leader.attempt(
             f"setpriv --reuid {name} --regid {name} --init-groups python3 {CURRENT}/client.py "
@@ -311,8 +345,10 @@ def customers(day):
         if wanted not in told:
             raise Wrong(f"{name} as {customer} at {path} is told {told}, and not {wanted}")
         tell(f"{name} of the group {groups} as {customer} at {path}: {wanted}")
-    same("root", client(leader, "vpns", SOCKET), "vpns 1 2 at 2")
+    same("root", client(leader, "vpns", OPERATOR, "operator"), "vpns at 1")
     same("the port", bool(leader.attempt(f"python3 {CURRENT}/client.py 7000 acme vpns")[0]), True)
+    leader.run("rm -r /etc/systemd/system/hosed-host.service.d; systemctl daemon-reload; "
+               "systemctl restart hosed-host")
 
 
 def log_in_a_file(day):
@@ -333,10 +369,10 @@ def log_in_a_file(day):
                "systemctl restart hosed-front")
 
 
-def orders_until_full(machine, place):
+def orders_until_full(machine, unit):
     """Orders on a disk whose last block may have room for some more, until one is answered by
     `disk`: that reply."""
-    told = machine.attempt(f"python3 {CURRENT}/client.py {place} operator",
+    told = machine.attempt(f"python3 {CURRENT}/client.py {of_operator(unit)} operator",
                            "down 0\nup 0\n" * 150)[1]
     full = [line for line in told.splitlines() if re.fullmatch("disk at [0-9]+", line)]
     if not full:
@@ -344,27 +380,36 @@ def orders_until_full(machine, place):
     return full[0]
 
 
+def of_operator(unit):
+    """Where a server believes its operator."""
+    return OPERATOR if unit == "hosed-host" else SERVED[unit]
+
+
 def full_disk(day):
-    """The journal's disk is full, and has room again; with both servers."""
+    """The journal's disk is full, and has room again; with each server."""
     leader = day.leader
     leader.run("systemctl stop hosed-front hosed-metrics; cp -a /var/lib/hosed state; "
                "mount -t tmpfs -o size=256k tmpfs /var/lib/hosed; cp -a state/. /var/lib/hosed/; "
                "chown hosed:hosed /var/lib/hosed; chmod 700 /var/lib/hosed")
-    for unit in ("hosed", "hosed-front"):
+    for unit in SERVED:
         place, since = SERVED[unit], leader.now()
         leader.run(f"systemctl start {unit}")
         leader.attempt("cat /dev/zero > /var/lib/hosed/filler")
-        told = orders_until_full(leader, place)
+        told = orders_until_full(leader, unit)
         tell(f"{unit} on a full disk answers {told}")
         if unit == "hosed-front":
             day.says(leader, unit, since, f'[^ ]+ warning operator ".*" {told}')
             same("what the log has as a warning", told in leader.run(
                 "journalctl --no-pager -o cat -p warning -u hosed-front"), True)
+        if unit == "hosed-host":
+            day.says(leader, unit, since, f'operator ".*" {told}')
+            figures = client(leader, "figures", OPERATOR, "operator")
+            same("a failed disk in the figures", " disk 0 " in figures, False)
         asks(leader, unit)
         leader.run(f"systemctl restart {unit}")
         asks(leader, unit)
         leader.run("rm /var/lib/hosed/filler")
-        client(leader, "up 0", place, "operator")
+        client(leader, "up 0", of_operator(unit), "operator")
         told = client(leader, "admit a:1 b:1", place)
         if not told.startswith("admitted"):
             raise Wrong(f"once there is room an order is answered {told}")
@@ -372,19 +417,25 @@ def full_disk(day):
         tell(f"{unit} starts on a full disk, and goes on once there is room")
     leader.run("cp -a /var/lib/hosed/orders.journal state/; umount /var/lib/hosed; "
                "cp -a state/orders.journal /var/lib/hosed/; "
-               "systemctl start hosed-front hosed-metrics")
+               "systemctl disable hosed-front; systemctl enable --now hosed-host; "
+               "systemctl start hosed-metrics")
 
 
 def journal_away(day):
     """The journal is taken from under the metrics; they say so, and tell it again."""
     leader = day.leader
-    day.block(leader, "metrics of a front")
+    day.block(leader, "metrics of a host")
     asks(leader, "hosed-metrics")
-    client(leader, "vpns", SOCKET)
+    client(leader, "vpns")
     leader.until("python3 -c \"import urllib.request; print(urllib.request.urlopen("
                  "'http://127.0.0.1:7001/metrics').read().decode())\" > told; "
-                 "grep -qx 'hosed_up 1' told && grep -qx 'hosed_answers 1' told && "
-                 "grep -q '^hosed_front_sessions [1-9]' told", "the front's figures are told", 20)
+                 "grep -qx 'hosed_up 1' told && "
+                 "grep -q '^hosed_host_connections [1-9]' told", "the host's figures are told", 20)
+    leader.run("systemctl stop hosed-host")
+    leader.until("python3 -c \"import urllib.request; print(urllib.request.urlopen("
+                 "'http://127.0.0.1:7001/metrics').read().decode())\" > told; "
+                 "grep -qx 'hosed_up 0' told", "a host that is stopped is not up", 20)
+    leader.run("systemctl start hosed-host")
     leader.run(f"mv {JOURNAL} /var/lib/hosed/away")
     leader.until(http("/metrics", 503), "metrics without a journal answer 503", 20)
     leader.run(f"mv /var/lib/hosed/away {JOURNAL}")
@@ -394,21 +445,21 @@ def journal_away(day):
 
 def back_up(day):
     leader = day.leader
-    book = client(leader, "vpns", SOCKET)
+    book = client(leader, "vpns")
     day.block(leader, "back up")
-    client(leader, "admit a:1 b:1", SOCKET)
+    client(leader, "admit a:1 b:1")
     day.block(leader, "restore")
-    same("the book", client(leader, "vpns", SOCKET), book)
+    same("the book", client(leader, "vpns"), book)
     same("the journal's owner", leader.run(f"stat -c %U:%a {JOURNAL}"), "hosed:600\n")
 
 
 def move(day):
     leader = day.leader
-    book = client(leader, "vpns", SOCKET)
+    book = client(leader, "vpns")
     leader.run("sed 's/link a h 1000/link a h 2000/' network.txt > new.txt")
     day.block(leader, "move")
-    same("the book", client(leader, "vpns", SOCKET), book)
-    if " capacity 2000 " not in client(leader, "link 0", SOCKET):
+    same("the book", client(leader, "vpns"), book)
+    if " capacity 2000 " not in client(leader, "link 0"):
         raise Wrong("the network is not the new one")
     day.standby.copy(leader.root + NETWORK, NETWORK)
     leader.run("systemctl restart hosed-metrics")
@@ -447,7 +498,7 @@ def standby(day):
     day.says(leader, "hosed-standby", since, ".*the follower is (gone|left): .*; again in 1 s",
              ".*(the follower is missing for [0-9]+ s; it had [0-9]+ entries|"
              "the follower is gone: .*; again in [0-9]+ s)", seconds=120)
-    client(leader, "admit a:1 b:1", SOCKET)
+    client(leader, "admit a:1 b:1")
     other.run("ip link set wire0 up")
     day.says(leader, "hosed-standby", leader.now(), ".*the follower has [0-9]+ entries, as the "
              "journal begins", "have [0-9]+", seconds=120)
@@ -457,6 +508,7 @@ def standby(day):
 def front_with_standby(day):
     """Replies that wait for the standby, which is cut off, and begins slowly."""
     leader, other = day.leader, day.standby
+    leader.run("systemctl disable --now hosed-host; systemctl enable --now hosed-front")
     since = leader.now()
     day.block(leader, "front with a standby")
     day.says(leader, "hosed-front", since, "[^ ]+ note the standby has [0-9]+ of [0-9]+ orders, by "
@@ -503,27 +555,27 @@ def begins_slowly(day):
 def promotion(day):
     """The standby becomes the leader, and the old leader follows it."""
     leader, other = day.leader, day.standby
-    book = client(leader, "vpns", SOCKET)
+    book = client(leader, "vpns", SOCKET)  # of the front, whose standby it is
     leader.run("rm -r /etc/systemd/system/hosed-front.service.d; systemctl daemon-reload")
     day.block(leader, "step down")
     other.run("systemctl daemon-reload")
     same("the book of the new leader", day.block(other, "promote").splitlines()[-1],
          re.sub("vpns .*at", "vpns at", book))
-    same("its book of acme", client(other, "vpns", SOCKET), book)
+    same("its book of acme", client(other, "vpns"), book)
     day.block(leader, "come back")
     leader.run("rm -r /var/lib/hosed/.ssh")
     other.run("rm -r /var/lib/hosed/.ssh")
     followed(day, other, leader)
     day.block(other, "begin to follow")
-    client(other, "admit a:1 b:1", SOCKET)
-    epoch = client(other, "vpns", SOCKET).split()[-1]
+    client(other, "admit a:1 b:1")
+    epoch = client(other, "vpns").split()[-1]
     day.says(other, "hosed-standby", "", f"have {epoch}")
     other.run("systemctl stop hosed-standby")
     leader.run(f"cp {JOURNAL} copy; hosed audit {NETWORK} copy | grep -x 'epoch {epoch}'")
     tell("the old leader follows the new one")
 
 
-PARTS = (install, examples, server, upgrade, front, customers, log_in_a_file, full_disk,
+PARTS = (install, examples, host, customers, server, upgrade, front, log_in_a_file, full_disk,
          journal_away, back_up, move, standby, front_with_standby, promotion)
 
 

@@ -15,6 +15,7 @@
 # FOLDER: on a real disk; else the current one
 [ "${1-}" != --help ] || exec sed -n '2,/^[^#]/s/^# \{0,1\}//p' "$0"
 visits=${3-20000}
+set -e
 . "$(dirname "$0")/../parts/place.sh"
 ulimit -n 12000 || exit 1
 gcc -O2 bench/measure/host.c -o "$place/peers" || exit 1
@@ -106,7 +107,7 @@ class Host(Book):
     def __init__(self):
         remove(JOURNAL)
         port = free_port()
-        words = [PROGRAM, "host", "--quiet", "--operator", OPERATOR, TOPOLOGY, JOURNAL, port, DOOR]
+        words = [PROGRAM, "host", "--operator", OPERATOR, "--quiet", TOPOLOGY, JOURNAL, port, DOOR]
         super().__init__(words, port)
 
     def end(self):

@@ -10,6 +10,7 @@
 # usage: bench/measure/moves.sh [FOLDER [PROGRAM [ENTRIES]]]
 # FOLDER: on a real disk; else the current one
 [ "${1-}" != --help ] || exec sed -n '2,/^[^#]/s/^# \{0,1\}//p' "$0"
+set -e
 . "$(dirname "$0")/../parts/place.sh"
 
 python3 - "$program" "$place" "${3:-100000}" <<'END'

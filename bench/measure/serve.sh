@@ -15,6 +15,7 @@
 # usage: bench/measure/serve.sh [FOLDER [PROGRAM]]
 # FOLDER: on a real disk; else the current one
 [ "${1-}" != --help ] || exec sed -n '2,/^[^#]/s/^# \{0,1\}//p' "$0"
+set -e
 . "$(dirname "$0")/../parts/place.sh"
 
 PYTHONPATH=tools python3 - "$program" "$place" <<'END'

@@ -14,6 +14,7 @@
 # usage: bench/measure/standby.sh [FOLDER [PROGRAM]]
 # FOLDER: on a real disk; else the current one
 [ "${1-}" != --help ] || exec sed -n '2,/^[^#]/s/^# \{0,1\}//p' "$0"
+set -e
 . "$(dirname "$0")/../parts/place.sh"
 
 python3 - "$program" "$place" <<'END'

@@ -13,7 +13,7 @@ usage: statement.py [COMMAND] [--html FILE]    the statement as a text, or as a 
        statement.py --files                    which files of definitions have what, and which
                                                definitions stand in the other's place
 
-COMMAND is run, audit, gen, prove, check, price, ship, follow or serve: what its outcome reaches,
+COMMAND is run, audit, gen, prove, check, price, ship, follow, move, serve or host: what its outcome reaches,
 alone. Lines are those of definitions, without comments and blank lines, and with the heads of the
 modules around them; `--count` tells the others apart. Definitions of proofs alone stand in the
 folder specs/steps/ of their crate. Ends with status 1 where a name is not found, and tells it.
@@ -29,11 +29,13 @@ from chapters import CHAPTERS, HISTORY, LAW, SHARED, chapters_of
 from resolve import Repository, definition_key
 
 STEPS = "steps"  # the folder in specs/ of what is of proofs alone
-CALLS = [("call", "hosed", "lib", "offline"), ("call", "hosed", "lib", "hosed")]
+CALLS = [("call", "hosed", "lib", "offline_ended"), ("call", "hosed", "lib", "hosed_ended"),
+         ("call", "hosed_program", "hosting", "host_ended"),
+         ("call", "hosed_program", "starting", "start")]
 OUTCOMES = {"run": "RunOutcome", "audit": "AuditOutcome", "gen": "GenOutcome",
             "prove": "ProveOutcome", "check": "CheckOutcome", "price": "PriceOutcome",
             "ship": "ShipOutcome", "follow": "FollowOutcome",
-            "move": "MoveOutcome", "serve": "ServeOutcome"}
+            "move": "MoveOutcome", "serve": "ServeOutcome", "host": "HostOutcome"}
 
 
 class Statement:

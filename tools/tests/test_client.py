@@ -36,6 +36,9 @@ REPLIES = [
     ("down 3 at 7", client.Down(3, 7)),
     ("up 0 at 8", client.Up(0, 8)),
     ("bye", client.Bye()),
+    ("ending at 3", client.Ending(3)),
+    ("figures connections 1 ever 2 lines 3 admitted 4 refused 5 released 6 down 7 up 8 disk 9 "
+     "memory 10 lost 11 at 12", client.Figures(1, 2, 3, 4, 5, 6, 7, 8, 9, 10, 11, 12)),
     ("refused at 1 side a b", client.Refused(1, ("a", "b"))),
     ("stale 3 4", client.Stale(3, 4)),
     ("newest 5 at 7", client.Newest(5, 7)),
@@ -58,7 +61,7 @@ NO_REPLIES = [
     "admitted 1 cost 1 at 1 links 0", "refused at 1 side",
     "link 0 a h capacity 10 cost 1 load 3 down at 1", "down at 1", "up 1 2", "already 3", "denied",
     "bad x", "vpns", "vpns 1 5 9", "vpns 5 1 at 9", "vpns 5 5 at 9", "vpns  at 9", "vpns 01 at 9",
-    "newest at 7", "newest -1 at 7", "HTTP/1.1 400 Bad Request\r",
+    "newest at 7", "newest -1 at 7", "ending", "figures at 3", "HTTP/1.1 400 Bad Request\r",
 ]
 WELCOME, BYE = b"welcome at 0\n", b"bye\n"
 

@@ -142,6 +142,15 @@ class Lines(unittest.TestCase):
         self.assertRegex(told[0], "closed the connection; `take 1` may have been done$")
         self.assertEqual(prompts[-1], "acme (not connected)> ")
 
+    def test_a_host_is_ended_once(self):
+        with FakeServer([WELCOME, b"ending at 4\n"]) as server:
+            said, prompts = typed(server, "end", "figures")
+        self.assertEqual((said, prompts), (["ending at 4"], ["acme at 0> "]))
+        self.assertEqual(server.lines, ["hello acme", "end"])
+        with FakeServer([WELCOME, b""]) as server:
+            said, _ = typed(server, "end")
+        self.assertRegex(said[0], "closed the connection$")
+
     def test_help(self):
         with FakeServer([WELCOME, BYE]) as server:
             said, _ = typed(server, "help", "help take", "help fly")

@@ -99,6 +99,14 @@ def usage_of(text, word, row):
     return " ".join([word, *told])
 
 
+def usage_of_host(text):
+    """The usage of a host, by the words that its definitions have."""
+    words = {name: re.search(rf'^{name} = codes "(\S+)"$', text, re.M)[1]
+             for name in ("host_word", "operator_option", "quiet_option")}
+    return (f"{words['host_word']} [--tariff NAME] [{words['operator_option']} PATH] "
+            f"[{words['quiet_option']}] TOPOLOGY JOURNAL DOOR ..")
+
+
 def without_streams(usage):
     """A usage without what it says of the input and of the output."""
     return re.sub(r" [<>] [A-Z]+$", "", usage)
@@ -107,7 +115,8 @@ def without_streams(usage):
 class Program:
     """What each file says of the commands of the program, in its order."""
 
-    def __init__(self, verb, meaning, texts):
+    def __init__(self, verb, meaning, host, texts):
+        self.host = usage_of_host(host)
         self.usage = re.findall(r"/// `(.*)`\n    (\w+),", verb)
         self.words = re.findall(r'\(ProgramVerb::(\w+), b"(\S+)"\)', verb)
         rows = re.findall(r'^program_line command\.(\w+) =\s+\(\s*codes "(\S+)",\s+(.*?),?\s*\)$',
@@ -120,11 +129,14 @@ class Program:
     def pairs(self):
         """What has to be the same, two by two."""
         names = [name for _, name in self.usage]
+        usages = [usage for usage, _ in self.usage]
+        place = names.index("Serve") + 1  # a host stands behind the other server
         return {"words": (names, [name for name, _ in self.words]),
                 "words of rows": (self.words, self.row_words),
                 "usage of rows": ([without_streams(usage) for usage, _ in self.usage],
                                   self.row_usage),
-                "usage text": ([*(usage for usage, _ in self.usage), ABOUT_ITSELF], self.help)}
+                "usage text": ([*usages[:place], self.host, *usages[place:], ABOUT_ITSELF],
+                               self.help)}
 
 
 # A change of each file that makes it say another thing than the others.
@@ -140,6 +152,8 @@ CHANGES = {
                 ('"serve", options', '"server", options'), ("λ new_journal.", "λ journal."),
                 ('"run", tariff_and_any_file', '"run", only_operands no_more'),
                 ("(λ nodes.\n", "(λ links.\n")],
+    "host": [('codes "host"', 'codes "house"'), ('"--operator"', '"--owner"'),
+             ('"--quiet"', '"--still"')],
     "texts": [("[--tariff NAME] [--live]", "[--live] [--tariff NAME]"), ("RATE ..\n", "RATE\n"),
               ("[JOURNAL] <", "JOURNAL <"), ("CONNECTIONS WORKERS", "WORKERS CONNECTIONS"),
               ("       hosed price TOPOLOGY < SHEET\n", ""), ("check [--tariff NAME]", "check"),
@@ -151,6 +165,7 @@ class ProgramCommands(unittest.TestCase):
     def setUp(self):
         self.files = {"verb": read("hosed", "src", "verb.rt"),
                       "meaning": read("hosed", "specs", "ProgramWords.antt"),
+                      "host": read("hosed", "specs", "HostWords.antt"),
                       "texts": read("hosed_program", "src", "texts.rt")}
 
     def test_table_and_usage_text_say_one_thing(self):

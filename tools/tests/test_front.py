@@ -646,7 +646,7 @@ class Words(unittest.TestCase):
 
     def test_the_files_beside_the_unit(self):
         """All of them at once are words that it allows, too."""
-        given, _ = self.given_by_unit("hosed-customers.conf", "hosed-log.conf",
+        given, _ = self.given_by_unit("hosed-front-customers.conf", "hosed-log.conf",
                                       "hosed-follower.conf")
         self.assertEqual(given.socket, [
             front.Place("/run/hosed/front.socket", None),

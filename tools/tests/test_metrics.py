@@ -14,8 +14,10 @@ import metrics
 import metrics_server
 import networks
 from live_journal import LiveJournal
+from tests.fake_server import FakeServer
 from tests.runs import DEMO, within
 from tests.test_read_journal import ADMISSION, CHAINED, PLAIN, RELEASE, SEALED
+from tests.test_server_state import FIGURES
 
 STAR = os.path.join(DEMO, "star.txt")
 # beta admits a:1 b:1, and link 2 goes out of service.
@@ -258,6 +260,21 @@ class Program(Journals):
         self.assertEqual((status, seen), (networks.INTERRUPTED, [EXPOSED, UNREADABLE, EXPOSED]))
         self.assertEqual(error, "metrics.py: J is gone: No such file or directory\n")
 
+    def test_figures_of_a_host(self):
+        """That it is up is its own answer, and not that its journal is open."""
+        self.put(journal_of(BODIES))
+        with FakeServer([b"welcome at 4\n", FIGURES]) as server:
+            _, output, _ = self.ended("--operator", str(server.port))
+        self.assertIn("\nhosed_up 1\n", output)
+        self.assertIn('\nhosed_host_replies_total{reply="refused"} 5\n', output)
+        _, output, _ = self.ended("--operator", "/nowhere/socket")
+        self.assertIn("\nhosed_up 0\n", output)
+        self.assertNotIn("hosed_host_", output)
+        with FakeServer([b"welcome at 4\n", FIGURES]) as server:
+            told = json.loads(self.ended("--json", "--operator", str(server.port))[1])
+        self.assertEqual((told["up"], told["host"]["lines"]), (True, 3))
+        self.assertIs(json.loads(self.ended("--json", "--operator", "/nowhere/x")[1])["up"], False)
+
     def test_figures_of_a_front(self):
         """They are told behind those of the journal as long as they are fresh."""
         self.put(journal_of(BODIES))
@@ -302,6 +319,7 @@ class Program(Journals):
         for words, sentence in ((("--http", "0"), "a number of 1 to 65535"),
                                 (("--http", "80", "--every", "5"), "--http takes neither"),
                                 (("--every", "x"), "a number of 1 to 86400"),
+                                (("--ask", "7", "--operator", "8"), "--operator takes no --ask"),
                                 (("--json", "--page"), "not allowed with")):
             status, output, error = self.ended(*words)
             self.assertEqual((status, output), (2, ""))

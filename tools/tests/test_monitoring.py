@@ -9,6 +9,7 @@ import tempfile
 import unittest
 from unittest import mock
 
+import client
 import figures
 import front_figures
 import metrics
@@ -31,7 +32,7 @@ def text_of(name):
 
 
 def told():
-    """All that metrics.py, a front and standby.py tell, as one text."""
+    """All that metrics.py, a host, a front and standby.py tell, as one text."""
     desk = mock.Mock(sessions=(), standby=mock.Mock(state=lambda: State(True, 1, 1, 0.0)))
     front = front_figures.Figures(None, mock.Mock(lost_in_all=0))
     front.replied(b"admit", b"admitted 1 cost 1 at 1", 0.1)
@@ -48,7 +49,8 @@ def told():
         watched.close()
     report = standby.Report()
     report.have = 1
-    return text + figures.exposed([*front.families(desk), *report.families()])
+    host = server_state.of_host(client.Figures(*range(12)))
+    return text + figures.exposed([*host, *front.families(desk), *report.families()])
 
 
 class Names(unittest.TestCase):

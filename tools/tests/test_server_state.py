@@ -8,6 +8,8 @@ from unittest import mock
 import server_state
 from tests.fake_server import FakeServer
 
+FIGURES = (b"figures connections 1 ever 2 lines 3 admitted 4 refused 5 released 6 down 7 up 8 disk 9 "
+           b"memory 10 lost 11 at 12\n")
 WELCOME, LINK = b"welcome at 0\n", b"link 0 a b capacity 9 cost 1 load 0 at 0\n"
 LOCKS = """1: FLOCK  ADVISORY  WRITE 77 {other} 0 EOF
 2: FLOCK  ADVISORY  WRITE 78 {one} 0 EOF
@@ -70,3 +72,33 @@ class Questions(unittest.TestCase):
         names = [family.name for family in question.families()]
         self.assertEqual((question.answers, names),
                          (False, ["hosed_answers", "hosed_answer_seconds"]))
+
+
+class Hosts(unittest.TestCase):
+    def samples(self, question):
+        return {(family.name, *sample.labels.values()): sample.value
+                for family in question.families() for sample in family.samples
+                if family.kind != "histogram"}
+
+    def test_what_a_host_tells_its_operator(self):
+        """A session that was lost with the host of before is opened anew at once."""
+        with FakeServer([WELCOME, FIGURES], [WELCOME, FIGURES, b"denied at 12\n"]) as server:
+            question = server_state.HostQuestion(server.port, 5)
+            self.addCleanup(question.close)
+            for _ in range(2):
+                question.ask()
+                told = self.samples(question)
+                self.assertEqual(told["hosed_up",], 1)
+                self.assertEqual(told["hosed_host_replies_total", "disk"], 9)
+                self.assertEqual([told[f"hosed_host_{name}",] for name in (
+                    "connections", "connections_ever", "lines_total", "log_lines_lost_total",
+                    "epoch")], [1, 2, 3, 11, 12])
+            question.ask()  # at a door where another customer is believed
+            self.assertEqual(self.samples(question), {("hosed_up",): 0})
+        self.assertEqual(server.lines, ["hello operator", "figures", "hello operator", "figures",
+                                        "figures"])
+
+    def test_nobody_is_there(self):
+        question = server_state.HostQuestion("/nowhere/socket", 5)
+        question.ask()
+        self.assertEqual(self.samples(question), {("hosed_up",): 0})

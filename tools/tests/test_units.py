@@ -24,7 +24,7 @@ def settings(name):
 class Units(unittest.TestCase):
     def test_what_is_told_as_an_error_goes_to_the_log(self):
         """By a name of its own; and no output is truncated while another line waits for it."""
-        self.assertEqual(len(UNITS), 4)
+        self.assertEqual(len(UNITS), 5)
         for name in UNITS:
             unit = settings(name)
             self.assertEqual(unit["StandardError"], ["journal"])
@@ -33,10 +33,13 @@ class Units(unittest.TestCase):
 
     def test_a_journal_has_one_server(self):
         """The start of one waits for the end of the other."""
-        servers = "hosed.service", "hosed-front.service"
-        for one, other in (servers, reversed(servers)):
-            self.assertEqual(settings(one)["Conflicts"], [other])
-        self.assertTrue(any(settings(one).get("After") for one in servers))
+        servers = "hosed.service", "hosed-front.service", "hosed-host.service"
+        for one in servers:
+            others = [other for other in servers if other != one]
+            self.assertEqual(sorted(settings(one)["Conflicts"][0].split()), sorted(others))
+            for other in others:
+                ordered = [two for two in (one, other) if settings(two).get("After")]
+                self.assertTrue(ordered, (one, other))
 
     def test_none_begins_without_its_files(self):
         for name in UNITS:
@@ -49,10 +52,11 @@ class Units(unittest.TestCase):
 
     def test_each_word_that_a_file_sets_is_one_of_its_unit(self):
         """A mistyped name would be set, and change nothing."""
-        for name, of in (("hosed-customers.conf", "hosed-front"), ("hosed-log.conf", "hosed-front"),
-                         ("hosed-follower.conf", "hosed-front"),
+        for name, of in (("hosed-customers.conf", "hosed-host"),
+                         ("hosed-front-customers.conf", "hosed-front"),
+                         ("hosed-log.conf", "hosed-front"), ("hosed-follower.conf", "hosed-front"),
                          ("hosed-figures.conf", "hosed-metrics")):
-            calls = settings(f"{of}.service")["ExecStart"][0].split()
+            calls = re.sub("[{}]", "", settings(f"{of}.service")["ExecStart"][0]).split()
             for value in settings(name)["Environment"]:
                 for word in shlex.split(value):
                     self.assertIn("$" + word.partition("=")[0], calls)
@@ -72,9 +76,23 @@ class Units(unittest.TestCase):
         self.assertGreater(len(blocks), 15)
 
     def test_the_folder_of_each_customer_is_made_with_his_group(self):
-        unit = settings("hosed-customers.conf")
-        sockets = re.findall(r"--socket (\S+)/socket=(\S+)\b", unit["Environment"][0])
-        made = [re.search(r"-g (\S+) -m 2750 (\S+)$", line).groups()
-                for line in unit["ExecStartPre"]]
-        self.assertEqual([(name, folder) for folder, name in sockets], made)
-        self.assertEqual(len(made), 2)
+        for file in "hosed-customers.conf", "hosed-front-customers.conf":
+            unit = settings(file)
+            sockets = re.findall(r"([^\s=]+)/socket=([a-z0-9-]+)", unit["Environment"][0])
+            made = [re.search(r"-g (\S+) -m 2750 (\S+)$", line).groups()
+                    for line in unit["ExecStartPre"]]
+            self.assertEqual([(name, folder) for folder, name in sockets], made)
+            self.assertEqual(len(made), 2)
+
+    def test_a_host_starts_and_ends_by_its_operator(self):
+        """Started is it once it answers, and ended by its own word; who else may not open its
+        socket is kept out by the folder and the mask."""
+        unit = settings("hosed-host.service")
+        door = re.search("--operator (\\S+) ", unit["ExecStart"][0])[1]
+        for key, line in (("ExecStartPost", "figures"), ("ExecStop", "end")):
+            self.assertIn(f"client.py --timeout 20 {door} operator {line}", " ".join(unit[key][0].split()))
+            self.assertIn("kill -0 $MAINPID", unit[key][0])
+        self.assertEqual(os.path.dirname(door), f"/run/{unit['RuntimeDirectory'][0]}")
+        self.assertEqual((unit["UMask"], unit["RuntimeDirectoryMode"]), (["0007"], ["0750"]))
+        asked = settings("hosed-figures.conf")["Environment"][0]
+        self.assertIn(f"--operator {door}", asked)
