@@ -1,14 +1,16 @@
 // A cabinet of the file system.
-ghost use Rattle.std.specs.Prelude.{◌≡◌, ◌≤◌, None, false};
+ghost use Rattle.std.specs.Prelude.{◌≡◌, ◌≤◌, IfOk, None, false};
 ghost use Rattle.hose_io.specs.Count.{one_more};
 ghost use Rattle.hose_io.specs.Frame.{Rose};
-ghost use Rattle.hose_disk.specs.Cabinet.{object_of};
+ghost use Rattle.hose_disk.specs.Cabinet.{IsDiskCall, object_of, opened_at};
 
 use crate::cabinet::Cabinet;
 use crate::file_disk::FileDisk;
-use crate::files::{FileId, OpenText, open_disk, read_text};
+use crate::files::{FileId, Looked, OpenDisk, OpenText, open_disk, open_to_read, read_text};
+use crate::trouble::Trouble;
 use hose_io::Failed;
 use std::fs::File;
+use std::io;
 use std::io::ErrorKind;
 use std::marker::Model;
 use std::rt::Files;
@@ -39,20 +41,25 @@ pub struct DirCabinet<F> {
     out: Option<Vec<u8>>,
     out_id: Option<FileId>,
     last: Option<Returned>,
+    looked: Option<Looked>,
+    trouble: Option<Trouble>,
 }
 
 impl<F> Model for DirCabinet<F> {
     ghost use Rattle.std.specs.Prelude.{false, option_map};
-    ghost use Rattle.hose_disk.specs.Cabinet.{CabinetFrame};
+    ghost use Rattle.hose_disk.specs.steps.DirState.{DirState};
 
-    ghost Value = { CabinetFrame };
+    ghost Value = { DirState };
 
     ghost view = { λ cabinet. record {
-      faults = cabinet.faults;
-      absent = cabinet.absent;
-      returned = cabinet.returned;
-      out = option_map (λ name. name.items) cabinet.out;
-      tells = false;
+      frame = record {
+        faults = cabinet.faults;
+        absent = cabinet.absent;
+        returned = cabinet.returned;
+        out = option_map (λ name. name.items) cabinet.out;
+        tells = false;
+      };
+      looked = cabinet.looked;
     } };
 }
 
@@ -61,11 +68,8 @@ impl<F: Files<File = File> + AllocGlobal + Drop> DirCabinet<F> {
     /// the program runs.
     pub fn new(rt: F) -> DirCabinet<F>
         ensures { result ≡ record {
-          faults = 0;
-          absent = 0;
-          returned = 0;
-          out = None;
-          tells = false;
+          frame = record { faults = 0; absent = 0; returned = 0; out = None; tells = false };
+          looked = None;
         } }
     {
         DirCabinet {
@@ -77,41 +81,71 @@ impl<F: Files<File = File> + AllocGlobal + Drop> DirCabinet<F> {
             out: None,
             out_id: None,
             last: None,
+            looked: None,
+            trouble: None,
         }
     }
 
     /// How many calls have failed. A disk that is put back counts as one of them where its last
     /// call failed.
     pub fn faults(&self) -> u64
-        ensures { result ≡ self.now.faults }
+        ensures { result ≡ self.now.frame.faults }
     {
         self.faults
     }
 
     /// How many texts were asked for that are not there.
     pub fn absent(&self) -> u64
-        ensures { result ≡ self.now.absent }
+        ensures { result ≡ self.now.frame.absent }
     {
         self.absent
     }
 
-    // Counts a call that failed.
-    fn fault(&mut self) -> Failed
-        ensures after { self.new ≡ record self.old { faults = one_more self.old.faults } }
-        ensures rose { Rose (object_of self.old) (object_of self.new) }
-        ensures never_falls { self.old.faults ≤ self.new.faults }
+    /// Why a call failed last, as far as the system says it. No clause speaks of it.
+    pub fn trouble(&self) -> Option<Trouble> {
+        self.trouble
+    }
+
+    // Counts a call that failed for this cause.
+    fn fault(&mut self, trouble: Trouble) -> Failed
+        ensures after { self.new ≡ record self.old {
+          frame = record self.old.frame { faults = one_more self.old.frame.faults };
+        } }
+        ensures rose { Rose (object_of self.old.frame) (object_of self.new.frame) }
+        ensures never_falls { self.old.frame.faults ≤ self.new.frame.faults }
     {
         self.faults = self.faults.saturating_add(1);
+        self.trouble = Some(trouble);
         Failed
+    }
+
+    // Notes the disk of a name as the one that is out, where it was opened.
+    fn lend(&mut self, name: Vec<u8>, opened: io::Result<OpenDisk>) -> Result<FileDisk, Failed>
+        ensures opened { IfOk result (λ disk. disk ≡ opened_at 0) }
+        ensures call { IsDiskCall name.items self.old.frame self.new.frame result }
+    {
+        let opened = match opened {
+            Ok(opened) => opened,
+            Err(error) => return Err(self.fault(Trouble::of(error.kind()))),
+        };
+        if is_by_another_name(self.last.as_ref(), &name, opened.id) {
+            return Err(self.fault(Trouble::OneFile));
+        }
+        self.out = Some(name);
+        self.out_id = Some(opened.id);
+        Ok(FileDisk::new(opened.file))
     }
 }
 
 impl<F: Files<File = File> + AllocGlobal + Drop> Cabinet for DirCabinet<F> {
+    ghost use Rattle.hose_disk.specs.steps.DirState.{HasLookedAtTwo};
     ghost use Rattle.hose_disk.specs.steps.Untold.{untold_bytes, untold_disk};
 
     type Disk = FileDisk;
 
-    ghost frame = { λ cabinet. cabinet };
+    ghost frame = { λ cabinet. cabinet.frame };
+
+    ghost apart = { λ cabinet _ _. HasLookedAtTwo cabinet.looked };
 
     ghost text = { λ _ _. untold_bytes };
 
@@ -124,24 +158,37 @@ impl<F: Files<File = File> + AllocGlobal + Drop> Cabinet for DirCabinet<F> {
                 if error.kind() == ErrorKind::NotFound {
                     self.absent = self.absent.saturating_add(1);
                 }
-                Err(self.fault())
+                Err(self.fault(Trouble::of(error.kind())))
             }
         }
     }
 
+    fn tell_apart(&mut self, one: &str, other: &str) -> Result<(), Failed> {
+        let looked = Looked::at(&self.rt, one, other);
+        self.looked = Some(looked);
+        if one == other {
+            return Err(self.fault(Trouble::OneFile));
+        }
+        if !looked.is_at_two() {
+            return Err(self.fault(Trouble::OneFile));
+        }
+        Ok(())
+    }
+
     fn disk(&mut self, name: &str) -> Result<FileDisk, Failed> {
         let Ok(out) = Vec::from_slice(self.rt.alloc(), name.as_bytes()) else {
-            return Err(self.fault());
+            return Err(self.fault(Trouble::Memory));
         };
-        let Ok(opened) = open_disk(&self.rt, name) else {
-            return Err(self.fault());
+        let opened = open_disk(&self.rt, name);
+        self.lend(out, opened)
+    }
+
+    fn disk_to_read(&mut self, name: &str) -> Result<FileDisk, Failed> {
+        let Ok(out) = Vec::from_slice(self.rt.alloc(), name.as_bytes()) else {
+            return Err(self.fault(Trouble::Memory));
         };
-        if is_by_another_name(self.last.as_ref(), name, opened.id) {
-            return Err(self.fault());
-        }
-        self.out = Some(out);
-        self.out_id = Some(opened.id);
-        Ok(FileDisk::new(opened.file))
+        let opened = open_to_read(&self.rt, name);
+        self.lend(out, opened)
     }
 
     fn back(&mut self, disk: FileDisk) {
@@ -149,7 +196,7 @@ impl<F: Files<File = File> + AllocGlobal + Drop> Cabinet for DirCabinet<F> {
         self.last = returned_as(name, self.out_id);
         self.returned = disk.faults();
         if disk.has_failed() {
-            self.fault();
+            self.fault(disk.trouble().unwrap_or(Trouble::Disk));
         }
     }
 }
@@ -163,9 +210,9 @@ fn returned_as(name: Option<Vec<u8>>, id: Option<FileId>) -> Option<Returned> {
 }
 
 // Whether a file is the one that was put back last, under another name.
-fn is_by_another_name(last: Option<&Returned>, name: &str, id: FileId) -> bool {
+fn is_by_another_name(last: Option<&Returned>, name: &[u8], id: FileId) -> bool {
     match last {
-        Some(last) => last.id == id && last.name.as_slice() != name.as_bytes(),
+        Some(last) => last.id == id && last.name.as_slice() != name,
         None => false,
     }
 }

@@ -3,6 +3,7 @@ ghost use Rattle.std.specs.Prelude.{◌≡◌, ◌+◌, ◌<◌, ◌≤◌, ◌^
 ghost use Rattle.hose_disk.specs.steps.Disk.{IsCalled};
 
 use crate::disk::Disk;
+use crate::trouble::Trouble;
 use hose_io::Failed;
 use std::fs::File;
 use std::io;
@@ -12,13 +13,15 @@ use std::os::unix::fs::FileExt;
 
 const LENGTH_END: u64 = 1 << 62;
 
-/// A disk over a file that is open for reading and writing. It tells nothing of its content, and
+/// A disk over a file that is open for reading and writing, or for reading alone, where each write
+/// and cut fails. It tells nothing of its content, and
 /// nothing is proved of what the file holds: that is up to the system, and is tried by tests.
 #[derive(Drop)]
 pub struct FileDisk {
     file: File,
     faults: u64,
     has_failed: bool,
+    trouble: Option<Trouble>,
 }
 
 impl Model for FileDisk {
@@ -42,6 +45,7 @@ impl FileDisk {
             file,
             faults: 0,
             has_failed: false,
+            trouble: None,
         }
     }
 
@@ -57,17 +61,25 @@ impl FileDisk {
         self.has_failed
     }
 
+    /// Why a call of it failed last.
+    pub(crate) fn trouble(&self) -> Option<Trouble> {
+        self.trouble
+    }
+
     // Counts a call that failed.
     fn noted<T: Drop>(&mut self, answer: io::Result<T>) -> Result<T, Failed>
         ensures same { IfOk result (λ value. answer ≡ Ok value) }
         ensures call { IsCalled self.old self.new result }
     {
         self.has_failed = answer.is_err();
-        let Ok(value) = answer else {
-            self.faults = self.faults.saturating_add(1);
-            return Err(Failed);
-        };
-        Ok(value)
+        match answer {
+            Ok(value) => Ok(value),
+            Err(error) => {
+                self.faults = self.faults.saturating_add(1);
+                self.trouble = Some(Trouble::of(error.kind()));
+                Err(Failed)
+            }
+        }
     }
 }
 

@@ -1,6 +1,7 @@
 // How the files of a cabinet are opened.
-ghost use Rattle.std.specs.Prelude.{◌≤◌, ◌↔◌, IfOk, IsOk, length};
+ghost use Rattle.std.specs.Prelude.{◌≤◌, ◌↔◌, IfOk, IsOk, IsTrue, length};
 ghost use Rattle.std.specs.Fs.{IsFile, file_type};
+ghost use Rattle.hose_disk.specs.steps.DirState.{AreTwoFiles};
 
 use crate::file_disk::read_some;
 use std::fs::{File, Metadata, OpenOptions};
@@ -70,6 +71,49 @@ pub struct FileId {
     inode: u64,
 }
 
+/// Which files two names lead to; none where none is seen.
+#[derive(Clone, Copy)]
+pub struct Looked {
+    one: Option<FileId>,
+    other: Option<FileId>,
+}
+
+impl Looked {
+    /// Looks where two names lead to, and opens nothing.
+    pub fn at<F: Files<File = File>>(rt: &F, one: &str, other: &str) -> Looked {
+        Looked {
+            one: file_at(rt, one),
+            other: file_at(rt, other),
+        }
+    }
+
+    /// Whether they lead to two files.
+    pub fn is_at_two(self) -> bool
+        ensures { IsTrue result ↔ AreTwoFiles self.one self.other }
+    {
+        match (self.one, self.other) {
+            (Some(one), Some(other)) => one.device != other.device || one.inode != other.inode,
+            _ => true,
+        }
+    }
+}
+
+// Which file a path leads to, where one is seen.
+fn file_at<F: Files<File = File>>(rt: &F, path: &str) -> Option<FileId> {
+    match fs::metadata(rt, path) {
+        Ok(there) => Some(id_of(&there)),
+        Err(_) => None,
+    }
+}
+
+// Which file this is of.
+fn id_of(there: &Metadata) -> FileId {
+    FileId {
+        device: there.dev(),
+        inode: there.ino(),
+    }
+}
+
 /// A disk that was opened.
 #[derive(Drop)]
 pub struct OpenDisk {
@@ -100,11 +144,30 @@ pub fn open_disk<F: Files<File = File> + AllocGlobal>(rt: &F, path: &str) -> io:
     require_same(&opened, &fs::metadata(rt, real.as_str())?)?;
     settle(&file)?;
     sync_folder(rt, real)?;
-    let id = FileId {
-        device: opened.dev(),
-        inode: opened.ino(),
-    };
-    Ok(OpenDisk { file, id })
+    Ok(OpenDisk {
+        file,
+        id: id_of(&opened),
+    })
+}
+
+/// Opens a disk to be read alone, and locks it against who would write; others may read it as well.
+/// One that is not there is not made, and nothing is made durable but what others wrote.
+pub fn open_to_read<F: Files<File = File>>(rt: &F, path: &str) -> io::Result<OpenDisk> {
+    require_file(&fs::metadata(rt, path)?)?;
+    let file = open_above(rt, File::options().read(true), path)?;
+    let opened = file.metadata()?;
+    require_file(&opened)?;
+    file.try_lock_shared()?;
+    require_same(&opened, &fs::metadata(rt, path)?)?;
+    match settle(&file) {
+        // A file system that is never written has no sync, and nothing to sync.
+        Err(error) if error.kind() == ErrorKind::InvalidInput => {}
+        settled => settled?,
+    }
+    Ok(OpenDisk {
+        file,
+        id: id_of(&opened),
+    })
 }
 
 // Opens a file with a descriptor above those of the standard streams. Where one of these is closed,
@@ -144,6 +207,8 @@ fn require_file(there: &Metadata) -> io::Result<()>
 {
     if there.is_file() {
         Ok(())
+    } else if there.is_dir() {
+        Err(ErrorKind::IsADirectory.into())
     } else {
         Err(ErrorKind::InvalidInput.into())
     }

@@ -10,7 +10,8 @@
 //! ```
 //!
 //! A cabinet is a place of named texts and disks, of which one disk is out at a time: in memory, or
-//! the files of the system.
+//! the files of the system. It knows whether two names are of one disk, and lends a disk that is to
+//! be read alone also where nothing may be written.
 //!
 //! ```
 //! let mut cabinet = DirCabinet::new(rt);
@@ -31,6 +32,7 @@ mod mem_disk;
 mod named;
 mod recording;
 mod shelf;
+mod trouble;
 
 pub use cabinet::Cabinet;
 pub use call::DiskCall;
@@ -41,3 +43,4 @@ pub use hose_io::Failed;
 pub use mem_cabinet::MemCabinet;
 pub use mem_disk::MemDisk;
 pub use recording::Pick;
+pub use trouble::Trouble;

@@ -1,6 +1,6 @@
 // A cabinet in memory, whose disks keep records of their calls.
 ghost use Rattle.std.specs.Prelude.{◌≡◌, ◌≢◌, ◌⊎◌, ◌↔◌, ◌-◌, ◌<◌, ◌≤◌, ℕ, List, [], ◌∷◌, ◌++◌, None, Some, true, false, Contains, IfNone, IfOk, IfSome, IsErr, IsFalse, IsSome, IsTrue, MatchResult, OnErr, OnOk, length, min};
-ghost use Rattle.hose_io.specs.steps.Faults.{no_faults};
+ghost use Rattle.hose_io.specs.steps.Faults.{no_faults, one_fault};
 ghost use Rattle.hose_disk.specs.Cabinet.{Has, IsDiskCall, after_back, opened_at, where_told};
 ghost use Rattle.hose_disk.specs.steps.Cabinet.{IsTextAt, IsTextCall, absent_after};
 ghost use Rattle.hose_disk.specs.steps.CabinetState.{IsMemOpening, cabinet_after_done, cabinet_after_refusal, cabinet_after_return, cabinet_frame, held_of, item_of, text_of};
@@ -28,8 +28,9 @@ impl Model for Text {
     ghost view = { λ text. text.bytes.items };
 }
 
-/// A cabinet in memory, which only an embedding or a test uses. A call of `text` or `disk` fails
-/// where it was told to, where it asks for a text that is not there, and where no memory is left.
+/// A cabinet in memory, which only an embedding or a test uses. A call of `text`, `disk` or
+/// `disk_to_read` fails where it was told to, where it asks for a text that is not there, and where
+/// no memory is left. Each name is of a disk of its own.
 #[derive(Debug, Drop)]
 pub struct MemCabinet {
     texts: Vec<Named<Text>>,
@@ -92,7 +93,8 @@ impl MemCabinet {
         Ok(())
     }
 
-    /// The `nth` call of `text` and `disk` together from now on, counted from 1, is to fail.
+    /// The `nth` call of `text`, `disk` and `disk_to_read` together from now on, counted from 1, is
+    /// to fail.
     pub fn fail(&mut self, nth: u64) -> Result<(), AllocError>
         ensures ok { OnOk result
             (self.new ≡ record self.old { failing = self.old.failing ++ nth ∷ [] }) }
@@ -115,6 +117,33 @@ impl MemCabinet {
     {
         self.absent
     }
+
+    // Takes out the disk of a name.
+    fn take_out(&mut self, name: &str) -> Result<MemDisk, Failed>
+        requires { self.old.shelf.out ≡ None }
+        ensures opened { IfOk result (λ disk. mem_disk_frame disk ≡ opened_at (moment_of disk)) }
+        ensures content { IfOk result (λ disk. Has true (held_of self.old name.now)
+            (λ was. content_of disk ≡ content_of was)) }
+        ensures images { IfOk result (λ disk. Has true (held_of self.old name.now)
+            (λ was. NoneNew (image_of was) (image_of disk))) }
+        ensures untold { IfOk result (λ disk. IsFalse true → content_of disk ≡ None) }
+        ensures texts { text_of self.new ≡ text_of self.old }
+        ensures others { (other : List ℕ) → other ≢ name.now →
+            held_of self.new other ≡ held_of self.old other }
+        ensures same { OnErr result (held_of self.new ≡ held_of self.old) }
+        ensures call { IsDiskCall name.now
+            (cabinet_frame self.old) (cabinet_frame self.new) result }
+
+        ensures exact { IsMemOpening name.now self.old self.new result }
+    {
+        if self.failing.next() {
+            return Err(self.faults.fail());
+        }
+        match self.shelf.take_out(name.as_bytes()) {
+            Ok(disk) => Ok(disk.opened_again()),
+            Err(_) => Err(self.faults.starve()),
+        }
+    }
 }
 
 impl Cabinet for MemCabinet {
@@ -123,6 +152,8 @@ impl Cabinet for MemCabinet {
     type Disk = MemDisk;
 
     ghost frame = { cabinet_frame };
+
+    ghost apart = { λ _ one other. one ≢ other };
 
     ghost text = { text_of };
 
@@ -160,6 +191,24 @@ impl Cabinet for MemCabinet {
         Ok(count)
     }
 
+    fn tell_apart(&mut self, one: &str, other: &str) -> Result<(), Failed>
+        ensures apart { OnOk result (one.now ≢ other.now) }
+        ensures refused { one.now ≡ other.now → IsErr result }
+        ensures texts { text_of self.new ≡ text_of self.old }
+        ensures disks { held_of self.new ≡ held_of self.old }
+        ensures call { IsTextCall (cabinet_frame self.old) (cabinet_frame self.new) result }
+
+        ensures ok { OnOk result (self.new ≡ self.old) }
+        ensures err { OnErr result (self.new ≡ record self.old {
+          faults = one_fault self.old.faults;
+        }) }
+    {
+        if one == other {
+            return Err(self.faults.fail());
+        }
+        Ok(())
+    }
+
     fn disk(&mut self, name: &str) -> Result<MemDisk, Failed>
         requires { self.old.shelf.out ≡ None }
         ensures opened { IfOk result (λ disk. mem_disk_frame disk ≡ opened_at (moment_of disk)) }
@@ -177,13 +226,27 @@ impl Cabinet for MemCabinet {
 
         ensures exact { IsMemOpening name.now self.old self.new result }
     {
-        if self.failing.next() {
-            return Err(self.faults.fail());
-        }
-        match self.shelf.take_out(name.as_bytes()) {
-            Ok(disk) => Ok(disk.opened_again()),
-            Err(_) => Err(self.faults.starve()),
-        }
+        self.take_out(name)
+    }
+
+    fn disk_to_read(&mut self, name: &str) -> Result<MemDisk, Failed>
+        requires { self.old.shelf.out ≡ None }
+        ensures opened { IfOk result (λ disk. mem_disk_frame disk ≡ opened_at (moment_of disk)) }
+        ensures content { IfOk result (λ disk. Has true (held_of self.old name.now)
+            (λ was. content_of disk ≡ content_of was)) }
+        ensures images { IfOk result (λ disk. Has true (held_of self.old name.now)
+            (λ was. NoneNew (image_of was) (image_of disk))) }
+        ensures untold { IfOk result (λ disk. IsFalse true → content_of disk ≡ None) }
+        ensures texts { text_of self.new ≡ text_of self.old }
+        ensures others { (other : List ℕ) → other ≢ name.now →
+            held_of self.new other ≡ held_of self.old other }
+        ensures same { OnErr result (held_of self.new ≡ held_of self.old) }
+        ensures call { IsDiskCall name.now
+            (cabinet_frame self.old) (cabinet_frame self.new) result }
+
+        ensures exact { IsMemOpening name.now self.old self.new result }
+    {
+        self.take_out(name)
     }
 
     fn back(&mut self, disk: MemDisk)

@@ -7,7 +7,8 @@ use Rattle.hose_disk.specs.Cabinet.{CabinetFrame, object_of}
 
 -- ---- frames
 
--- What asking for a text does to the frame: its failure has a cause.
+-- What asking for a text, or whether two names are of two disks, does to the frame: its failure has
+-- a cause.
 pub record IsTextCall {T : Type 0} (before after : CabinetFrame) (result : Result T Failed) :
     Type 0 where
   pub met : Met (object_of before) (object_of after) result

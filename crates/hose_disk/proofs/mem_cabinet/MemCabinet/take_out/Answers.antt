@@ -1,6 +1,6 @@
 use Rattle.std.proofs.Common.{rules}
 use Rattle.hose_disk.proofs.Held.{held_stays}
-use Rattle.hose_disk.proofs.mem_cabinet.MemCabinetCabinet.disk.Goals as goal
+use Rattle.hose_disk.proofs.mem_cabinet.MemCabinet.take_out.Goals as goal
 
 pub returns-in-Ok-clause-others : goal.returns-in-Ok-clause-others
 returns-in-Ok-clause-others c other unlike =
