@@ -1,6 +1,7 @@
 -- What each thing that a host does keeps.
 use Rattle.std.specs.Bool.{MatchBool}
 use Rattle.std.specs.Option.{MatchOption}
+use mathlib.Core.List.{IsPrefix}
 use Rattle.std.specs.Prelude.{IsSome, option_to_list}
 use Rattle.std.proofs.Common.{IsTrue, Option, None, Some, ◌≡◌, ◌≢◌, ◌∙◌, ℕ, ◌+◌, ◌-◌, ◌<◌, ◌≤◌, ⊎_elim, inl, inr, max, arith, slice_index_or, slice_set, length-append, Bool, true, false, List, [], ◌∷◌, ◌++◌, All, map, length, take, drop, refl, sym, ap, subst, append_assoc, rules}
 use Rattle.std.proofs.lemmas.Bool.{cases_Bool, cases_eq, cases_lt, false≢true}
@@ -11,11 +12,19 @@ use Rattle.hose_words.specs.declared.lines.Line.{Line}
 use Rattle.hose_words.specs.steps.Lines.{Shows}
 use Rattle.hose_host.specs.steps.Answering.{AnswersAt}
 use Rattle.hose_host.specs.declared.answers.HostAnswers.{Ghosts}
-use Rattle.hose_net.specs.Happening.{Came, Got, Happening, Heard, Left, Refused, Sent}
-use Rattle.hose_net.specs.Story.{Answers, AwaitsMore, Exchange, MayHappen, Happens, IsByDoor, IsHosted, IsServed, IsSettled, Life, Step, AllServed, began, waited, happened, answered, exchanges, heard_in, is_empty, life, lines_of, newcomer, texts_of}
-use Rattle.hose_net.proofs.Stories.{IsAt, exchanges-happens, exchanges-push, heard-push, heard-same, life-answers, life-came, life-got, life-heard, life-left, life-other, life-other_answers, life-refused, life-sent, served_heard, served_now, served_too}
+use Rattle.hose_net.specs.declared.connections.Connections.{Ghosts as ConnectionsGhosts}
+use Rattle.hose_net.specs.Happening.{Came, Got, Happening, Heard, Left, Refused, Sent, Stopped}
+use Rattle.hose_net.specs.Story.{Answers, AwaitsMore, Exchange, MayHappen, Happens, IsByDoor, IsHosted, IsKept, IsServed, IsSettled, IsStopped, Life, Step, AllServed, began, waited, happened, answered, exchanges, heard_in, is_empty, life, lines_of, newcomer, texts_of}
+use Rattle.hose_net.proofs.Stories.{IsAt, exchanges-happens, exchanges-push, heard-push, heard-same, life-answers, life-came, life-got, life-heard, life-left, life-other, life-other_answers, life-refused, life-sent, life-stopped, served_heard, served_now, served_stopped, served_too, stopped_now, stopped_on}
 use Rattle.hose_host.specs.steps.Seats.{AllFinished, AtRest, Awaits, Calm, Exact, Finished, FinishedBelow, Freed, FreedBelow, Gone, GrowsByLost, Held, Holds, IsSaid, Keeping, Quiet, Releases, Resting, SeatState, Sits, emptied, fresh_seat, held_of, with_held, with_text}
-use Rattle.hose_host.specs.steps.Keeping.{AllSit, At, GoesOnAt, Hall, Keeps, KeepsAll, Stands, at, hall, terms_of}
+use Rattle.hose_host.specs.steps.Keeping.{AllSit, At, GoesOn, GoesOnAt, Hall, Keeps, KeepsAll, Stands, StopsAll, at, hall, terms_of}
+
+-- one list begins another one, which begins a third
+onward_then : {T : Type 0} (one two three : List T) → IsPrefix one two → IsPrefix two three → IsPrefix one three
+onward_then one two three first then = (first.0 ++ then.0, sym (append_assoc one first.0 then.0) ∙ ap (λ (xs : List _). xs ++ then.0) first.1 ∙ then.1)
+
+onward_same : {T : Type 0} (one : List T) → IsPrefix one one
+onward_same one = ([], append-nil one)
 
 nil_from_map : {A B : Type 0} (f : A → B) (xs : List A) → [] ≡ map f xs → xs ≡ []
 nil_from_map f [] is = refl
@@ -257,31 +266,31 @@ released_seat old mid new waiting heard is within frame same grows = (
       ),
 )
 
-module _ {N A R : Type 0} (did : N → List Happening → N → Type 0) (by : Ghosts A R) (heard : ℕ) where
-  pub keeps_then : (P Q S : Life by.said R → SeatState → Type 0) (place : ℕ) (old now new : At N A) → Keeps did by P Q place heard old now → Keeps did by Q S place heard now new → Keeps did by P S place heard old new
+module _ {N A R B : Type 0} (net : ConnectionsGhosts N) (by : Ghosts A R B) (heard : ℕ) where
+  pub keeps_then : (P Q S : Life by.said R → SeatState → Type 0) (place : ℕ) (old now new : At N A) → Keeps net by P Q place heard old now → Keeps net by Q S place heard now new → Keeps net by P S place heard old new
   keeps_then P Q S place old now new begun more = λ first from topic story stands sits so.
       let one = begun first from topic story stands sits so in
       let two = more first from topic one.later one.stands one.sits one.ends in
-      record { later = two.later; others = λ other apart. two.others other apart ∙ one.others other apart; stands = two.stands; sits = two.sits; ends = two.ends }
+      record { later = two.later; onward = onward_then story one.later two.later one.onward two.onward; others = λ other apart. two.others other apart ∙ one.others other apart; stands = two.stands; sits = two.sits; ends = two.ends }
 
   -- more is known before
-  pub keeps_from : (P Q S : Life by.said R → SeatState → Type 0) (place : ℕ) (old new : At N A) → ((life : Life by.said R) → P life old.seat → Q life old.seat) → Keeps did by Q S place heard old new → Keeps did by P S place heard old new
+  pub keeps_from : (P Q S : Life by.said R → SeatState → Type 0) (place : ℕ) (old new : At N A) → ((life : Life by.said R) → P life old.seat → Q life old.seat) → Keeps net by Q S place heard old new → Keeps net by P S place heard old new
   keeps_from P Q S place old new goes keeps = λ first from topic story stands sits so. keeps first from topic story stands sits (goes (life place story) so)
 
   -- less is said after
-  pub keeps_on : (P Q S : Life by.said R → SeatState → Type 0) (place : ℕ) (old new : At N A) → ((life : Life by.said R) → Q life new.seat → S life new.seat) → Keeps did by P Q place heard old new → Keeps did by P S place heard old new
+  pub keeps_on : (P Q S : Life by.said R → SeatState → Type 0) (place : ℕ) (old new : At N A) → ((life : Life by.said R) → Q life new.seat → S life new.seat) → Keeps net by P Q place heard old new → Keeps net by P S place heard old new
   keeps_on P Q S place old new goes keeps = λ first from topic story stands sits so.
       let one = keeps first from topic story stands sits so in
-      record { later = one.later; others = one.others; stands = one.stands; sits = one.sits; ends = goes (life place one.later) one.ends }
+      record { later = one.later; onward = one.onward; others = one.others; stands = one.stands; sits = one.sits; ends = goes (life place one.later) one.ends }
 
   -- only the seat changes
-  pub keeps_seat : (P Q : Life by.said R → SeatState → Type 0) (place : ℕ) (network : N) (by_now : A) (old new : SeatState) (was coming : List ℕ) → ((text : R → List ℕ) (life : Life by.said R) → Sits text heard life old was → Sits text heard life new coming) → ((life : Life by.said R) → P life old → Q life new) → Keeps did by P Q place heard (at network by_now old was) (at network by_now new coming)
+  pub keeps_seat : (P Q : Life by.said R → SeatState → Type 0) (place : ℕ) (network : N) (by_now : A) (old new : SeatState) (was coming : List ℕ) → ((text : R → List ℕ) (life : Life by.said R) → Sits text heard life old was → Sits text heard life new coming) → ((life : Life by.said R) → P life old → Q life new) → Keeps net by P Q place heard (at network by_now old was) (at network by_now new coming)
   keeps_seat P Q place network by_now old new was coming sits_on goes = λ first from topic story stands sits so.
-      record { later = story; others = λ other apart. refl; stands = stands; sits = sits_on (by.text topic) (life place story) sits; ends = goes (life place story) so }
+      record { later = story; onward = onward_same story; others = λ other apart. refl; stands = stands; sits = sits_on (by.text topic) (life place story) sits; ends = goes (life place story) so }
 
   -- nothing changes
-  pub keeps_same : (P Q : Life by.said R → SeatState → Type 0) (place : ℕ) (old : At N A) → ((life : Life by.said R) → P life old.seat → Q life old.seat) → Keeps did by P Q place heard old old
-  keeps_same P Q place old goes = λ first from topic story stands sits so. record { later = story; others = λ other apart. refl; stands = stands; sits = sits; ends = goes (life place story) so }
+  pub keeps_same : (P Q : Life by.said R → SeatState → Type 0) (place : ℕ) (old : At N A) → ((life : Life by.said R) → P life old.seat → Q life old.seat) → Keeps net by P Q place heard old old
+  keeps_same P Q place old goes = λ first from topic story stands sits so. record { later = story; onward = onward_same story; others = λ other apart. refl; stands = stands; sits = sits; ends = goes (life place story) so }
 
   pub quiet_lost : (k : List ℕ) (seat : SeatState) (life : Life by.said R) → seat.lost ≡ true → Quiet heard k life seat
   quiet_lost k seat life lost = record { freed = record { awaits = freed_lost heard seat lost; keeps = λ kept. absurd (false≢true (sym kept ∙ lost)) }; out = λ kept. absurd (false≢true (sym kept ∙ lost)) }
@@ -311,46 +320,46 @@ module _ {N A R : Type 0} (did : N → List Happening → N → Type 0) (by : Gh
   pub finished_lost : (ended : Bool) (life : Life by.said R) (seat : SeatState) → seat.lost ≡ true → life.here ≡ false → Finished ended heard life seat
   finished_lost ended life seat lost gone = record { quiet = quiet_lost seat.kept seat life lost; gone = λ _. gone; none = λ _ kept. absurd (false≢true (sym kept ∙ lost)) }
 
-  pub keeps_kept : (P Q S : Life by.said R → SeatState → Type 0) (k : List ℕ) (place : ℕ) (old : At N A) (network : N) (by_now : A) (seat : SeatState) → ((life : Life by.said R) → Q life seat → Keeping k life seat) → ((life : Life by.said R) → Q life seat → S life seat) → Keeps did by P Q place heard old (at network by_now seat k) → Keeps did by P S place heard old (at network by_now seat seat.kept)
+  pub keeps_kept : (P Q S : Life by.said R → SeatState → Type 0) (k : List ℕ) (place : ℕ) (old : At N A) (network : N) (by_now : A) (seat : SeatState) → ((life : Life by.said R) → Q life seat → Keeping k life seat) → ((life : Life by.said R) → Q life seat → S life seat) → Keeps net by P Q place heard old (at network by_now seat k) → Keeps net by P S place heard old (at network by_now seat seat.kept)
   keeps_kept P Q S k place old network by_now seat is goes keeps = λ first from topic story stands sits so.
       let one = keeps first from topic story stands sits so in
-      record { later = one.later; others = one.others; stands = one.stands; sits = λ kept. subst (λ (bytes : List ℕ). Exact (by.text topic) heard (life place one.later) seat bytes) (sym (is (life place one.later) one.ends kept)) (one.sits kept); ends = goes (life place one.later) one.ends }
+      record { later = one.later; onward = one.onward; others = one.others; stands = one.stands; sits = λ kept. subst (λ (bytes : List ℕ). Exact (by.text topic) heard (life place one.later) seat bytes) (sym (is (life place one.later) one.ends kept)) (one.sits kept); ends = goes (life place one.later) one.ends }
 
-  pub keeps_freed : (P : Life by.said R → SeatState → Type 0) (k : List ℕ) (place : ℕ) (old : At N A) (network : N) (by_now : A) (seat : SeatState) → Keeps did by P (Freed heard k) place heard old (at network by_now seat k) → Keeps did by P (Freed heard seat.kept) place heard old (at network by_now seat seat.kept)
+  pub keeps_freed : (P : Life by.said R → SeatState → Type 0) (k : List ℕ) (place : ℕ) (old : At N A) (network : N) (by_now : A) (seat : SeatState) → Keeps net by P (Freed heard k) place heard old (at network by_now seat k) → Keeps net by P (Freed heard seat.kept) place heard old (at network by_now seat seat.kept)
   keeps_freed P k place old network by_now seat keeps = keeps_kept P (Freed heard k) (Freed heard seat.kept) k place old network by_now seat (λ life so. so.keeps) (λ life so. freed_kept k life seat so) keeps
 
-  pub keeps_calm : (P : Life by.said R → SeatState → Type 0) (k : List ℕ) (place : ℕ) (old : At N A) (network : N) (by_now : A) (seat : SeatState) → Keeps did by P (Quiet heard k) place heard old (at network by_now seat k) → Keeps did by P (Calm heard seat.kept) place heard old (at network by_now seat seat.kept)
+  pub keeps_calm : (P : Life by.said R → SeatState → Type 0) (k : List ℕ) (place : ℕ) (old : At N A) (network : N) (by_now : A) (seat : SeatState) → Keeps net by P (Quiet heard k) place heard old (at network by_now seat k) → Keeps net by P (Calm heard seat.kept) place heard old (at network by_now seat seat.kept)
   keeps_calm P k place old network by_now seat keeps = keeps_kept P (Quiet heard k) (Calm heard seat.kept) k place old network by_now seat (λ life so. so.freed.keeps) (λ life so. quiet_calm seat.kept life seat (quiet_kept k life seat so)) keeps
 
-  pub keeps_still : (P : Life by.said R → SeatState → Type 0) (k : List ℕ) (place : ℕ) (old : At N A) (network : N) (by_now : A) (seat : SeatState) → Keeps did by P (Quiet heard k) place heard old (at network by_now seat k) → Keeps did by P (Quiet heard seat.kept) place heard old (at network by_now seat seat.kept)
+  pub keeps_still : (P : Life by.said R → SeatState → Type 0) (k : List ℕ) (place : ℕ) (old : At N A) (network : N) (by_now : A) (seat : SeatState) → Keeps net by P (Quiet heard k) place heard old (at network by_now seat k) → Keeps net by P (Quiet heard seat.kept) place heard old (at network by_now seat seat.kept)
   keeps_still P k place old network by_now seat keeps = keeps_kept P (Quiet heard k) (Quiet heard seat.kept) k place old network by_now seat (λ life so. so.freed.keeps) (λ life so. quiet_kept k life seat so) keeps
 
   -- what is kept is taken out, and the rest of a piece is kept
-  pub keeps_out : (place : ℕ) (network : N) (by_now : A) (old new : SeatState) → new ≡ record old { kept = [] } → Keeps did by (Calm heard old.kept) (Freed heard []) place heard (at network by_now old old.kept) (at network by_now new old.kept)
+  pub keeps_out : (place : ℕ) (network : N) (by_now : A) (old new : SeatState) → new ≡ record old { kept = [] } → Keeps net by (Calm heard old.kept) (Freed heard []) place heard (at network by_now old old.kept) (at network by_now new old.kept)
   keeps_out place network by_now old new is = keeps_seat (Calm heard old.kept) (Freed heard []) place network by_now old new old.kept old.kept
       (λ text life sits kept. subst (λ (s : SeatState). Exact text heard life s old.kept) (sym is) (exact_kept text heard life old [] old.kept (sits (ap (λ (s : SeatState). s.lost) (sym is) ∙ kept))))
       (λ life so. subst (λ (s : SeatState). Freed heard [] life s) (sym is) (record { awaits = so.freed.awaits; keeps = λ kept. refl }))
 
-  pub keeps_in : (place : ℕ) (network : N) (by_now : A) (old new : SeatState) (rest : List ℕ) → (new.lost ≡ false → new ≡ record old { kept = rest }) → Keeps did by (Freed heard []) (Freed heard rest) place heard (at network by_now old rest) (at network by_now new rest)
+  pub keeps_in : (place : ℕ) (network : N) (by_now : A) (old new : SeatState) (rest : List ℕ) → (new.lost ≡ false → new ≡ record old { kept = rest }) → Keeps net by (Freed heard []) (Freed heard rest) place heard (at network by_now old rest) (at network by_now new rest)
   keeps_in place network by_now old new rest is = keeps_seat (Freed heard []) (Freed heard rest) place network by_now old new rest rest
       (λ text life sits kept. subst (λ (s : SeatState). Exact text heard life s rest) (sym (is kept)) (exact_kept text heard life old rest rest (sits (ap (λ (s : SeatState). s.lost) (sym (is kept)) ∙ kept))))
       (λ life so. record { awaits = λ kept. subst (λ (s : SeatState). AwaitsMore (λ held. held.needs) heard s.later) (sym (is kept)) (so.awaits (ap (λ (s : SeatState). s.lost) (sym (is kept)) ∙ kept)); keeps = λ kept. ap (λ (s : SeatState). s.kept) (is kept) })
 
   -- what is left of a piece is kept again
-  pub keeps_back : (place : ℕ) (network : N) (by_now : A) (old new : SeatState) (rest : List ℕ) → new ≡ record old { kept = rest } → Keeps did by (Freed heard []) (Freed heard rest) place heard (at network by_now old rest) (at network by_now new rest)
+  pub keeps_back : (place : ℕ) (network : N) (by_now : A) (old new : SeatState) (rest : List ℕ) → new ≡ record old { kept = rest } → Keeps net by (Freed heard []) (Freed heard rest) place heard (at network by_now old rest) (at network by_now new rest)
   keeps_back place network by_now old new rest is = keeps_in place network by_now old new rest (λ kept. is)
 
   -- bytes of a line were taken in
-  pub keeps_taken : (k : List ℕ) (place : ℕ) (network : N) (by_now : A) (old new : SeatState) (bytes coming : List ℕ) → All (λ byte. byte ≢ 10) bytes → ((held : List ℕ) → Holds old held → new.lost ≡ false → Holds new (held ++ bytes)) → (new.lost ≡ false → old.lost ≡ false) → new.output ≡ old.output → new.later ≡ old.later → new.door ≡ old.door → new.kept ≡ old.kept → Keeps did by (Freed heard k) (Freed heard k) place heard (at network by_now old (bytes ++ coming)) (at network by_now new coming)
+  pub keeps_taken : (k : List ℕ) (place : ℕ) (network : N) (by_now : A) (old new : SeatState) (bytes coming : List ℕ) → All (λ byte. byte ≢ 10) bytes → ((held : List ℕ) → Holds old held → new.lost ≡ false → Holds new (held ++ bytes)) → (new.lost ≡ false → old.lost ≡ false) → new.output ≡ old.output → new.later ≡ old.later → new.door ≡ old.door → new.kept ≡ old.kept → Keeps net by (Freed heard k) (Freed heard k) place heard (at network by_now old (bytes ++ coming)) (at network by_now new coming)
   keeps_taken k place network by_now old new bytes coming plain takes stays same same_later same_door same_kept = keeps_seat (Freed heard k) (Freed heard k) place network by_now old new (bytes ++ coming) coming (λ text life. sits_taken text heard life old new bytes coming plain takes stays same same_later same_door) (λ life so. record { awaits = λ kept. subst (AwaitsMore (λ held. held.needs) heard) (sym same_later) (so.awaits (stays kept)); keeps = λ kept. same_kept ∙ so.keeps (stays kept) })
 
   -- the seat is given up
-  pub keeps_lost : (P Q : Life by.said R → SeatState → Type 0) (place : ℕ) (network : N) (by_now : A) (old new : SeatState) (was coming : List ℕ) → new.lost ≡ true → ((life : Life by.said R) → Q life new) → Keeps did by P Q place heard (at network by_now old was) (at network by_now new coming)
+  pub keeps_lost : (P Q : Life by.said R → SeatState → Type 0) (place : ℕ) (network : N) (by_now : A) (old new : SeatState) (was coming : List ℕ) → new.lost ≡ true → ((life : Life by.said R) → Q life new) → Keeps net by P Q place heard (at network by_now old was) (at network by_now new coming)
   keeps_lost P Q place network by_now old new was coming lost goes = keeps_seat P Q place network by_now old new was coming (λ text life sits kept. absurd (false≢true (sym kept ∙ lost))) (λ life so. goes life)
 
-  pub keeps_quiet : (P : Life by.said R → SeatState → Type 0) (place : ℕ) (was now : N) (by_now : A) (seat : SeatState) (coming : List ℕ) → did was [] now → Keeps did by P P place heard (at was by_now seat coming) (at now by_now seat coming)
+  pub keeps_quiet : (P : Life by.said R → SeatState → Type 0) (place : ℕ) (was now : N) (by_now : A) (seat : SeatState) (coming : List ℕ) → net.did was [] now → Keeps net by P P place heard (at was by_now seat coming) (at now by_now seat coming)
   keeps_quiet P place was now by_now seat coming went = λ first from topic story stands sits so.
-      record { later = story; others = λ other apart. refl; stands = record { hosts = waited stands.hosts went; comes = stands.comes; about = stands.about; hears = stands.hears; knows = stands.knows }; sits = sits; ends = so }
+      record { later = story; onward = onward_same story; others = λ other apart. refl; stands = record { hosts = waited stands.hosts went; comes = stands.comes; about = stands.about; hears = stands.hears; knows = stands.knows }; sits = sits; ends = so }
 
   knows_on : (place : ℕ) (story later : List (Step by.said R)) (was now : A) → ((other : ℕ) → other ≢ place → life other later ≡ life other story) → ((other : ℕ) → other ≢ place → by.is_new now other ≡ by.is_new was other) → ((other : ℕ) → (life other story).here ≡ true → by.is_new was other ≡ is_empty (life other story).own) → ((life place later).here ≡ true → by.is_new now place ≡ is_empty (life place later).own) → (other : ℕ) → (life other later).here ≡ true → by.is_new now other ≡ is_empty (life other later).own
   knows_on place story later was now others frames knows known other here = ⊎_elim
@@ -358,9 +367,9 @@ module _ {N A R : Type 0} (did : N → List Happening → N → Type 0) (by : Gh
       (λ apart. frames other apart ∙ knows other (ap (λ (l : Life by.said R). l.here) (sym (others other apart)) ∙ here) ∙ ap (λ (l : Life by.said R). is_empty l.own) (sym (others other apart)))
       (cases_eq other place)
 
-  module _ (first : N) (from : by.origin) (topic : by.subject) (story : List (Step by.said R)) (was : N) (by_now : A) (stands : Stands did by first from topic story heard was by_now) where
-    before : AllServed (terms_of did by topic) story
-    before = served_now (terms_of did by topic) first story was stands.hosts
+  module _ (first : N) (from : by.origin) (topic : by.subject) (story : List (Step by.said R)) (was : N) (by_now : A) (stands : Stands net by first from topic story heard was by_now) where
+    before : AllServed (terms_of net by from topic) story
+    before = served_now (terms_of net by from topic) first story was stands.hosts
 
     served_here : (place : ℕ) → IsServed (by.text topic) heard (life place story)
     served_here place = subst (λ (h : ℕ). IsServed (by.text topic) h (life place story)) stands.hears (before place)
@@ -372,15 +381,16 @@ module _ {N A R : Type 0} (did : N → List Happening → N → Type 0) (by : Gh
     comes_same happening = subst (λ (xs : List (Exchange by.said R)). by.comes from xs by_now) (sym (exchanges-happens story happening)) stands.comes
 
     -- something happened at a place
-    went_on : (Q : Life by.said R → SeatState → Type 0) (place : ℕ) (now : N) (happening : Happening) (seat : SeatState) (coming : List ℕ) (new : Life by.said R) → IsAt place happening → MayHappen story happening → did was (happening ∷ []) now → life place (story ++ Happens happening ∷ []) ≡ new → (new.here ≡ true → by.is_new by_now place ≡ is_empty new.own) → IsServed (by.text topic) heard new → Sits (by.text topic) heard new seat coming → Q new seat → GoesOnAt did by Q place first from topic story heard (at now by_now seat coming)
-    went_on Q place now happening seat coming new here free went is known served sits so =
+    went_on : (Q : Life by.said R → SeatState → Type 0) (place : ℕ) (now : N) (happening : Happening) (seat : SeatState) (coming : List ℕ) (new : Life by.said R) → IsAt place happening → MayHappen story happening → net.did was (happening ∷ []) now → IsKept (terms_of net by from topic) story was happening now → life place (story ++ Happens happening ∷ []) ≡ new → (new.here ≡ true → by.is_new by_now place ≡ is_empty new.own) → IsServed (by.text topic) heard new → Sits (by.text topic) heard new seat coming → Q new seat → GoesOnAt net by Q place first from topic story heard (at now by_now seat coming)
+    went_on Q place now happening seat coming new here free went kept_then is known served sits so =
         let others : (other : ℕ) → other ≢ place → life other (story ++ Happens happening ∷ []) ≡ life other story = λ other apart. life-other other place story happening here apart in
         let same : heard_in (story ++ Happens happening ∷ []) ≡ heard_in story = heard-same place story happening here in
         record {
           later = story ++ Happens happening ∷ [];
+          onward = (Happens happening ∷ [], refl);
           others = others;
           stands = record {
-            hosts = happened happening free stands.hosts went (served_too (terms_of did by topic) place story (story ++ Happens happening ∷ []) others same before (subst (λ (h : ℕ). IsServed (by.text topic) h (life place (story ++ Happens happening ∷ []))) (sym (same ∙ stands.hears)) (subst (IsServed (by.text topic) heard) (sym is) served)));
+            hosts = happened happening free stands.hosts went kept_then (served_too (terms_of net by from topic) place story (story ++ Happens happening ∷ []) others same before (subst (λ (h : ℕ). IsServed (by.text topic) h (life place (story ++ Happens happening ∷ []))) (sym (same ∙ stands.hears)) (subst (IsServed (by.text topic) heard) (sym is) served)));
             comes = comes_same happening;
             about = stands.about;
             hears = same ∙ stands.hears;
@@ -390,12 +400,12 @@ module _ {N A R : Type 0} (did : N → List Happening → N → Type 0) (by : Gh
           ends = subst (λ (l : Life by.said R). Q l seat) (sym is) so;
         }
 
-    went_exact : (Q : Life by.said R → SeatState → Type 0) (place : ℕ) (now : N) (happening : Happening) (seat : SeatState) (coming : List ℕ) (new : Life by.said R) → IsAt place happening → MayHappen story happening → did was (happening ∷ []) now → life place (story ++ Happens happening ∷ []) ≡ new → (new.here ≡ true → by.is_new by_now place ≡ is_empty new.own) → All (IsByDoor new.door) new.own → Exact (by.text topic) heard new seat coming → Q new seat → GoesOnAt did by Q place first from topic story heard (at now by_now seat coming)
-    went_exact Q place now happening seat coming new here free went is known lines exact so =
-        went_on Q place now happening seat coming new here free went is known (served_exact (by.text topic) heard new seat coming lines exact) (λ kept. exact) so
+    went_exact : (Q : Life by.said R → SeatState → Type 0) (place : ℕ) (now : N) (happening : Happening) (seat : SeatState) (coming : List ℕ) (new : Life by.said R) → IsAt place happening → MayHappen story happening → net.did was (happening ∷ []) now → IsKept (terms_of net by from topic) story was happening now → life place (story ++ Happens happening ∷ []) ≡ new → (new.here ≡ true → by.is_new by_now place ≡ is_empty new.own) → All (IsByDoor new.door) new.own → Exact (by.text topic) heard new seat coming → Q new seat → GoesOnAt net by Q place first from topic story heard (at now by_now seat coming)
+    went_exact Q place now happening seat coming new here free went kept_then is known lines exact so =
+        went_on Q place now happening seat coming new here free went kept_then is known (served_exact (by.text topic) heard new seat coming lines exact) (λ kept. exact) so
 
     answered_on : (Q : Life by.said R → SeatState → Type 0) (now : A) (old mid new : SeatState) (coming : List ℕ) (exchange : Exchange by.said R) → (exact : Exact (by.text topic) heard (life exchange.place story) old (10 ∷ coming)) → exchange.line ≡ exact.held → exchange.door ≡ old.door → exchange.first ≡ by.is_new by_now exchange.place → by.says topic exchange.first exchange.door exchange.line exchange.said → by.comes from (exchanges story ++ exchange ∷ []) now → by.is_new now exchange.place ≡ false → ((other : ℕ) → other ≢ exchange.place → by.is_new now other ≡ by.is_new by_now other) → by.about now ≡ topic
-        → Exact (by.text topic) heard (record (life exchange.place story) { own = (life exchange.place story).own ++ exchange ∷ [] }) mid coming → (new.lost ≡ false → new ≡ mid) → ((life : Life by.said R) → Q life new) → GoesOnAt did by Q exchange.place first from topic story heard (at was now new coming)
+        → Exact (by.text topic) heard (record (life exchange.place story) { own = (life exchange.place story).own ++ exchange ∷ [] }) mid coming → (new.lost ≡ false → new ≡ mid) → ((life : Life by.said R) → Q life new) → GoesOnAt net by Q exchange.place first from topic story heard (at was now new coming)
     answered_on Q now old mid new coming exchange exact line door is_first says comes known frames stays there text_is so =
         let others : (other : ℕ) → other ≢ exchange.place → life other (story ++ Answers exchange ∷ []) ≡ life other story = λ other apart. life-other_answers other story exchange apart in
         let same : heard_in (story ++ Answers exchange ∷ []) ≡ heard_in story = heard-push story (Answers exchange) in
@@ -404,9 +414,10 @@ module _ {N A R : Type 0} (did : N → List Happening → N → Type 0) (by : Gh
         let lines : All (IsByDoor grown.door) grown.own = All-push (IsByDoor grown.door) (life exchange.place story).own exchange (lined exchange.place) (door ∙ exact.by, subst (All (λ byte. byte ≢ 10)) (sym line) exact.plain) in
         record {
           later = story ++ Answers exchange ∷ [];
+          onward = (Answers exchange ∷ [], refl);
           others = others;
           stands = record {
-            hosts = answered exchange stands.hosts (is_first ∙ stands.knows exchange.place exact.here) says (served_too (terms_of did by topic) exchange.place story (story ++ Answers exchange ∷ []) others same before (subst (λ (h : ℕ). IsServed (by.text topic) h (life exchange.place (story ++ Answers exchange ∷ []))) (sym (same ∙ stands.hears)) (subst (IsServed (by.text topic) heard) (sym is) (served_exact (by.text topic) heard grown mid coming lines there))));
+            hosts = answered exchange stands.hosts (is_first ∙ stands.knows exchange.place exact.here) says (served_too (terms_of net by from topic) exchange.place story (story ++ Answers exchange ∷ []) others same before (subst (λ (h : ℕ). IsServed (by.text topic) h (life exchange.place (story ++ Answers exchange ∷ []))) (sym (same ∙ stands.hears)) (subst (IsServed (by.text topic) heard) (sym is) (served_exact (by.text topic) heard grown mid coming lines there))));
             comes = subst (λ (xs : List (Exchange by.said R)). by.comes from xs now) (sym (exchanges-push story exchange)) comes;
             about = stays;
             hears = same ∙ stands.hears;
@@ -416,37 +427,38 @@ module _ {N A R : Type 0} (did : N → List Happening → N → Type 0) (by : Gh
           ends = so (life exchange.place (story ++ Answers exchange ∷ []));
         }
 
-  pub keeps_got : (place : ℕ) (was now : N) (by_now : A) (seat : SeatState) (bytes : List ℕ) → seat.lost ≡ false → seat.output ≡ [] → did was (Got place bytes ∷ []) now → Keeps did by (Calm heard []) (Freed heard []) place heard (at was by_now seat []) (at now by_now seat bytes)
+  pub keeps_got : (place : ℕ) (was now : N) (by_now : A) (seat : SeatState) (bytes : List ℕ) → seat.lost ≡ false → seat.output ≡ [] → net.did was (Got place bytes ∷ []) now → Keeps net by (Calm heard []) (Freed heard []) place heard (at was by_now seat []) (at now by_now seat bytes)
   keeps_got place was now by_now seat bytes kept none went = λ first from topic story stands sits so.
-      went_exact first from topic story was by_now stands (Freed heard []) place now (Got place bytes) seat bytes (record (life place story) { given = (life place story).given ++ bytes }) refl ((sits kept).here, exact_took (by.text topic) heard (life place story) seat [] none (sits kept)) went (life-got place bytes story) (stands.knows place) (lined first from topic story was by_now stands place) (exact_got (by.text topic) heard (life place story) seat bytes (sits kept)) (record { awaits = so.freed.awaits; keeps = so.freed.keeps })
+      went_exact first from topic story was by_now stands (Freed heard []) place now (Got place bytes) seat bytes (record (life place story) { given = (life place story).given ++ bytes }) refl ((sits kept).here, exact_took (by.text topic) heard (life place story) seat [] none (sits kept)) went tt (life-got place bytes story) (stands.knows place) (lined first from topic story was by_now stands place) (exact_got (by.text topic) heard (life place story) seat bytes (sits kept)) (record { awaits = so.freed.awaits; keeps = so.freed.keeps })
 
-  pub keeps_sent : (k : List ℕ) (place : ℕ) (was now : N) (by_now : A) (seat new : SeatState) (count : ℕ) → seat.lost ≡ false → did was (Sent place (take count seat.output) ∷ []) now → new ≡ record seat { output = drop count seat.output } → Keeps did by (Freed heard k) (Freed heard k) place heard (at was by_now seat k) (at now by_now new k)
-  keeps_sent k place was now by_now seat new count kept went is = λ first from topic story stands sits so.
-      went_exact first from topic story was by_now stands (Freed heard k) place now (Sent place (take count seat.output)) new k (record (life place story) { sent = (life place story).sent ++ take count seat.output; refused = false }) refl (sits kept).here went (life-sent place (take count seat.output) story) (stands.knows place) (lined first from topic story was by_now stands place)
+  pub keeps_sent : (k : List ℕ) (place : ℕ) (was now : N) (by_now : A) (seat new : SeatState) (count : ℕ) (kept_now : B) → seat.lost ≡ false → net.did was (Sent place (take count seat.output) ∷ []) now → net.saw B was kept_now now → ((from : by.origin) (xs : List (Exchange by.said R)) → by.comes from xs by_now → by.stands from xs kept_now) → new ≡ record seat { output = drop count seat.output } → Keeps net by (Freed heard k) (Freed heard k) place heard (at was by_now seat k) (at now by_now new k)
+  keeps_sent k place was now by_now seat new count kept_now kept went saw stand is = λ first from topic story stands sits so.
+      went_exact first from topic story was by_now stands (Freed heard k) place now (Sent place (take count seat.output)) new k (record (life place story) { sent = (life place story).sent ++ take count seat.output; refused = false }) refl (sits kept).here went (kept_now, saw, stand from (exchanges story) stands.comes) (life-sent place (take count seat.output) story) (stands.knows place) (lined first from topic story was by_now stands place)
       (subst (λ (s : SeatState). Exact (by.text topic) heard (record (life place story) { sent = (life place story).sent ++ take count seat.output; refused = false }) s k) (sym is) (exact_sent (by.text topic) heard (life place story) seat count k (sits kept)))
       (subst (λ (s : SeatState). Freed heard k (record (life place story) { sent = (life place story).sent ++ take count seat.output; refused = false }) s) (sym is) (record { awaits = so.awaits; keeps = so.keeps }))
 
-  pub keeps_refused : (k : List ℕ) (place : ℕ) (was now : N) (by_now : A) (seat : SeatState) (coming : List ℕ) → 0 < length seat.output → did was (Refused place ∷ []) now → Keeps did by (Freed heard k) (Quiet heard k) place heard (at was by_now seat coming) (at now by_now seat coming)
+  pub keeps_refused : (k : List ℕ) (place : ℕ) (was now : N) (by_now : A) (seat : SeatState) (coming : List ℕ) → 0 < length seat.output → net.did was (Refused place ∷ []) now → Keeps net by (Freed heard k) (Quiet heard k) place heard (at was by_now seat coming) (at now by_now seat coming)
   keeps_refused k place was now by_now seat coming less went = λ first from topic story stands sits so.
-      went_on first from topic story was by_now stands (Quiet heard k) place now (Refused place) seat coming (record (life place story) { refused = true }) refl tt went (life-refused place story) (stands.knows place) (served_with (by.text topic) heard (life place story) (life place story).here true (served_here first from topic story was by_now stands place)) (λ kept. exact_refused (by.text topic) heard (life place story) seat coming less (sits kept))
+      went_on first from topic story was by_now stands (Quiet heard k) place now (Refused place) seat coming (record (life place story) { refused = true }) refl tt went tt (life-refused place story) (stands.knows place) (served_with (by.text topic) heard (life place story) (life place story).here true (served_here first from topic story was by_now stands place)) (λ kept. exact_refused (by.text topic) heard (life place story) seat coming less (sits kept))
       (record { freed = record { awaits = so.awaits; keeps = so.keeps }; out = λ kept never. absurd (false≢true (sym never)) })
 
-  pub keeps_came : (door place : ℕ) (was now : N) (by_now : A) (seat new : SeatState) → seat.lost ≡ true → by.is_new by_now place ≡ true → did was (Came door place ∷ []) now → new ≡ fresh_seat door → Keeps did by (AtRest heard seat.kept) (AtRest heard new.kept) place heard (at was by_now seat seat.kept) (at now by_now new new.kept)
+  pub keeps_came : (door place : ℕ) (was now : N) (by_now : A) (seat new : SeatState) → seat.lost ≡ true → by.is_new by_now place ≡ true → net.did was (Came door place ∷ []) now → new ≡ fresh_seat door → Keeps net by (AtRest heard seat.kept) (AtRest heard new.kept) place heard (at was by_now seat seat.kept) (at now by_now new new.kept)
   keeps_came door place was now by_now seat new lost known went is = λ first from topic story stands sits so.
-      went_exact first from topic story was by_now stands (AtRest heard new.kept) place now (Came door place) new new.kept (newcomer door) refl (so.gone lost) went (life-came door place story) (λ here. known) (All-nil (IsByDoor door))
+      went_exact first from topic story was by_now stands (AtRest heard new.kept) place now (Came door place) new new.kept (newcomer door) refl (so.gone lost) went tt (life-came door place story) (λ here. known) (All-nil (IsByDoor door))
       (subst (λ (s : SeatState). Exact {L = by.said} (by.text topic) heard (newcomer door) s s.kept) (sym is) (exact_fresh (by.text topic) heard door))
       (record { calm = record { freed = record { awaits = λ kept. subst (λ (s : SeatState). AwaitsMore (λ held. held.needs) heard s.later) (sym is) tt; keeps = λ kept. refl }; out = λ kept none never. ap (λ (s : SeatState). s.output) is }; gone = λ now_lost. absurd (false≢true (sym (ap (λ (s : SeatState). s.lost) is) ∙ now_lost)) })
 
   -- whoever was given up is let go
-  pub keeps_left : (P : Life by.said R → SeatState → Type 0) (place : ℕ) (was now : N) (by_now : A) (seat : SeatState) (old_coming coming : List ℕ) → seat.lost ≡ true → did was (Left place ∷ []) now → Keeps did by P (Finished false heard) place heard (at was by_now seat old_coming) (at now by_now seat coming)
+  pub keeps_left : (P : Life by.said R → SeatState → Type 0) (place : ℕ) (was now : N) (by_now : A) (seat : SeatState) (old_coming coming : List ℕ) → seat.lost ≡ true → net.did was (Left place ∷ []) now → Keeps net by P (Finished false heard) place heard (at was by_now seat old_coming) (at now by_now seat coming)
   keeps_left P place was now by_now seat old_coming coming lost went = λ first from topic story stands sits so.
-      went_on first from topic story was by_now stands (Finished false heard) place now (Left place) seat coming (record (life place story) { here = false }) refl tt went (life-left place story) (λ here. absurd (false≢true here)) (served_with (by.text topic) heard (life place story) false (life place story).refused (served_here first from topic story was by_now stands place)) (λ kept. absurd (false≢true (sym kept ∙ lost)))
+      went_on first from topic story was by_now stands (Finished false heard) place now (Left place) seat coming (record (life place story) { here = false }) refl tt went tt (life-left place story) (λ here. absurd (false≢true here)) (served_with (by.text topic) heard (life place story) false (life place story).refused (served_here first from topic story was by_now stands place)) (λ kept. absurd (false≢true (sym kept ∙ lost)))
       (finished_lost false (record (life place story) { here = false }) seat lost refl)
 
   -- what is known of a place where no one is comes or goes
-  pub keeps_known : (P : Life by.said R → SeatState → Type 0) (place : ℕ) (network : N) (old now : A) (seat : SeatState) (coming : List ℕ) → ((life : Life by.said R) → P life seat → life.here ≡ false) → ((other : ℕ) → other ≢ place → (by.is_new now other ≡ by.is_new old other) × (by.over now other ≡ by.over old other)) → ((from : by.origin) (xs : List (Exchange by.said R)) → by.comes from xs old → by.comes from xs now) → by.about now ≡ by.about old → Keeps did by P P place heard (at network old seat coming) (at network now seat coming)
+  pub keeps_known : (P : Life by.said R → SeatState → Type 0) (place : ℕ) (network : N) (old now : A) (seat : SeatState) (coming : List ℕ) → ((life : Life by.said R) → P life seat → life.here ≡ false) → ((other : ℕ) → other ≢ place → (by.is_new now other ≡ by.is_new old other) × (by.over now other ≡ by.over old other)) → ((from : by.origin) (xs : List (Exchange by.said R)) → by.comes from xs old → by.comes from xs now) → by.about now ≡ by.about old → Keeps net by P P place heard (at network old seat coming) (at network now seat coming)
   keeps_known P place network old now seat coming gone frames comes same = λ first from topic story stands sits so. record {
     later = story;
+    onward = onward_same story;
     others = λ other apart. refl;
     stands = record {
       hosts = stands.hosts;
@@ -461,14 +473,14 @@ module _ {N A R : Type 0} (did : N → List Happening → N → Type 0) (by : Gh
 
   -- a line was answered
   pub keeps_answered : (place : ℕ) (network : N) (old now : A) (seat new : SeatState) (coming : List ℕ) (shown : Line) (reply : R) → seat.lost ≡ false → ((held : List ℕ) → Holds seat held → Shows shown held) → ((from : by.origin) → AnswersAt (by.comes from) (by.says (by.about old)) place seat.door shown (by.is_new old place) (by.count now) old now reply) → by.is_new now place ≡ false → ((other : ℕ) → other ≢ place → (by.is_new now other ≡ by.is_new old other) × (by.over now other ≡ by.over old other)) → by.about now ≡ by.about old → (new.lost ≡ false → IsSaid heard (by.count now) (by.text (by.about old) reply) (emptied seat) new)
-      → Keeps did by (Freed heard []) (Freed heard []) place heard (at network old seat (10 ∷ coming)) (at network now new coming)
+      → Keeps net by (Freed heard []) (Freed heard []) place heard (at network old seat (10 ∷ coming)) (at network now new coming)
   keeps_answered place network old now seat new coming shown reply kept shows comes_on known frames same text_is = λ first from topic story stands sits so.
       let exact = sits kept in
       let next = comes_on from (exchanges story) exact.held (shows exact.held exact.holds) stands.comes in
       let text_at : by.text (by.about old) reply ≡ by.text topic reply = ap (λ (t : by.subject). by.text t reply) stands.about in
       let said : new.lost ≡ false → IsSaid heard (by.count now) (by.text topic reply) (emptied seat) new = λ open_still. subst (λ (t : List ℕ). IsSaid heard (by.count now) t (emptied seat) new) text_at (text_is open_still) in
       let exchange : Exchange by.said R = record { place = place; door = seat.door; first = by.is_new old place; line = exact.held; said = next.0; reply = reply; needs = by.count now } in
-      let answered_by : (mid : SeatState) → Exact (by.text topic) heard (record (life place story) { own = (life place story).own ++ exchange ∷ [] }) mid coming → (new.lost ≡ false → new ≡ mid) → GoesOnAt did by (Freed heard []) place first from topic story heard (at network now new coming) = λ mid there same_as.
+      let answered_by : (mid : SeatState) → Exact (by.text topic) heard (record (life place story) { own = (life place story).own ++ exchange ∷ [] }) mid coming → (new.lost ≡ false → new ≡ mid) → GoesOnAt net by (Freed heard []) place first from topic story heard (at network now new coming) = λ mid there same_as.
       answered_on first from topic story network old stands (Freed heard []) now seat mid new coming exchange exact refl refl refl
       (subst (λ (subject : by.subject). by.says subject (by.is_new old place) seat.door exact.held next.0) stands.about next.1) next.2 known (λ other apart. (frames other apart).0) (same ∙ stands.about) there same_as
       (λ life. record { awaits = freed_said heard (by.count now) (by.text topic reply) seat new so.awaits kept said; keeps = stays_said heard (by.count now) (by.text topic reply) [] seat new so.keeps kept said }) in
@@ -478,31 +490,57 @@ module _ {N A R : Type 0} (did : N → List Happening → N → Type 0) (by : Gh
       ]
 
   -- the first text that waits may be sent, or nothing changed
-  pub keeps_released : (k : List ℕ) (place : ℕ) (network : N) (by_now : A) (old new : SeatState) → Releases heard old new true → Keeps did by (Keeping k) (Keeping k) place heard (at network by_now old k) (at network by_now new k)
+  pub keeps_released : (k : List ℕ) (place : ℕ) (network : N) (by_now : A) (old new : SeatState) → Releases heard old new true → Keeps net by (Keeping k) (Keeping k) place heard (at network by_now old k) (at network by_now new k)
   keeps_released k place network by_now old new how = keeps_seat (Keeping k) (Keeping k) place network by_now old new k k (λ text life. sits_released text heard life old new k how.1) (λ life so kept. ap (λ (s : SeatState). s.kept) (how.1 kept).4 ∙ so (how.1 kept).0)
 
-  pub keeps_awaits : (k : List ℕ) (place : ℕ) (network : N) (by_now : A) (old new : SeatState) → Releases heard old new false → Keeps did by (Keeping k) (Freed heard k) place heard (at network by_now old k) (at network by_now new k)
+  pub keeps_awaits : (k : List ℕ) (place : ℕ) (network : N) (by_now : A) (old new : SeatState) → Releases heard old new false → Keeps net by (Keeping k) (Freed heard k) place heard (at network by_now old k) (at network by_now new k)
   keeps_awaits k place network by_now old new how = keeps_seat (Keeping k) (Freed heard k) place network by_now old new k k (λ text life sits kept. subst (λ (s : SeatState). Exact text heard life s k) (sym how.0) (sits (ap (λ (s : SeatState). s.lost) (sym how.0) ∙ kept))) (λ life so. record { awaits = λ kept. how.1; keeps = λ kept. ap (λ (s : SeatState). s.kept) how.0 ∙ so (ap (λ (s : SeatState). s.lost) (sym how.0) ∙ kept) })
 
-  pub keeps_released_by : (k : List ℕ) (place : ℕ) (network : N) (by_now : A) (old new : SeatState) (did_so : Bool) → Releases heard old new did_so → MatchBool did_so (Keeps did by (Keeping k) (Keeping k) place heard (at network by_now old k) (at network by_now new k)) (Keeps did by (Keeping k) (Freed heard k) place heard (at network by_now old k) (at network by_now new k))
+  pub keeps_released_by : (k : List ℕ) (place : ℕ) (network : N) (by_now : A) (old new : SeatState) (did_so : Bool) → Releases heard old new did_so → MatchBool did_so (Keeps net by (Keeping k) (Keeping k) place heard (at network by_now old k) (at network by_now new k)) (Keeps net by (Keeping k) (Freed heard k) place heard (at network by_now old k) (at network by_now new k))
   keeps_released_by k place network by_now old new true how = keeps_released k place network by_now old new how
   keeps_released_by k place network by_now old new false how = keeps_awaits k place network by_now old new how
 
   -- ---- with all seats
 
-  pub all_quiet : (Is : ℕ → ℕ → Life by.said R → SeatState → Type 0) (was now : N) (by_now : A) (seats : List SeatState) → did was [] now → KeepsAll did by Is Is (hall was by_now seats heard) (hall now by_now seats heard)
-  all_quiet Is was now by_now seats went = λ first from topic story stands sit. record { later = story; stands = record { hosts = waited stands.hosts went; comes = stands.comes; about = stands.about; hears = stands.hears; knows = stands.knows }; sit = sit }
+  pub all_quiet : (Is : ℕ → ℕ → Life by.said R → SeatState → Type 0) (was now : N) (by_now : A) (seats : List SeatState) → net.did was [] now → KeepsAll net by Is Is (hall was by_now seats heard) (hall now by_now seats heard)
+  all_quiet Is was now by_now seats went = λ first from topic story stands sit. record { later = story; onward = onward_same story; stands = record { hosts = waited stands.hosts went; comes = stands.comes; about = stands.about; hears = stands.hears; knows = stands.knows }; sit = sit }
+
+  -- the host was told to stop
+  pub all_stops : (Is : ℕ → ℕ → Life by.said R → SeatState → Type 0) (was now : N) (by_now : A) (seats : List SeatState) → net.did was (Stopped ∷ []) now → StopsAll net by Is Is (hall was by_now seats heard) (hall now by_now seats heard)
+  all_stops Is was now by_now seats went = λ first from topic story stands all. (
+    record {
+      later = story ++ Happens Stopped ∷ [];
+      onward = (Happens Stopped ∷ [], refl);
+      stands = record {
+        hosts = happened Stopped tt stands.hosts went tt (served_stopped (terms_of net by from topic) story (before first from topic story was by_now stands));
+        comes = comes_same first from topic story was by_now stands Stopped;
+        about = stands.about;
+        hears = heard-push story (Happens Stopped) ∙ stands.hears;
+        knows = λ place. subst (λ (l : Life by.said R). l.here ≡ true → by.is_new by_now place ≡ is_empty l.own) (sym (life-stopped place story)) (stands.knows place);
+      };
+      sit = record {
+        sit = λ place seat below. subst (λ (l : Life by.said R). Sits (by.text topic) heard l (slice_index_or seats place seat) (slice_index_or seats place seat).kept) (sym (life-stopped place story)) (all.sit place seat below);
+        rest = λ place seat below. subst (λ (l : Life by.said R). Is place heard l (slice_index_or seats place seat)) (sym (life-stopped place story)) (all.rest place seat below);
+        beyond = λ place past. ap (λ (l : Life by.said R). l.here) (life-stopped place story) ∙ all.beyond place past;
+      };
+    },
+    stopped_now story,
+  )
+
+  pub all_stopped : (Is : ℕ → ℕ → Life by.said R → SeatState → Type 0) (was now : N) (by_now : A) (seats : List SeatState) → net.did was (Stopped ∷ []) now → KeepsAll net by Is Is (hall was by_now seats heard) (hall now by_now seats heard)
+  all_stopped Is was now by_now seats went = λ first from topic story stands all. (all_stops Is was now by_now seats went first from topic story stands all).0
 
   -- the same is told of all places in other words
-  pub all_weaker : (Was Now : ℕ → ℕ → Life by.said R → SeatState → Type 0) (network : N) (by_now : A) (seats : List SeatState) → ((place : ℕ) (life : Life by.said R) (seat : SeatState) → place < length seats → Was place heard life seat → Now place heard life seat) → KeepsAll did by Was Now (hall network by_now seats heard) (hall network by_now seats heard)
-  all_weaker Was Now network by_now seats goes = λ first from topic story stands all. record { later = story; stands = stands; sit = record { sit = all.sit; rest = λ place seat below. goes place (life place story) (slice_index_or seats place seat) below (all.rest place seat below); beyond = all.beyond } }
+  pub all_weaker : (Was Now : ℕ → ℕ → Life by.said R → SeatState → Type 0) (network : N) (by_now : A) (seats : List SeatState) → ((place : ℕ) (life : Life by.said R) (seat : SeatState) → place < length seats → Was place heard life seat → Now place heard life seat) → KeepsAll net by Was Now (hall network by_now seats heard) (hall network by_now seats heard)
+  all_weaker Was Now network by_now seats goes = λ first from topic story stands all. record { later = story; onward = onward_same story; stands = stands; sit = record { sit = all.sit; rest = λ place seat below. goes place (life place story) (slice_index_or seats place seat) below (all.rest place seat below); beyond = all.beyond } }
 
   -- a standby was heard
-  pub all_heard : (Was : ℕ → ℕ → Life by.said R → SeatState → Type 0) (upto : ℕ) (was now : N) (by_now : A) (seats : List SeatState) → ((place : ℕ) (life : Life by.said R) (seat : SeatState) → Was place heard life seat → Gone life seat) → did was (Heard upto ∷ []) now → KeepsAll did by Was (FreedBelow 0) (hall was by_now seats heard) (hall now by_now seats (max heard upto))
+  pub all_heard : (Was : ℕ → ℕ → Life by.said R → SeatState → Type 0) (upto : ℕ) (was now : N) (by_now : A) (seats : List SeatState) → ((place : ℕ) (life : Life by.said R) (seat : SeatState) → Was place heard life seat → Gone life seat) → net.did was (Heard upto ∷ []) now → KeepsAll net by Was (FreedBelow 0) (hall was by_now seats heard) (hall now by_now seats (max heard upto))
   all_heard Was upto was now by_now seats gone went = λ first from topic story stands all. record {
     later = story ++ Happens (Heard upto) ∷ [];
+    onward = (Happens (Heard upto) ∷ [], refl);
     stands = record {
-      hosts = happened (Heard upto) tt stands.hosts went (served_heard (terms_of did by topic) upto story (before first from topic story was by_now stands));
+      hosts = happened (Heard upto) tt stands.hosts went tt (served_heard (terms_of net by from topic) upto story (before first from topic story was by_now stands));
       comes = comes_same first from topic story was by_now stands (Heard upto);
       about = stands.about;
       hears = heard-push story (Happens (Heard upto)) ∙ ap (λ h. max h upto) stands.hears;
@@ -516,7 +554,7 @@ module _ {N A R : Type 0} (did : N → List Happening → N → Type 0) (by : Gh
   }
 
   -- seats of which no one has one were added
-  pub all_grow : (network : N) (by_now : A) (old new : List SeatState) → GrowsByLost old new → KeepsAll did by Resting Resting (hall network by_now old heard) (hall network by_now new heard)
+  pub all_grow : (network : N) (by_now : A) (old new : List SeatState) → GrowsByLost old new → KeepsAll net by Resting Resting (hall network by_now old heard) (hall network by_now new heard)
   all_grow network by_now old new grows = λ first from topic story stands all.
       let left : (place : ℕ) (seat : SeatState) → place < length old → slice_index_or new place seat ≡ slice_index_or old place seat = λ place seat within. ap (λ (xs : List SeatState). slice_index_or xs place seat) grows.1 ∙ get_or_append_left old grows.0 seat place within in
       let lost : (place : ℕ) (seat : SeatState) → place < length new → length old ≤ place → (slice_index_or new place seat).lost ≡ true = λ place seat below past.
@@ -524,6 +562,7 @@ module _ {N A R : Type 0} (did : N → List Happening → N → Type 0) (by : Gh
       ∙ grows.2 (place - length old) seat (omega (arith, below, past, ap length grows.1, length-append old grows.0)) in
       record {
         later = story;
+        onward = onward_same story;
         stands = stands;
         sit = record {
           sit = λ place seat below. ⊎_elim
@@ -539,13 +578,14 @@ module _ {N A R : Type 0} (did : N → List Happening → N → Type 0) (by : Gh
       }
 
   -- a call at one place
-  pub all_at : (Was Now : ℕ → ℕ → Life by.said R → SeatState → Type 0) (P Q : Life by.said R → SeatState → Type 0) (place : ℕ) (n1 n2 : N) (a1 a2 : A) (seats : List SeatState) (old new : SeatState) → place < length seats → old ≡ slice_index_or seats place old → ((life : Life by.said R) → Was place heard life old → P life old) → ((life : Life by.said R) → Q life new → Now place heard life new) → ((other : ℕ) (life : Life by.said R) (seat : SeatState) → other ≢ place → Was other heard life seat → Now other heard life seat) → Keeps did by P Q place heard (at n1 a1 old old.kept) (at n2 a2 new new.kept) → KeepsAll did by Was Now (hall n1 a1 seats heard) (hall n2 a2 (slice_set seats place new) heard)
+  pub all_at : (Was Now : ℕ → ℕ → Life by.said R → SeatState → Type 0) (P Q : Life by.said R → SeatState → Type 0) (place : ℕ) (n1 n2 : N) (a1 a2 : A) (seats : List SeatState) (old new : SeatState) → place < length seats → old ≡ slice_index_or seats place old → ((life : Life by.said R) → Was place heard life old → P life old) → ((life : Life by.said R) → Q life new → Now place heard life new) → ((other : ℕ) (life : Life by.said R) (seat : SeatState) → other ≢ place → Was other heard life seat → Now other heard life seat) → Keeps net by P Q place heard (at n1 a1 old old.kept) (at n2 a2 new new.kept) → KeepsAll net by Was Now (hall n1 a1 seats heard) (hall n2 a2 (slice_set seats place new) heard)
   all_at Was Now P Q place n1 n2 a1 a2 seats old new within is ready done same_else keeps = λ first from topic story stands all.
       let one = keeps first from topic story stands (subst (λ (s : SeatState). Sits (by.text topic) heard (life place story) s s.kept) (sym is) (all.sit place old within))
       (ready (life place story) (subst (λ (s : SeatState). Was place heard (life place story) s) (sym is) (all.rest place old within))) in
       let same_len = length-set seats place new in
       record {
         later = one.later;
+        onward = one.onward;
         stands = one.stands;
         sit = record {
           sit = λ other seat below. ⊎_elim
@@ -565,31 +605,45 @@ module _ {N A R : Type 0} (did : N → List Happening → N → Type 0) (by : Gh
       }
 
   -- a call at one place, where all are at rest
-  pub all_rest : (place : ℕ) (n1 n2 : N) (a1 a2 : A) (seats : List SeatState) (old new : SeatState) → place < length seats → old ≡ slice_index_or seats place old → Keeps did by (AtRest heard old.kept) (AtRest heard new.kept) place heard (at n1 a1 old old.kept) (at n2 a2 new new.kept) → KeepsAll did by Resting Resting (hall n1 a1 seats heard) (hall n2 a2 (slice_set seats place new) heard)
+  pub all_rest : (place : ℕ) (n1 n2 : N) (a1 a2 : A) (seats : List SeatState) (old new : SeatState) → place < length seats → old ≡ slice_index_or seats place old → Keeps net by (AtRest heard old.kept) (AtRest heard new.kept) place heard (at n1 a1 old old.kept) (at n2 a2 new new.kept) → KeepsAll net by Resting Resting (hall n1 a1 seats heard) (hall n2 a2 (slice_set seats place new) heard)
   all_rest place n1 n2 a1 a2 seats old new within is keeps = all_at Resting Resting (AtRest heard old.kept) (AtRest heard new.kept) place n1 n2 a1 a2 seats old new within is (λ life so. so) (λ life so. so) (λ other life seat apart so. so) keeps
 
   -- where more was heard
-  pub all_freed : (place : ℕ) (n1 n2 : N) (a1 a2 : A) (seats : List SeatState) (old new : SeatState) → place < length seats → old ≡ slice_index_or seats place old → Keeps did by Gone (Finished true heard) place heard (at n1 a1 old old.kept) (at n2 a2 new new.kept) → KeepsAll did by (FreedBelow place) (FreedBelow (place + 1)) (hall n1 a1 seats heard) (hall n2 a2 (slice_set seats place new) heard)
+  pub all_freed : (place : ℕ) (n1 n2 : N) (a1 a2 : A) (seats : List SeatState) (old new : SeatState) → place < length seats → old ≡ slice_index_or seats place old → Keeps net by Gone (Finished true heard) place heard (at n1 a1 old old.kept) (at n2 a2 new new.kept) → KeepsAll net by (FreedBelow place) (FreedBelow (place + 1)) (hall n1 a1 seats heard) (hall n2 a2 (slice_set seats place new) heard)
   all_freed place n1 n2 a1 a2 seats old new within is keeps = all_at (FreedBelow place) (FreedBelow (place + 1)) Gone (Finished true heard) place n1 n2 a1 a2 seats old new within is (λ life so. so.0) (λ life so. (so.gone, λ below. so)) (λ other life seat apart so. (so.0, λ below. so.1 (omega (arith, apart, below)))) keeps
 
   -- where it is to stop
-  pub all_finished : (was now : Bool) (place : ℕ) (n1 n2 : N) (a1 a2 : A) (seats : List SeatState) (old new : SeatState) → (now ≡ false → was ≡ false) → place < length seats → old ≡ slice_index_or seats place old → Keeps did by (AtRest heard old.kept) (Finished now heard) place heard (at n1 a1 old old.kept) (at n2 a2 new new.kept) → KeepsAll did by (FinishedBelow was place) (FinishedBelow now (place + 1)) (hall n1 a1 seats heard) (hall n2 a2 (slice_set seats place new) heard)
+  pub all_finished : (was now : Bool) (place : ℕ) (n1 n2 : N) (a1 a2 : A) (seats : List SeatState) (old new : SeatState) → (now ≡ false → was ≡ false) → place < length seats → old ≡ slice_index_or seats place old → Keeps net by (AtRest heard old.kept) (Finished now heard) place heard (at n1 a1 old old.kept) (at n2 a2 new new.kept) → KeepsAll net by (FinishedBelow was place) (FinishedBelow now (place + 1)) (hall n1 a1 seats heard) (hall n2 a2 (slice_set seats place new) heard)
   all_finished was now place n1 n2 a1 a2 seats old new goes within is keeps = all_at (FinishedBelow was place) (FinishedBelow now (place + 1)) (AtRest heard old.kept) (Finished now heard) place n1 n2 a1 a2 seats old new within is (λ life so. so.0) (λ life so. (finished_rest now life new so, λ below. so)) (λ other life seat apart so. (so.0, λ below. finished_on was now life seat goes (so.1 (omega (arith, apart, below))))) keeps
 
   -- where no line is answered any more
-  pub all_written : (place : ℕ) (n1 n2 : N) (a1 a2 : A) (seats : List SeatState) (old new : SeatState) → place < length seats → old ≡ slice_index_or seats place old → Keeps did by (Finished true heard) (Finished true heard) place heard (at n1 a1 old old.kept) (at n2 a2 new new.kept) → KeepsAll did by (AllFinished true) (AllFinished true) (hall n1 a1 seats heard) (hall n2 a2 (slice_set seats place new) heard)
+  pub all_written : (place : ℕ) (n1 n2 : N) (a1 a2 : A) (seats : List SeatState) (old new : SeatState) → place < length seats → old ≡ slice_index_or seats place old → Keeps net by (Finished true heard) (Finished true heard) place heard (at n1 a1 old old.kept) (at n2 a2 new new.kept) → KeepsAll net by (AllFinished true) (AllFinished true) (hall n1 a1 seats heard) (hall n2 a2 (slice_set seats place new) heard)
   all_written place n1 n2 a1 a2 seats old new within is keeps = all_at (AllFinished true) (AllFinished true) (Finished true heard) (Finished true heard) place n1 n2 a1 a2 seats old new within is (λ life so. so) (λ life so. so) (λ other life seat apart so. so) keeps
 
-module _ {N A R : Type 0} (did : N → List Happening → N → Type 0) (by : Ghosts A R) where
-  pub all_then : (P Q S : ℕ → ℕ → Life by.said R → SeatState → Type 0) (one two three : Hall N A) → KeepsAll did by P Q one two → KeepsAll did by Q S two three → KeepsAll did by P S one three
+module _ {N A R B : Type 0} (net : ConnectionsGhosts N) (by : Ghosts A R B) where
+  pub all_then : (P Q S : ℕ → ℕ → Life by.said R → SeatState → Type 0) (one two three : Hall N A) → KeepsAll net by P Q one two → KeepsAll net by Q S two three → KeepsAll net by P S one three
   all_then P Q S one two three begun more = λ first from topic story stands sit.
       let then = begun first from topic story stands sit in
-      more first from topic then.later then.stands then.sit
+      let last = more first from topic then.later then.stands then.sit in
+      record { later = last.later; onward = onward_then story then.later last.later then.onward last.onward; stands = last.stands; sit = last.sit }
 
-  pub all_heard_at : (Was : ℕ → ℕ → Life by.said R → SeatState → Type 0) (heard upto now_heard : ℕ) (was now : N) (by_now : A) (seats : List SeatState) → ((place : ℕ) (life : Life by.said R) (seat : SeatState) → Was place heard life seat → Gone life seat) → now_heard ≡ max heard upto → did was (Heard upto ∷ []) now → KeepsAll did by Was (FreedBelow 0) (hall was by_now seats heard) (hall now by_now seats now_heard)
-  all_heard_at Was heard upto now_heard was now by_now seats gone is went = subst (λ (h : ℕ). KeepsAll did by Was (FreedBelow 0) (hall was by_now seats heard) (hall now by_now seats h)) (sym is) (all_heard did by heard Was upto was now by_now seats gone went)
+  -- where one of two calls was told to stop, both were
+  pub all_then_stops : (P Q S : ℕ → ℕ → Life by.said R → SeatState → Type 0) (one two three : Hall N A) → KeepsAll net by P Q one two → StopsAll net by Q S two three → StopsAll net by P S one three
+  all_then_stops P Q S one two three begun more = λ first from topic story stands sit.
+      let then = begun first from topic story stands sit in
+      let last = more first from topic then.later then.stands then.sit in
+      (record { later = last.0.later; onward = onward_then story then.later last.0.later then.onward last.0.onward; stands = last.0.stands; sit = last.0.sit }, last.1)
 
-  settled : (ended : Bool) (heard : ℕ) (topic : by.subject) (story : List (Step by.said R)) (seats : List SeatState) → AllSit did by (AllFinished ended) topic heard story seats → (place : ℕ) → IsSettled (by.text topic) heard ended (life place story)
+  pub all_stops_then : (P Q S : ℕ → ℕ → Life by.said R → SeatState → Type 0) (one two three : Hall N A) → StopsAll net by P Q one two → KeepsAll net by Q S two three → StopsAll net by P S one three
+  all_stops_then P Q S one two three begun more = λ first from topic story stands sit.
+      let then = begun first from topic story stands sit in
+      let last = more first from topic then.0.later then.0.stands then.0.sit in
+      (record { later = last.later; onward = onward_then story then.0.later last.later then.0.onward last.onward; stands = last.stands; sit = last.sit }, stopped_on then.0.later last.onward.0 last.later last.onward.1 then.1)
+
+  pub all_heard_at : (Was : ℕ → ℕ → Life by.said R → SeatState → Type 0) (heard upto now_heard : ℕ) (was now : N) (by_now : A) (seats : List SeatState) → ((place : ℕ) (life : Life by.said R) (seat : SeatState) → Was place heard life seat → Gone life seat) → now_heard ≡ max heard upto → net.did was (Heard upto ∷ []) now → KeepsAll net by Was (FreedBelow 0) (hall was by_now seats heard) (hall now by_now seats now_heard)
+  all_heard_at Was heard upto now_heard was now by_now seats gone is went = subst (λ (h : ℕ). KeepsAll net by Was (FreedBelow 0) (hall was by_now seats heard) (hall now by_now seats h)) (sym is) (all_heard net by heard Was upto was now by_now seats gone went)
+
+  settled : (ended : Bool) (heard : ℕ) (topic : by.subject) (story : List (Step by.said R)) (seats : List SeatState) → AllSit net by (AllFinished ended) topic heard story seats → (place : ℕ) → IsSettled (by.text topic) heard ended (life place story)
   settled ended heard topic story seats all place = ⊎_elim
       (λ within.
       let seat = slice_index_or seats place (fresh_seat 0) in
@@ -601,7 +655,21 @@ module _ {N A R : Type 0} (did : N → List Happening → N → Type 0) (by : Gh
       (cases_lt place (length seats))
 
   -- a whole run
-  pub hosted : (heard : ℕ) (first last : N) (old now : A) (seats : List SeatState) (from : by.origin) → by.comes from [] old → KeepsAll did by Resting (AllFinished (by.ends now)) (hall first old [] 0) (hall last now seats heard) → IsHosted (terms_of did by (by.about old)) (λ xs. by.comes from xs now) (by.ends now) first last
-  hosted heard first last old now seats from comes keeps =
-      let end = keeps first from (by.about old) [] (record { hosts = began; comes = comes; about = refl; hears = refl; knows = λ place here. absurd (false≢true here) }) (record { sit = λ place seat below. absurd (omega (arith, below)); rest = λ place seat below. absurd (omega (arith, below)); beyond = λ place past. refl }) in
-      record { story = end.later; hosts = end.stands.hosts; comes_to = end.stands.comes; settled = λ place. subst (λ (h : ℕ). IsSettled (by.text (by.about old)) h (by.ends now) (life place end.later)) (sym end.stands.hears) (settled (by.ends now) heard (by.about old) end.later seats end.sit place) }
+  module _ (heard : ℕ) (first last : N) (old now : A) (seats : List SeatState) (from : by.origin) (comes : by.comes from [] old) where
+    abbrev Ends : Type 0
+    Ends = GoesOn net by (AllFinished (by.ends now)) first from (by.about old) [] (hall last now seats heard)
+
+    begins : Stands net by first from (by.about old) [] 0 first old
+    begins = record { hosts = began; comes = comes; about = refl; hears = refl; knows = λ place here. absurd (false≢true here) }
+
+    none_sits : AllSit net by Resting (by.about old) 0 [] []
+    none_sits = record { sit = λ place seat below. absurd (omega (arith, below)); rest = λ place seat below. absurd (omega (arith, below)); beyond = λ place past. refl }
+
+    whole : (end : Ends) → (by.ends now ≡ false → IsStopped end.later) → IsHosted (terms_of net by from (by.about old)) (λ xs. by.comes from xs now) (by.ends now) first last
+    whole end stopped = record { story = end.later; hosts = end.stands.hosts; comes_to = end.stands.comes; settled = λ place. subst (λ (h : ℕ). IsSettled (by.text (by.about old)) h (by.ends now) (life place end.later)) (sym end.stands.hears) (settled (by.ends now) heard (by.about old) end.later seats end.sit place); stopped = stopped }
+
+    pub hosted : KeepsAll net by Resting (AllFinished (by.ends now)) (hall first old [] 0) (hall last now seats heard) → (by.ends now ≡ false → StopsAll net by Resting (AllFinished (by.ends now)) (hall first old [] 0) (hall last now seats heard)) → IsHosted (terms_of net by from (by.about old)) (λ xs. by.comes from xs now) (by.ends now) first last
+    hosted keeps stops = ⊎_elim
+        (λ yes. whole (keeps first from (by.about old) [] begins none_sits) (λ no. absurd (false≢true (sym no ∙ yes))))
+        (λ no. let end = stops no first from (by.about old) [] begins none_sits in whole end.0 (λ _. end.1))
+        (cases_Bool (by.ends now))

@@ -14,6 +14,9 @@ pub trait HostAnswers {
     /// What is answered to a line.
     type Reply: Drop;
 
+    /// What is kept of the lines that were answered, as books.
+    type Kept;
+
     /// What a line says.
     ghost said: { Type 0 };
 
@@ -34,6 +37,9 @@ pub trait HostAnswers {
 
     /// What all exchanges, of all connections, have come to from there on.
     ghost comes: { origin → List (Exchange said Self.Reply) → Self → Type 0 };
+
+    /// The lines that were answered stand in what is kept.
+    ghost stands: { origin → List (Exchange said Self.Reply) → Self.Kept → Type 0 };
 
     /// What holds of it before each call.
     ghost fits: { Self → Type 0 };
@@ -100,6 +106,11 @@ pub trait HostAnswers {
     fn put<O: Sink>(&self, output: &mut O, reply: &Self::Reply) -> Result<(), Failed>
         requires { can_put self.now reply.now }
         ensures { IsPut O.Sink output.old output.new (text (about self.now) reply.now) result };
+
+    /// What is kept: all lines that were answered stand there.
+    fn kept(&self) -> &Self::Kept
+        ensures { (from : origin) (exchanges : List (Exchange said Self.Reply))
+            → comes from exchanges self.now → stands from exchanges result.now };
 
     /// How many entries stand.
     fn counted(&self) -> u64

@@ -30,7 +30,7 @@ pub fn come<N: Connections, A: HostAnswers>(
     door: usize,
 )
     requires { A.fits answers.old }
-    ensures keeps { (heard : ℕ) → KeepsAll N.did A.HostAnswers Resting Resting
+    ensures keeps { (heard : ℕ) → KeepsAll N.Connections A.HostAnswers Resting Resting
         (hall network.old answers.old seats.old.items heard)
         (hall network.new answers.new seats.new.items heard) }
     ensures fits { A.fits answers.new }
@@ -60,7 +60,7 @@ pub fn make_room<N: Connections, A: HostAnswers>(
     door: usize,
 )
     requires { A.fits answers.old }
-    ensures keeps { (heard : ℕ) → KeepsAll N.did A.HostAnswers Resting Resting
+    ensures keeps { (heard : ℕ) → KeepsAll N.Connections A.HostAnswers Resting Resting
         (hall network.old answers.old seats.old.items heard)
         (hall network.new answers.new seats.new.items heard) }
     ensures fits { A.fits answers.new }
@@ -102,7 +102,7 @@ fn turn_out<N: Connections, A: HostAnswers>(
     seat: &mut Seat,
 ) -> bool
     requires { A.fits answers.old }
-    ensures keeps { (heard : ℕ) → Keeps N.did A.HostAnswers (AtRest heard seat.old.kept)
+    ensures keeps { (heard : ℕ) → Keeps N.Connections A.HostAnswers (AtRest heard seat.old.kept)
         (AtRest heard seat.new.kept) place heard
         (at network.old answers.old seat.old seat.old.kept)
         (at network.new answers.new seat.new seat.new.kept) }
@@ -152,7 +152,7 @@ fn admit<N: Connections, A: HostAnswers>(
 ) -> bool
     requires lost { seat.old.lost ≡ true }
     requires fits { A.fits answers.old }
-    ensures keeps { (heard : ℕ) → Keeps N.did A.HostAnswers (AtRest heard seat.old.kept)
+    ensures keeps { (heard : ℕ) → Keeps N.Connections A.HostAnswers (AtRest heard seat.old.kept)
         (AtRest heard seat.new.kept) place heard
         (at network.old answers.old seat.old seat.old.kept)
         (at network.new answers.new seat.new seat.new.kept) }

@@ -23,9 +23,10 @@ pub fn finish_all<N: Connections, A: HostAnswers>(
     heard: u64,
 )
     requires { A.fits answers.old }
-    ensures keeps { KeepsAll N.did A.HostAnswers Resting (AllFinished (A.ends answers.new))
+    ensures keeps { KeepsAll N.Connections A.HostAnswers Resting (AllFinished (A.ends answers.new))
         (hall network.old answers.old seats.old.items heard)
         (hall network.new answers.new seats.new.items heard) }
+    ensures ends { A.ends answers.new ≡ false → A.ends answers.old ≡ false }
     ensures fits { A.fits answers.new }
 {
     for place in 0..seats.len() {
@@ -43,11 +44,12 @@ fn finish_at<N: Connections, A: HostAnswers>(
     place: usize,
 )
     requires { A.fits answers.old }
-    ensures keeps { KeepsAll N.did A.HostAnswers (FinishedBelow (A.ends answers.old) place)
+    ensures keeps { KeepsAll N.Connections A.HostAnswers (FinishedBelow (A.ends answers.old) place)
         (FinishedBelow (A.ends answers.new) (place + 1))
         (hall network.old answers.old seats.old.items heard)
         (hall network.new answers.new seats.new.items heard) }
     ensures same { length seats.new.items ≡ length seats.old.items }
+    ensures ends { A.ends answers.new ≡ false → A.ends answers.old ≡ false }
     ensures fits { A.fits answers.new }
 {
     let Some(seat) = seats.get_mut(place) else {
@@ -67,7 +69,7 @@ fn finish_seat<N: Connections, A: HostAnswers>(
     seat: &mut Seat,
 ) -> bool
     requires { A.fits answers.old }
-    ensures keeps { Keeps N.did A.HostAnswers (AtRest heard seat.old.kept)
+    ensures keeps { Keeps N.Connections A.HostAnswers (AtRest heard seat.old.kept)
         (Finished (A.ends answers.new) heard) place heard
         (at network.old answers.old seat.old seat.old.kept)
         (at network.new answers.new seat.new seat.new.kept) }
@@ -102,7 +104,7 @@ pub fn write_out<N: Connections, A: HostAnswers>(
     places: &mut Places,
 )
     requires { A.fits answers.old }
-    ensures keeps { KeepsAll N.did A.HostAnswers (AllFinished true) (AllFinished true)
+    ensures keeps { KeepsAll N.Connections A.HostAnswers (AllFinished true) (AllFinished true)
         (hall network.old answers.old places.old.seats.items places.old.heard)
         (hall network.new answers.new places.new.seats.items places.new.heard) }
     ensures ends { A.ends answers.new ≡ A.ends answers.old }
@@ -138,7 +140,7 @@ fn write_round<N: Connections, A: HostAnswers>(
     places: &mut Places,
 ) -> bool
     requires { A.fits answers.old }
-    ensures keeps { KeepsAll N.did A.HostAnswers (AllFinished true) (AllFinished true)
+    ensures keeps { KeepsAll N.Connections A.HostAnswers (AllFinished true) (AllFinished true)
         (hall network.old answers.old places.old.seats.items places.old.heard)
         (hall network.new answers.new places.new.seats.items places.new.heard) }
     ensures ends { A.ends answers.new ≡ A.ends answers.old }
@@ -169,7 +171,7 @@ fn write_at<N: Connections, A: HostAnswers>(
     place: usize,
 )
     requires { A.fits answers.old }
-    ensures keeps { (heard : ℕ) → KeepsAll N.did A.HostAnswers (AllFinished true) (AllFinished true)
+    ensures keeps { (heard : ℕ) → KeepsAll N.Connections A.HostAnswers (AllFinished true) (AllFinished true)
         (hall network.old answers.old seats.old.items heard)
         (hall network.new answers.new seats.new.items heard) }
     ensures ends { A.ends answers.new ≡ A.ends answers.old }
@@ -191,7 +193,7 @@ fn write_seat<N: Connections, A: HostAnswers>(
     seat: &mut Seat,
 ) -> bool
     requires { A.fits answers.old }
-    ensures keeps { (heard : ℕ) → Keeps N.did A.HostAnswers (Finished true heard)
+    ensures keeps { (heard : ℕ) → Keeps N.Connections A.HostAnswers (Finished true heard)
         (Finished true heard) place heard
         (at network.old answers.old seat.old seat.old.kept)
         (at network.new answers.new seat.new seat.new.kept) }

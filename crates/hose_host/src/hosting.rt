@@ -2,7 +2,7 @@
 ghost use Rattle.std.specs.Bool.{MatchBool};
 ghost use Rattle.std.specs.Prelude.{◌≡◌, ◌≢◌, ◌↔◌, ◌<◌, ◌≤◌, ◌+◌, ℕ, List, [], ◌∷◌, ◌++◌, true, false, drop, length, max, IfSome, IsTrue, MatchOption};
 ghost use Rattle.hose_net.specs.Story.{IsHosted};
-ghost use Rattle.hose_host.specs.steps.Keeping.{KeepsAll, hall};
+ghost use Rattle.hose_host.specs.steps.Keeping.{KeepsAll, StopsAll, hall};
 ghost use Rattle.hose_host.specs.steps.Seats.{AllFinished, Anyhow, AtRest, Calm, Finished, FinishedBelow, Freed, FreedBelow, Gone, GrowsByLost, IsSaid, Keeping, Quiet, Resting};
 
 use crate::coming::{come, make_room};
@@ -30,6 +30,8 @@ pub fn host<R: Wait, N: Connections, A: HostAnswers>(
     ensures hosted { (from : A.origin) → A.comes from [] answers.old
         → IsHosted (record {
           did = N.did;
+          saw = N.saw A.Kept;
+          stands = A.stands from;
           says = A.says (A.about answers.old);
           text = A.text (A.about answers.old);
         }) (λ exchanges. A.comes from exchanges answers.new) (A.ends answers.new)
@@ -57,7 +59,11 @@ pub fn turn<N: Connections, A: HostAnswers>(
     piece: &mut [u8],
 ) -> bool
     requires { A.fits answers.old }
-    ensures keeps { KeepsAll N.did A.HostAnswers Resting Resting
+    ensures keeps { KeepsAll N.Connections A.HostAnswers Resting Resting
+        (hall network.old answers.old places.old.seats.items places.old.heard)
+        (hall network.new answers.new places.new.seats.items places.new.heard) }
+    ensures stops { result ≡ false → A.ends answers.new ≡ false
+        → StopsAll N.Connections A.HostAnswers Resting Resting
         (hall network.old answers.old places.old.seats.items places.old.heard)
         (hall network.new answers.new places.new.seats.items places.new.heard) }
     ensures fits { A.fits answers.new }
@@ -103,9 +109,10 @@ pub fn turn<N: Connections, A: HostAnswers>(
 // be sent to those who take it.
 fn finish<N: Connections, A: HostAnswers>(network: &mut N, answers: &mut A, places: &mut Places)
     requires { A.fits answers.old }
-    ensures keeps { KeepsAll N.did A.HostAnswers Resting (AllFinished (A.ends answers.new))
+    ensures keeps { KeepsAll N.Connections A.HostAnswers Resting (AllFinished (A.ends answers.new))
         (hall network.old answers.old places.old.seats.items places.old.heard)
         (hall network.new answers.new places.new.seats.items places.new.heard) }
+    ensures ends { A.ends answers.new ≡ false → A.ends answers.old ≡ false }
     ensures fits { A.fits answers.new }
 {
     let heard = places.heard;

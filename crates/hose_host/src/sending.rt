@@ -17,7 +17,7 @@ pub fn send<N: Connections, A: HostAnswers>(
     seat: &mut Seat,
 )
     ensures { (heard : ℕ) (kept : List ℕ)
-        → Keeps N.did A.HostAnswers (Freed heard kept) (Quiet heard kept) place heard
+        → Keeps N.Connections A.HostAnswers (Freed heard kept) (Quiet heard kept) place heard
         (at network.old answers.now seat.old kept) (at network.new answers.now seat.new kept) }
 {
     while send_piece(network, answers, place, seat) {}
@@ -26,15 +26,15 @@ pub fn send<N: Connections, A: HostAnswers>(
 // Sends a piece of what is to be sent, and says whether it may go on.
 fn send_piece<N: Connections, A: HostAnswers>(
     network: &mut N,
-    _answers: &A,
+    answers: &A,
     place: usize,
     seat: &mut Seat,
 ) -> bool
     ensures keeps { (heard : ℕ) (kept : List ℕ) → MatchBool result
-        (Keeps N.did A.HostAnswers (Freed heard kept) (Freed heard kept) place heard
-        (at network.old _answers.now seat.old kept) (at network.new _answers.now seat.new kept))
-        (Keeps N.did A.HostAnswers (Freed heard kept) (Quiet heard kept) place heard
-        (at network.old _answers.now seat.old kept) (at network.new _answers.now seat.new kept)) }
+        (Keeps N.Connections A.HostAnswers (Freed heard kept) (Freed heard kept) place heard
+        (at network.old answers.now seat.old kept) (at network.new answers.now seat.new kept))
+        (Keeps N.Connections A.HostAnswers (Freed heard kept) (Quiet heard kept) place heard
+        (at network.old answers.now seat.old kept) (at network.new answers.now seat.new kept)) }
     ensures progress { IsTrue result → length seat.new.output < length seat.old.output }
 {
     if seat.is_lost() {
@@ -44,7 +44,7 @@ fn send_piece<N: Connections, A: HostAnswers>(
     if unsent.is_empty() {
         return false;
     }
-    match network.write(place, unsent) {
+    match network.write(place, unsent, answers.kept()) {
         Ok(count) => {
             seat.was_sent(count);
             true
@@ -66,7 +66,7 @@ pub fn leave<N: Connections, A: HostAnswers>(
 )
     requires lost { seat.now.lost ≡ true }
     requires fits { A.fits answers.old }
-    ensures keeps { (heard : ℕ) (coming : List ℕ) → Keeps N.did A.HostAnswers Anyhow
+    ensures keeps { (heard : ℕ) (coming : List ℕ) → Keeps N.Connections A.HostAnswers Anyhow
         (Finished false heard) place heard (at network.old answers.old seat.now coming)
         (at network.new answers.new seat.now seat.now.kept) }
     ensures ends { A.ends answers.new ≡ A.ends answers.old }
@@ -85,11 +85,11 @@ pub fn let_go<N: Connections, A: HostAnswers>(
     seat: &mut Seat,
 ) -> bool
     requires { A.fits answers.old }
-    ensures calm { (heard : ℕ) → Keeps N.did A.HostAnswers (Calm heard seat.old.kept)
+    ensures calm { (heard : ℕ) → Keeps N.Connections A.HostAnswers (Calm heard seat.old.kept)
         (AtRest heard seat.new.kept) place heard
         (at network.old answers.old seat.old seat.old.kept)
         (at network.new answers.new seat.new seat.new.kept) }
-    ensures quiet { (heard : ℕ) → Keeps N.did A.HostAnswers (Quiet heard seat.old.kept)
+    ensures quiet { (heard : ℕ) → Keeps N.Connections A.HostAnswers (Quiet heard seat.old.kept)
         (Finished true heard) place heard
         (at network.old answers.old seat.old seat.old.kept)
         (at network.new answers.new seat.new seat.new.kept) }
@@ -123,7 +123,7 @@ pub fn free_all<N: Connections, A: HostAnswers>(
     heard: u64,
 )
     requires { A.fits answers.old }
-    ensures keeps { KeepsAll N.did A.HostAnswers (FreedBelow 0) (AllFinished true)
+    ensures keeps { KeepsAll N.Connections A.HostAnswers (FreedBelow 0) (AllFinished true)
         (hall network.old answers.old seats.old.items heard)
         (hall network.new answers.new seats.new.items heard) }
     ensures ends { A.ends answers.new ≡ A.ends answers.old }
@@ -144,7 +144,7 @@ fn free_at<N: Connections, A: HostAnswers>(
     place: usize,
 )
     requires { A.fits answers.old }
-    ensures keeps { KeepsAll N.did A.HostAnswers (FreedBelow place) (FreedBelow (place + 1))
+    ensures keeps { KeepsAll N.Connections A.HostAnswers (FreedBelow place) (FreedBelow (place + 1))
         (hall network.old answers.old seats.old.items heard)
         (hall network.new answers.new seats.new.items heard) }
     ensures same { length seats.new.items ≡ length seats.old.items }
@@ -169,7 +169,7 @@ fn free_seat<N: Connections, A: HostAnswers>(
     seat: &mut Seat,
 ) -> bool
     requires { A.fits answers.old }
-    ensures keeps { Keeps N.did A.HostAnswers Gone (Finished true heard) place heard
+    ensures keeps { Keeps N.Connections A.HostAnswers Gone (Finished true heard) place heard
         (at network.old answers.old seat.old seat.old.kept)
         (at network.new answers.new seat.new seat.new.kept) }
     ensures ends { A.ends answers.new ≡ A.ends answers.old }
@@ -194,7 +194,7 @@ fn ask_if<N: Connections, A: HostAnswers>(
     _seat: &Seat,
 )
     ensures { (heard : ℕ) (kept : List ℕ)
-        → Keeps N.did A.HostAnswers (Quiet heard kept) (Quiet heard kept) place heard
+        → Keeps N.Connections A.HostAnswers (Quiet heard kept) (Quiet heard kept) place heard
         (at network.old _answers.now _seat.now kept) (at network.new _answers.now _seat.now kept) }
 {
     if full {
@@ -211,7 +211,7 @@ fn release<N: Connections, A: HostAnswers>(
     seat: &mut Seat,
 )
     ensures { (kept : List ℕ)
-        → Keeps N.did A.HostAnswers (Keeping kept) (Freed heard kept) place heard
+        → Keeps N.Connections A.HostAnswers (Keeping kept) (Freed heard kept) place heard
         (at network.now answers.now seat.old kept) (at network.now answers.now seat.new kept) }
 {
     while release_one(network, answers, heard, place, seat) {}
@@ -226,9 +226,9 @@ fn release_one<N: Connections, A: HostAnswers>(
     seat: &mut Seat,
 ) -> bool
     ensures keeps { (kept : List ℕ) → MatchBool result
-        (Keeps N.did A.HostAnswers (Keeping kept) (Keeping kept) _place heard
+        (Keeps N.Connections A.HostAnswers (Keeping kept) (Keeping kept) _place heard
         (at _network.now _answers.now seat.old kept) (at _network.now _answers.now seat.new kept))
-        (Keeps N.did A.HostAnswers (Keeping kept) (Freed heard kept) _place heard
+        (Keeps N.Connections A.HostAnswers (Keeping kept) (Freed heard kept) _place heard
         (at _network.now _answers.now seat.old kept) (at _network.now _answers.now seat.new kept)) }
     ensures progress { IsTrue result → length seat.new.later < length seat.old.later }
 {

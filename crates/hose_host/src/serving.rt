@@ -33,7 +33,7 @@ pub fn attend<N: Connections, A: HostAnswers>(
     piece: &mut [u8],
 )
     requires { A.fits answers.old }
-    ensures keeps { KeepsAll N.did A.HostAnswers Resting Resting
+    ensures keeps { KeepsAll N.Connections A.HostAnswers Resting Resting
         (hall network.old answers.old seats.old.items heard)
         (hall network.new answers.new seats.new.items heard) }
     ensures fits { A.fits answers.new }
@@ -56,7 +56,7 @@ fn serve<N: Connections, A: HostAnswers>(
     piece: &mut [u8],
 ) -> bool
     requires { A.fits answers.old }
-    ensures keeps { Keeps N.did A.HostAnswers (AtRest heard seat.old.kept)
+    ensures keeps { Keeps N.Connections A.HostAnswers (AtRest heard seat.old.kept)
         (AtRest heard seat.new.kept) place heard
         (at network.old answers.old seat.old seat.old.kept)
         (at network.new answers.new seat.new seat.new.kept) }
@@ -77,7 +77,7 @@ fn send_due<N: Connections, A: HostAnswers>(
     place: usize,
     seat: &mut Seat,
 )
-    ensures { (heard : ℕ) → Keeps N.did A.HostAnswers (Calm heard seat.old.kept)
+    ensures { (heard : ℕ) → Keeps N.Connections A.HostAnswers (Calm heard seat.old.kept)
         (Calm heard seat.new.kept) place heard
         (at network.old answers.now seat.old seat.old.kept)
         (at network.new answers.now seat.new seat.new.kept) }
@@ -99,7 +99,7 @@ fn read<N: Connections, A: HostAnswers>(
     piece: &mut [u8],
 )
     requires { A.fits answers.old }
-    ensures keeps { Keeps N.did A.HostAnswers (Calm heard seat.old.kept) (Calm heard seat.new.kept)
+    ensures keeps { Keeps N.Connections A.HostAnswers (Calm heard seat.old.kept) (Calm heard seat.new.kept)
         place heard (at network.old answers.old seat.old seat.old.kept)
         (at network.new answers.new seat.new seat.new.kept) }
     ensures fits { A.fits answers.new }
@@ -147,7 +147,7 @@ fn take_turn<N: Connections, A: HostAnswers>(
 )
     requires fits { A.fits answers.old }
     requires sits { seat.old.lost ≡ false }
-    ensures keeps { Keeps N.did A.HostAnswers (Calm heard seat.old.kept) (Freed heard seat.new.kept)
+    ensures keeps { Keeps N.Connections A.HostAnswers (Calm heard seat.old.kept) (Freed heard seat.new.kept)
         place heard (at network.old answers.old seat.old seat.old.kept)
         (at network.new answers.new seat.new seat.new.kept) }
     ensures fits { A.fits answers.new }
@@ -168,7 +168,7 @@ fn end_turn<N: Connections, A: HostAnswers>(
     place: usize,
     seat: &mut Seat,
 )
-    ensures { (heard : ℕ) → Keeps N.did A.HostAnswers (Freed heard seat.old.kept)
+    ensures { (heard : ℕ) → Keeps N.Connections A.HostAnswers (Freed heard seat.old.kept)
         (Calm heard seat.new.kept) place heard
         (at network.old answers.now seat.old seat.old.kept)
         (at network.new answers.now seat.new seat.new.kept) }
@@ -196,7 +196,7 @@ fn ask_for_rest<N: Connections, A: HostAnswers>(
     seat: &Seat,
 )
     ensures { (heard : ℕ) (kept : List ℕ)
-        → Keeps N.did A.HostAnswers (Quiet heard kept) (Quiet heard kept) place heard
+        → Keeps N.Connections A.HostAnswers (Quiet heard kept) (Quiet heard kept) place heard
         (at network.old answers.now seat.now kept) (at network.new answers.now seat.now kept) }
 {
     if goes_on(answers, place, seat) {
@@ -216,7 +216,7 @@ pub fn take_kept<N: Connections, A: HostAnswers>(
     output: usize,
 )
     requires { A.fits answers.old }
-    ensures keeps { Keeps N.did A.HostAnswers (Calm heard seat.old.kept) (Freed heard seat.new.kept)
+    ensures keeps { Keeps N.Connections A.HostAnswers (Calm heard seat.old.kept) (Freed heard seat.new.kept)
         place heard (at network.now answers.old seat.old seat.old.kept)
         (at network.now answers.new seat.new seat.new.kept) }
     ensures ends { A.ends answers.new ≡ false → A.ends answers.old ≡ false }
@@ -241,7 +241,7 @@ fn read_piece<N: Connections, A: HostAnswers>(
     requires fits { A.fits answers.old }
     requires sits { seat.old.lost ≡ false }
     requires out { seat.old.output ≡ [] }
-    ensures keeps { Keeps N.did A.HostAnswers (Calm heard []) (Freed heard seat.new.kept)
+    ensures keeps { Keeps N.Connections A.HostAnswers (Calm heard []) (Freed heard seat.new.kept)
         place heard (at network.old answers.old seat.old [])
         (at network.new answers.new seat.new seat.new.kept) }
     ensures fits { A.fits answers.new }
@@ -263,7 +263,7 @@ fn take_piece<N: Connections, A: HostAnswers>(
     piece: &[u8],
 )
     requires { A.fits answers.old }
-    ensures keeps { Keeps N.did A.HostAnswers (Freed heard []) (Freed heard seat.new.kept) place
+    ensures keeps { Keeps N.Connections A.HostAnswers (Freed heard []) (Freed heard seat.new.kept) place
         heard (at network.now answers.old seat.old piece.now)
         (at network.now answers.new seat.new seat.new.kept) }
     ensures fits { A.fits answers.new }
@@ -287,7 +287,7 @@ fn take_some<N: Connections, A: HostAnswers>(
 ) -> usize
     requires fits { A.fits answers.old }
     requires bound { looked ≤ length piece.now }
-    ensures keeps { Keeps N.did A.HostAnswers (Freed heard []) (Freed heard []) place heard
+    ensures keeps { Keeps N.Connections A.HostAnswers (Freed heard []) (Freed heard []) place heard
         (at network.now answers.old seat.old (drop looked piece.now))
         (at network.now answers.new seat.new (drop result piece.now)) }
     ensures bound { result ≤ length piece.now }
@@ -317,7 +317,7 @@ fn take_line<N: Connections, A: HostAnswers>(
     requires fits { A.fits answers.old }
     requires open { A.over answers.old place ≡ false }
     requires goes_on { A.ends answers.old ≡ false }
-    ensures keeps { Keeps N.did A.HostAnswers (Freed heard []) (Freed heard []) place heard
+    ensures keeps { Keeps N.Connections A.HostAnswers (Freed heard []) (Freed heard []) place heard
         (at network.now answers.old seat.old bytes.now)
         (at network.now answers.new seat.new (drop result bytes.now)) }
     ensures bound { result ≤ length bytes.now }
@@ -344,7 +344,7 @@ fn answer_line<N: Connections, A: HostAnswers>(
     requires open { A.over answers.old place ≡ false }
     requires goes_on { A.ends answers.old ≡ false }
     ensures keeps { (coming : List ℕ)
-        → Keeps N.did A.HostAnswers (Freed heard []) (Freed heard []) place heard
+        → Keeps N.Connections A.HostAnswers (Freed heard []) (Freed heard []) place heard
         (at _network.now answers.old seat.old (10 ∷ coming))
         (at _network.now answers.new seat.new coming) }
     ensures fits { A.fits answers.new }

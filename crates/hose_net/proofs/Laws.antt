@@ -5,8 +5,8 @@ use Rattle.std.proofs.lemmas.Bool.{cases_eq}
 use Rattle.std.specs.List.{fold}
 use Rattle.std.specs.Prelude.{get_or, ⊤}
 use Rattle.std.proofs.lemmas.List.Elements.{All-head, All-nil, All-push, All-tail}
-use Rattle.hose_net.specs.Happening.{Came, Got, Happening, Heard, Left, Refused, Sent}
-use Rattle.hose_net.specs.Story.{Answers, Exchange, Happens, Hosts, IsHosted, Life, Step, Terms, began, waited, happened, answered, exchanges, heard_in, is_empty, life, lives, newcomer, nobody, texts_of}
+use Rattle.hose_net.specs.Happening.{Came, Got, Happening, Heard, Left, Refused, Sent, Stopped}
+use Rattle.hose_net.specs.Story.{Answers, Exchange, Happens, Hosts, IsHosted, IsKept, Life, Step, Terms, began, waited, happened, answered, exchanges, heard_in, is_empty, life, lives, newcomer, nobody, texts_of}
 use Rattle.hose_net.proofs.Stories.{exchanges-happens, exchanges-push, life-answers, life-other_answers, life-push, served_now}
 
 module _ {L R : Type 0} (text : R → List ℕ) (heard : ℕ) where
@@ -34,6 +34,7 @@ module _ {L R : Type 0} (P : Exchange L R → Type 0) (place : ℕ) where
   own_on start (Happens (Refused at) ∷ story) begun all = own_on (lives place start (Happens (Refused at))) story (cond_own (eqb at place) (record start { refused = true }) start begun begun) all
   own_on start (Happens (Left at) ∷ story) begun all = own_on (lives place start (Happens (Left at))) story (cond_own (eqb at place) (record start { here = false }) start begun begun) all
   own_on start (Happens (Heard upto) ∷ story) begun all = own_on start story begun all
+  own_on start (Happens Stopped ∷ story) begun all = own_on start story begun all
   own_on start (Answers exchange ∷ story) begun all = own_on (lives place start (Answers exchange)) story (cond_own (eqb exchange.place place) (record start { own = start.own ++ exchange ∷ [] }) start (All-push P start.own exchange begun (All-head P exchange (exchanges story) all)) begun) (All-tail P exchange (exchanges story) all)
 
 -- the first of these exchanges is the first of its connection, and no other is
@@ -57,13 +58,14 @@ module _ {L R : Type 0} where
   session_happens place life (Refused at) session = cond_session (eqb at place) (record life { refused = true }) life session session
   session_happens place life (Left at) session = cond_session (eqb at place) (record life { here = false }) life session session
   session_happens place life (Heard upto) session = session
+  session_happens place life Stopped session = session
 
-module _ {N L R : Type 0} (terms : Terms N L R) (first : N) where
+module _ {N B L R : Type 0} (terms : Terms N B L R) (first : N) where
   -- of the exchanges of a connection the first alone is told as such
   pub law_first : (story : List (Step L R)) (now : N) → Hosts terms first story now → (place : ℕ) → IsSession (life place story).own
   law_first _ _ began place = tt
   law_first _ _ (waited before did) place = law_first _ _ before place
-  law_first _ _ (happened {story} happening free before did served) place = subst (λ (l : Life L R). IsSession l.own) (sym (life-push place story (Happens happening))) (session_happens place (life place story) happening (law_first _ _ before place))
+  law_first _ _ (happened {story} happening free before did kept served) place = subst (λ (l : Life L R). IsSession l.own) (sym (life-push place story (Happens happening))) (session_happens place (life place story) happening (law_first _ _ before place))
   law_first _ _ (answered {story} exchange before is_first says served) place = ⊎_elim
       (λ same. subst (λ (p : ℕ). IsSession (life p (story ++ Answers exchange ∷ [])).own) (sym same) (subst (λ (l : Life L R). IsSession l.own) (sym (life-answers exchange story)) (session_push (life exchange.place story).own exchange is_first (law_first _ _ before exchange.place))))
       (λ apart. subst (λ (l : Life L R). IsSession l.own) (sym (life-other_answers place story exchange apart)) (law_first _ _ before place))
@@ -80,7 +82,7 @@ module _ {N L R : Type 0} (terms : Terms N L R) (first : N) where
   pub all_such : (Such : ℕ → L → Type 0) → ((is_first : Bool) (door : ℕ) (line : List ℕ) (said : L) → terms.says is_first door line said → Such door said) → (story : List (Step L R)) (now : N) → Hosts terms first story now → All (λ (x : Exchange L R). Such x.door x.said) (exchanges story)
   all_such Such is _ _ began = All-nil (λ (x : Exchange L R). Such x.door x.said)
   all_such Such is _ _ (waited before did) = all_such Such is _ _ before
-  all_such Such is _ _ (happened {story} happening free before did served) = subst (All (λ (x : Exchange L R). Such x.door x.said)) (sym (exchanges-happens story happening)) (all_such Such is _ _ before)
+  all_such Such is _ _ (happened {story} happening free before did kept served) = subst (All (λ (x : Exchange L R). Such x.door x.said)) (sym (exchanges-happens story happening)) (all_such Such is _ _ before)
   all_such Such is _ _ (answered {story} exchange before is_first says served) = subst (All (λ (x : Exchange L R). Such x.door x.said)) (sym (exchanges-push story exchange)) (All-push (λ (x : Exchange L R). Such x.door x.said) (exchanges story) exchange (all_such Such is _ _ before) (is exchange.first exchange.door exchange.line exchange.said says))
 
   -- and so is each exchange of a connection, by the door by which it came
@@ -90,6 +92,23 @@ module _ {N L R : Type 0} (terms : Terms N L R) (first : N) where
       let own = own_on (λ (x : Exchange L R). Such x.door x.said) place nobody story (All-nil (λ (x : Exchange L R). Such x.door x.said)) (all_such Such is story now hosts) in
       λ i d below. subst (λ (door : ℕ). Such door (get_or (life place story).own i d).said) (served.lines i d below).0 (own i d below)
 
-  -- the same story, which comes to something weaker
-  pub hosted_on : (comes ends : List (Exchange L R) → Type 0) (ended : Bool) → ((xs : List (Exchange L R)) → comes xs → ends xs) → (last : N) → IsHosted terms comes ended first last → IsHosted terms ends ended first last
-  hosted_on comes ends ended to last hosted = record { story = hosted.story; hosts = hosted.hosts; comes_to = to (exchanges hosted.story) hosted.comes_to; settled = hosted.settled }
+  -- the same story, of which something weaker is said of what is kept
+  kept_on : (Stands : List (Exchange L R) → B → Type 0) → ((xs : List (Exchange L R)) (kept : B) → terms.stands xs kept → Stands xs kept) → (story : List (Step L R)) (was now : N) (happening : Happening) → IsKept terms story was happening now → IsKept (record terms { stands = Stands }) story was happening now
+  kept_on Stands to story was now (Came door place) kept = tt
+  kept_on Stands to story was now (Got place bytes) kept = tt
+  kept_on Stands to story was now (Sent place bytes) kept = (kept.0, kept.1, to (exchanges story) kept.0 kept.2)
+  kept_on Stands to story was now (Refused place) kept = tt
+  kept_on Stands to story was now (Left place) kept = tt
+  kept_on Stands to story was now (Heard upto) kept = tt
+  kept_on Stands to story was now Stopped kept = tt
+
+  pub hosts_on : (Stands : List (Exchange L R) → B → Type 0) → ((xs : List (Exchange L R)) (kept : B) → terms.stands xs kept → Stands xs kept) → (story : List (Step L R)) (now : N) → Hosts terms first story now → Hosts (record terms { stands = Stands }) first story now
+  hosts_on Stands to _ _ began = began
+  hosts_on Stands to _ _ (waited {story} {was} before did) = waited (hosts_on Stands to story was before) did
+  hosts_on Stands to _ now (happened {story} {was} happening free before did kept served) = happened happening free (hosts_on Stands to story was before) did (kept_on Stands to story was now happening kept) served
+  hosts_on Stands to _ _ (answered {story} {now} exchange before is_first says served) = answered exchange (hosts_on Stands to story now before) is_first says served
+
+  -- the same story, which comes to something weaker, of which something weaker is said of what is
+  -- kept
+  pub hosted_on : (Stands : List (Exchange L R) → B → Type 0) (comes ends : List (Exchange L R) → Type 0) (ended : Bool) → ((xs : List (Exchange L R)) (kept : B) → terms.stands xs kept → Stands xs kept) → ((xs : List (Exchange L R)) → comes xs → ends xs) → (last : N) → IsHosted terms comes ended first last → IsHosted (record terms { stands = Stands }) ends ended first last
+  hosted_on Stands comes ends ended kept to last hosted = record { story = hosted.story; hosts = hosts_on Stands kept hosted.story last hosted.hosts; comes_to = to (exchanges hosted.story) hosted.comes_to; settled = hosted.settled; stopped = hosted.stopped }

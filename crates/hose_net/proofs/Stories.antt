@@ -1,10 +1,10 @@
 -- Stories, one step on.
-use Rattle.std.proofs.Common.{◌≡◌, ◌≢◌, ◌∙◌, ℕ, ◌≤◌, arith, max, Bool, true, false, cond, List, [], ◌∷◌, ◌++◌, refl, sym, ap, subst, ⊎_elim}
+use Rattle.std.proofs.Common.{◌≡◌, ◌≢◌, ◌∙◌, ℕ, ◌≤◌, arith, max, Bool, true, false, cond, List, [], ◌∷◌, ◌++◌, refl, sym, ap, subst, append_assoc, ⊎_elim}
 use Rattle.std.proofs.lemmas.Bool.{cases_eq, eq-eqb, ne_eqb}
 use Rattle.std.proofs.lemmas.List.Elements.{All-nil, All-weaker}
 use Rattle.std.proofs.lemmas.List.Sums.{fold-append}
-use Rattle.hose_net.specs.Happening.{Came, Got, Happening, Heard, Left, Refused, Sent}
-use Rattle.hose_net.specs.Story.{Answers, Exchange, Happens, AllServed, Hosts, IsByDoor, IsServed, Life, Step, Terms, began, waited, happened, answered, exchanges, heard_in, hears, life, lives, newcomer, nobody}
+use Rattle.hose_net.specs.Happening.{Came, Got, Happening, Heard, Left, Refused, Sent, Stopped}
+use Rattle.hose_net.specs.Story.{Answers, Exchange, Happens, AllServed, Hosts, IsByDoor, IsServed, IsStopped, Life, Step, Terms, began, waited, happened, answered, exchanges, heard_in, hears, life, lives, newcomer, nobody}
 
 -- something happened at a place
 abbrev pub IsAt : ℕ → Happening → Type 0
@@ -14,6 +14,7 @@ IsAt place (Sent at bytes) = place ≡ at
 IsAt place (Refused at) = place ≡ at
 IsAt place (Left at) = place ≡ at
 IsAt place (Heard upto) = ⊥
+IsAt place Stopped = ⊥
 
 module _ {L R : Type 0} where
   pub life-push : (place : ℕ) (story : List (Step L R)) (step : Step L R) → life place (story ++ step ∷ []) ≡ lives place (life place story) step
@@ -37,12 +38,16 @@ module _ {L R : Type 0} where
   life-other other place story (Refused at) here apart = life-push other story _ ∙ ap (λ (b : Bool). cond b (record (life other story) { refused = true }) (life other story)) (ne_eqb at other (λ same. apart (sym same ∙ sym here)))
   life-other other place story (Left at) here apart = life-push other story _ ∙ ap (λ (b : Bool). cond b (record (life other story) { here = false }) (life other story)) (ne_eqb at other (λ same. apart (sym same ∙ sym here)))
   life-other other place story (Heard upto) here apart = absurd here
+  life-other other place story Stopped here apart = absurd here
 
   pub life-other_answers : (other : ℕ) (story : List (Step L R)) (exchange : Exchange L R) → other ≢ exchange.place → life other (story ++ Answers exchange ∷ []) ≡ life other story
   life-other_answers other story exchange apart = life-push other story _ ∙ ap (λ (b : Bool). cond b (record (life other story) { own = (life other story).own ++ exchange ∷ [] }) (life other story)) (ne_eqb exchange.place other (λ same. apart (sym same)))
 
   pub life-heard : (place upto : ℕ) (story : List (Step L R)) → life place (story ++ Happens (Heard upto) ∷ []) ≡ life place story
   life-heard place upto story = life-push place story _
+
+  pub life-stopped : (place : ℕ) (story : List (Step L R)) → life place (story ++ Happens Stopped ∷ []) ≡ life place story
+  life-stopped place story = life-push place story _
 
   pub heard-push : (story : List (Step L R)) (step : Step L R) → heard_in (story ++ step ∷ []) ≡ hears (heard_in story) step
   heard-push story step = fold-append hears 0 story (step ∷ [])
@@ -54,6 +59,7 @@ module _ {L R : Type 0} where
   heard-same place story (Refused at) here = heard-push story _
   heard-same place story (Left at) here = heard-push story _
   heard-same place story (Heard upto) here = absurd here
+  heard-same place story Stopped here = absurd here
 
   -- at its own place
   pub life-came : (door place : ℕ) (story : List (Step L R)) → life place (story ++ Happens (Came door place) ∷ []) ≡ newcomer door
@@ -74,7 +80,14 @@ module _ {L R : Type 0} where
   pub life-answers : (exchange : Exchange L R) (story : List (Step L R)) → life exchange.place (story ++ Answers exchange ∷ []) ≡ record (life exchange.place story) { own = (life exchange.place story).own ++ exchange ∷ [] }
   life-answers exchange story = life-push exchange.place story _ ∙ ap (λ (b : Bool). cond b (record (life exchange.place story) { own = (life exchange.place story).own ++ exchange ∷ [] }) (life exchange.place story)) (eq-eqb exchange.place exchange.place refl)
 
-module _ {N L R : Type 0} (terms : Terms N L R) where
+  -- it was told to stop just now, and stays told
+  pub stopped_now : (story : List (Step L R)) → IsStopped (story ++ Happens Stopped ∷ [])
+  stopped_now story = (story, [], refl)
+
+  pub stopped_on : (story more later : List (Step L R)) → story ++ more ≡ later → IsStopped story → IsStopped later
+  stopped_on story more later is stopped = (stopped.0, stopped.1 ++ more, sym is ∙ ap (λ (xs : List (Step L R)). xs ++ more) stopped.2 ∙ append_assoc stopped.0 (Happens Stopped ∷ stopped.1) more)
+
+module _ {N B L R : Type 0} (terms : Terms N B L R) where
   -- each connection is served, where one is and the others were
   pub served_too : (place : ℕ) (story later : List (Step L R)) → ((other : ℕ) → other ≢ place → life other later ≡ life other story) → heard_in later ≡ heard_in story → AllServed terms story → IsServed terms.text (heard_in later) (life place later) → AllServed terms later
   served_too place story later others heard before here other = ⊎_elim
@@ -89,7 +102,7 @@ module _ {N L R : Type 0} (terms : Terms N L R) where
   pub served_now : (first : N) (story : List (Step L R)) (now : N) → Hosts terms first story now → AllServed terms story
   served_now _ _ _ began place = served_first
   served_now _ _ _ (waited before did) place = served_now _ _ _ before place
-  served_now _ _ _ (happened happening free before did served) place = served place
+  served_now _ _ _ (happened happening free before did kept served) place = served place
   served_now _ _ _ (answered exchange before is_first says served) place = served place
 
   -- more was heard
@@ -100,3 +113,8 @@ module _ {N L R : Type 0} (terms : Terms N L R) where
   served_heard upto story before place =
       subst (λ (h : ℕ). IsServed terms.text h (life place (story ++ Happens (Heard upto) ∷ []))) (sym (heard-push story (Happens (Heard upto))))
       (subst (IsServed terms.text (max (heard_in story) upto)) (sym (life-heard place upto story)) (served_more (heard_in story) (max (heard_in story) upto) (life place story) (omega arith) (before place)))
+
+  pub served_stopped : (story : List (Step L R)) → AllServed terms story → AllServed terms (story ++ Happens Stopped ∷ [])
+  served_stopped story before place =
+      subst (λ (h : ℕ). IsServed terms.text h (life place (story ++ Happens Stopped ∷ []))) (sym (heard-push story (Happens Stopped)))
+      (subst (IsServed terms.text (heard_in story)) (sym (life-stopped place story)) (before place))

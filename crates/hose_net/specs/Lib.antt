@@ -1,3 +1,4 @@
+pub mod Doors
 pub mod Happening
 pub mod Story
 pub mod steps

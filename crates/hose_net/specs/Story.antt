@@ -1,7 +1,7 @@
 -- The story of a host: what happened at its connections, and what it answered.
 use Rattle.std.specs.Prelude.{◌≡◌, ◌≢◌, ℕ, Bool, true, false, ⊤, ◌==◌, if◌then◌else◌, ◌<◌, ◌≤◌, List, [], ◌∷◌, ◌++◌, All, max}
 use Rattle.std.specs.List.{flat_map, fold}
-use Rattle.hose_net.specs.Happening.{Came, Got, Happening, Heard, Left, Refused, Sent}
+use Rattle.hose_net.specs.Happening.{Came, Got, Happening, Heard, Left, Refused, Sent, Stopped}
 
 -- a line that was answered: the place and the door of who gave it, whether it is the first line of
 -- its connection, its bytes without the line feed, what they say, the reply, and how many entries
@@ -56,6 +56,7 @@ lives place life (Happens (Refused at)) =
     if at == place then record life { refused = true } else life
 lives place life (Happens (Left at)) = if at == place then record life { here = false } else life
 lives place life (Happens (Heard upto)) = life
+lives place life (Happens Stopped) = life
 lives place life (Answers exchange) =
     if exchange.place == place then record life { own = life.own ++ exchange ∷ [] } else life
 
@@ -71,6 +72,7 @@ hears heard (Happens (Sent at bytes)) = heard
 hears heard (Happens (Refused at)) = heard
 hears heard (Happens (Left at)) = heard
 hears heard (Happens (Heard upto)) = max heard upto
+hears heard (Happens Stopped) = heard
 hears heard (Answers exchange) = heard
 
 -- how much was heard to be had, after a story
@@ -108,10 +110,13 @@ pub record IsServed {L R : Type 0} (text : R → List ℕ) (heard : ℕ) (life :
   pub unsent : List ℕ
   pub sent : life.sent ++ unsent ≡ texts_of text free
 
--- what a host is about: what a call on its network does; what bytes of a line say, by whether the
--- line is the first of its connection and by the door that this came by; and the text of a reply
-pub record Terms (N L R : Type 0) : Type 1 where
+-- what a host is about: what a call on its network does, and what is shown to one that sends bytes;
+-- what is kept where lines were answered; what bytes of a line say, by whether the line is the first
+-- of its connection and by the door that this came by; and the text of a reply
+pub record Terms (N B L R : Type 0) : Type 1 where
   pub did : N → List Happening → N → Type 0
+  pub saw : N → B → N → Type 0
+  pub stands : List (Exchange L R) → B → Type 0
   pub says : Bool → ℕ → List ℕ → L → Type 0
   pub text : R → List ℕ
 
@@ -125,22 +130,35 @@ MayHappen story (Sent place bytes) = (life place story).here ≡ true
 MayHappen story (Refused place) = ⊤
 MayHappen story (Left place) = ⊤
 MayHappen story (Heard upto) = ⊤
+MayHappen story Stopped = ⊤
+
+-- Where bytes were sent, all lines that were answered before stood in what was kept then.
+abbrev pub IsKept : {N B L R : Type 0} → Terms N B L R → List (Step L R) → N → Happening → N → Type 0
+IsKept terms story was (Came door place) now = ⊤
+IsKept terms story was (Got place bytes) now = ⊤
+IsKept {N} {B} terms story was (Sent place bytes) now =
+    (kept : B) × terms.saw was kept now × terms.stands (exchanges story) kept
+IsKept terms story was (Refused place) now = ⊤
+IsKept terms story was (Left place) now = ⊤
+IsKept terms story was (Heard upto) now = ⊤
+IsKept terms story was Stopped now = ⊤
 
 -- a story after which each connection is served
-abbrev pub AllServed : {N L R : Type 0} → Terms N L R → List (Step L R) → Type 0
+abbrev pub AllServed : {N B L R : Type 0} → Terms N B L R → List (Step L R) → Type 0
 AllServed terms story = (place : ℕ) → IsServed terms.text (heard_in story) (life place story)
 
 -- The stories of a host from a network on, and the network that each leaves. At each step each
 -- connection is served, so no reply comes before its line, none goes to another connection, and
--- nothing of a reply is sent before all that stood when it was given was heard to be had.
-pub data Hosts {N L R : Type 0} (terms : Terms N L R) (first : N)
+-- nothing of a reply is sent before all that stood when it was given is kept, and was heard to be
+-- had.
+pub data Hosts {N B L R : Type 0} (terms : Terms N B L R) (first : N)
     : List (Step L R) → N → Type 0 where
   began : Hosts terms first [] first
   waited : {story : List (Step L R)} {was now : N} → Hosts terms first story was
       → terms.did was [] now → Hosts terms first story now
   happened : {story : List (Step L R)} {was now : N} (happening : Happening)
       → MayHappen story happening → Hosts terms first story was → terms.did was (happening ∷ []) now
-      → AllServed terms (story ++ Happens happening ∷ [])
+      → IsKept terms story was happening now → AllServed terms (story ++ Happens happening ∷ [])
       → Hosts terms first (story ++ Happens happening ∷ []) now
   answered : {story : List (Step L R)} {now : N} (exchange : Exchange L R)
       → Hosts terms first story now
@@ -172,11 +190,18 @@ pub record IsSettled {L R : Type 0} (text : R → List ℕ) (heard : ℕ) (ended
       × (life.given ≡ lines_of life.own ++ rest) × All (λ byte. byte ≢ 10) rest
   pub told : life.here ≡ true → life.refused ≡ false → IsTold text heard life
 
+-- at one of the steps of a story the host was told to stop
+abbrev pub IsStopped : {L R : Type 0} → List (Step L R) → Type 0
+IsStopped {L} {R} story = (before after : List (Step L R))
+    × (story ≡ before ++ Happens Stopped ∷ after)
+
 -- A host came from one network to another by a story, whose exchanges, all of them in their order,
--- come to this; and it came to rest, where lines may be left if no line is answered any more.
-pub record IsHosted {N L R : Type 0} (terms : Terms N L R) (comes : List (Exchange L R) → Type 0)
+-- come to this; and it came to rest, where lines may be left if no line is answered any more. Where
+-- lines are answered still, its network told it to stop.
+pub record IsHosted {N B L R : Type 0} (terms : Terms N B L R) (comes : List (Exchange L R) → Type 0)
     (ended : Bool) (first last : N) : Type 0 where
   pub story : List (Step L R)
   pub hosts : Hosts terms first story last
   pub comes_to : comes (exchanges story)
   pub settled : (place : ℕ) → IsSettled terms.text (heard_in story) ended (life place story)
+  pub stopped : ended ≡ false → IsStopped story

@@ -31,6 +31,9 @@ pub trait Connections: Drop {
     /// What happened in a call.
     ghost did: { Self → List Happening → Self → Type 0 };
 
+    /// What was shown to a call that sent bytes: what is kept then, of whatever type.
+    ghost saw: { (B : Type 0) → Self → B → Self → Type 0 };
+
     /// What may be ready next. It waits for that; after `end_soon` no longer than a limit of its
     /// own, where it tells to stop.
     fn next(&mut self) -> Ready
@@ -58,14 +61,16 @@ pub trait Connections: Drop {
             (λ count. did self.old (Got place (take count into.new) ∷ []) self.new)
             (λ _. did self.old [] self.new) };
 
-    /// Sends bytes from the front of `bytes`, one at least, and says how many.
-    fn write(&mut self, place: usize, bytes: &[u8]) -> Result<usize, Pause>
+    /// Sends bytes from the front of `bytes`, one at least, and says how many. What is kept by then
+    /// is shown, so that it can be said of what was sent.
+    fn write<B>(&mut self, place: usize, bytes: &[u8], kept: &B) -> Result<usize, Pause>
         requires { 0 < length bytes.now }
         ensures some { IfOk result (λ count. 0 < count) }
         ensures room { IfOk result (λ count. count ≤ length bytes.now) }
         ensures did { MatchResult result
             (λ count. did self.old (Sent place (take count bytes.now) ∷ []) self.new)
-            (λ pause. did self.old (paused_by place pause) self.new) };
+            (λ pause. did self.old (paused_by place pause) self.new) }
+        ensures saw { IfOk result (λ _. saw B self.old kept.now self.new) };
 
     /// No one is let in any more and nothing is read: what is left to be written has a limit of
     /// time.

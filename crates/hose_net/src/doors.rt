@@ -1,5 +1,5 @@
 // The doors of a network, which are opened all at once.
-ghost use Rattle.std.specs.Prelude.{List, IfOk};
+ghost use Rattle.std.specs.Prelude.{List, IfErr, IfOk, length};
 
 use crate::connections::Connections;
 use std::alloc::Global;
@@ -13,11 +13,26 @@ pub enum Address<'a> {
     Path(&'a str),
 }
 
+/// Why a door cannot be opened, as the system tells it.
+#[derive(Clone, Copy, Debug, PartialEq, Eq)]
+pub enum DoorTrouble {
+    /// Another program serves there.
+    Served,
+    /// Rights are missing.
+    NotAllowed,
+    /// The folder that it is to be in is not there.
+    NoFolder,
+    /// A file lies there that is no socket.
+    NoSocket,
+    /// Anything else.
+    Other,
+}
+
 /// Why doors were not opened.
 #[derive(Clone, Copy, Debug, PartialEq, Eq)]
 pub enum DoorsFault {
-    /// The door at this place of the list, from 0 on, cannot be opened.
-    Door(usize),
+    /// The door at this place of the list, from 0 on, cannot be opened, and why.
+    Door(usize, DoorTrouble),
     /// Memory, or what the system needs to wait for connections, is wanting.
     Memory,
 }
@@ -25,13 +40,18 @@ pub enum DoorsFault {
 /// Doors that can be opened, all at once.
 pub trait Doors {
     ghost use Rattle.hose_net.specs.declared.doors.Address.{Address};
+    ghost use Rattle.hose_net.specs.declared.doors.DoorsFault.{DoorsFault};
+    ghost use Rattle.hose_net.specs.Doors.{IsAmong};
 
     /// The connections that come to them.
     type Network: Connections;
 
-    /// Doors of these addresses were opened so, and this network is what came of it: nothing has
-    /// happened there yet.
-    ghost opens: { Self → List Address → Self.Network → Type 0 };
+    /// Doors of these addresses were opened so, this network is what came of it, at which nothing
+    /// has happened yet, and these are the doors then.
+    ghost opens: { Self → List Address → Self.Network → Self → Type 0 };
+
+    /// Doors of these addresses could not be opened for this reason, and these are the doors then.
+    ghost refuses: { Self → List Address → DoorsFault → Self → Type 0 };
 
     /// A network was given up, and these are the doors then.
     ghost closes: { Self → Self.Network → Self → Type 0 };
@@ -43,7 +63,9 @@ pub trait Doors {
         alloc: Global,
         addresses: &[Address<'_>],
     ) -> Result<Self::Network, DoorsFault>
-        ensures { IfOk result (opens self.old addresses.now) };
+        ensures opened { IfOk result (λ network. opens self.old addresses.now network self.new) }
+        ensures refused { IfErr result (λ fault. refuses self.old addresses.now fault self.new) }
+        ensures among { IfErr result (IsAmong (length addresses.now)) };
 
     /// An orderly end: nobody comes any more, and sockets of one's own are taken away.
     fn close(&mut self, network: Self::Network)

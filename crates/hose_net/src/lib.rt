@@ -4,7 +4,9 @@
 mod connections;
 mod doors;
 mod mem_connections;
+mod mem_doors;
 
 pub use connections::{Connections, Pause, Ready};
-pub use doors::{Address, Doors, DoorsFault};
+pub use doors::{Address, DoorTrouble, Doors, DoorsFault};
 pub use mem_connections::{Act, Happened, MemConnections};
+pub use mem_doors::{DoorsEvent, KeptAddress, MemDoors};

@@ -1,7 +1,7 @@
 // Connections in memory, which a script drives and which keep all that happened.
-ghost use Rattle.std.specs.Prelude.{◌≡◌, ◌<◌, ◌≤◌, List, [], ◌∷◌, ◌++◌, true, length, take, IfOk, MatchResult};
+ghost use Rattle.std.specs.Prelude.{◌≡◌, ◌<◌, ◌≤◌, List, [], ◌∷◌, ◌++◌, true, length, map, take, IfOk, IfSome, MatchResult};
 ghost use Rattle.std.specs.Bool.{MatchBool};
-ghost use Rattle.hose_net.specs.Happening.{Came, Got, Left, Sent};
+ghost use Rattle.hose_net.specs.Happening.{Came, Got, Left, Sent, Stopped};
 ghost use Rattle.hose_net.specs.steps.MemTrace.{Trace, happening_of};
 ghost use Rattle.hose_net.specs.steps.Told.{told_by};
 
@@ -37,6 +37,7 @@ pub enum Happened {
     Refused(usize),
     Left(usize),
     Heard(u64),
+    Stopped,
 }
 
 /// Connections in memory, which a script drives. A write takes `room` bytes at most; after the last
@@ -87,25 +88,39 @@ impl MemConnections {
         &self.happened
     }
 
-    // What the act makes ready.
-    fn ready(&mut self) -> Ready
+    /// What happened, where the network is given up.
+    pub fn into_happened(self) -> Vec<Happened>
+        ensures { map happening_of result.items ≡ self.trace }
+    {
+        self.happened
+    }
+
+    /// Whether all that happened was kept.
+    pub fn is_whole(&self) -> bool
+        ensures { result ≡ self.now.whole }
+    {
+        self.whole
+    }
+
+    // What the act makes ready, if it does.
+    fn ready(&mut self) -> Option<Ready>
         ensures same { self.new ≡ self.old }
-        ensures unheard { told_by result ≡ [] }
+        ensures unheard { IfSome result (λ ready. told_by ready ≡ []) }
     {
         match &self.act {
-            Some(Act::Comes(door)) => Ready::Door(*door),
-            Some(Act::Gives(place, _)) | Some(Act::Ends(place)) => Ready::Place(*place),
+            Some(Act::Comes(door)) => Some(Ready::Door(*door)),
+            Some(Act::Gives(place, _)) | Some(Act::Ends(place)) => Some(Ready::Place(*place)),
             Some(Act::Stalls(place)) => {
                 let place = *place;
                 let _ = self.stalled.push(place);
-                Ready::Place(place)
+                Some(Ready::Place(place))
             }
             Some(Act::Takes(place)) => {
                 let place = *place;
                 self.stalled.retain(|at| *at != place);
-                Ready::Place(place)
+                Some(Ready::Place(place))
             }
-            _ => Ready::Stop,
+            _ => None,
         }
     }
 
@@ -141,10 +156,13 @@ impl MemConnections {
 }
 
 impl Connections for MemConnections {
-    ghost use Rattle.std.specs.Prelude.{◌≡◌, ◌++◌, true};
+    ghost use Rattle.std.specs.Prelude.{◌≡◌, ◌++◌, true, ⊤};
 
     ghost did = { λ old happenings new. new.whole ≡ true
         → (old.whole ≡ true) × (new.trace ≡ old.trace ++ happenings) };
+
+    // A script looks at what was sent, and not at what was kept then.
+    ghost saw = { λ B old kept new. ⊤ };
 
     fn next(&mut self) -> Ready {
         if let Some(place) = self.again.pop_front() {
@@ -155,7 +173,11 @@ impl Connections for MemConnections {
             self.keep(Happened::Heard(upto));
             return Ready::Heard(upto);
         }
-        self.ready()
+        if let Some(ready) = self.ready() {
+            return ready;
+        }
+        self.keep(Happened::Stopped);
+        Ready::Stop
     }
 
     fn accept(&mut self, door: usize, place: usize) -> bool {
@@ -191,7 +213,7 @@ impl Connections for MemConnections {
         }
     }
 
-    fn write(&mut self, place: usize, bytes: &[u8]) -> Result<usize, Pause> {
+    fn write<B>(&mut self, place: usize, bytes: &[u8], _kept: &B) -> Result<usize, Pause> {
         let count = bytes.len().min(self.room);
         if count == 0 || self.stalled.contains(&place) {
             self.keep(Happened::Refused(place));

@@ -173,8 +173,8 @@ impl Board {
         }
     }
 
-    /// There is more to do at a place, since lines of a piece are left: it is told once more, and who
-    /// does not read there then either is told again.
+    /// There is more to do at a place, since lines of a piece are left: it is told once more, and
+    /// who does not read there then either is told again.
     pub fn tell_again(&mut self, place: usize) {
         if let Some(at) = self.places.get_mut(place) {
             at.is_left = false;

@@ -1,6 +1,9 @@
 // A door: a port of this machine, or a socket of the file system.
+ghost use Rattle.std.specs.Prelude.{ℕ, ◌<◌};
+ghost use Rattle.hose_net.specs.Doors.{IsAmong};
+
 use crate::stream::Stream;
-use hose_net::Address;
+use hose_net::{Address, DoorTrouble, DoorsFault};
 use mio::net::{TcpListener, UnixListener, UnixStream};
 use mio::{Interest, Registry, Token};
 use std::alloc::Global;
@@ -89,6 +92,21 @@ fn is_same(lies: &Metadata, device: u64, number: u64) -> bool {
     same_device && lies.ino() == number
 }
 
+/// Why doors are not opened, where the opening of the one at a place failed so.
+pub fn fault_at(place: usize, kind: ErrorKind) -> DoorsFault
+    ensures { (count : ℕ) → place < count → IsAmong count result }
+{
+    let trouble = match kind {
+        ErrorKind::OutOfMemory => return DoorsFault::Memory,
+        ErrorKind::AddrInUse => DoorTrouble::Served,
+        ErrorKind::PermissionDenied => DoorTrouble::NotAllowed,
+        ErrorKind::NotFound | ErrorKind::NotADirectory => DoorTrouble::NoFolder,
+        ErrorKind::AlreadyExists => DoorTrouble::NoSocket,
+        _ => DoorTrouble::Other,
+    };
+    DoorsFault::Door(place, trouble)
+}
+
 fn open_port<N: Net>(rt: &N, port: u16) -> io::Result<Door> {
     let address = SocketAddr::V4(SocketAddrV4::new(Ipv4Addr::LOCALHOST, port));
     let listener = TcpListener::bind(rt, address)?;
@@ -119,7 +137,10 @@ fn bind_path<N: Files + Net>(rt: &N, path: &str) -> io::Result<UnixListener> {
         answer => return answer,
     }
     let left = fs::symlink_metadata(rt, path)?;
-    if !left.file_type().is_socket() || is_served(rt, path) {
+    if !left.file_type().is_socket() {
+        return Err(ErrorKind::AlreadyExists.into());
+    }
+    if is_served(rt, path) {
         return Err(ErrorKind::AddrInUse.into());
     }
     // Another program may have taken it over in the meantime.

@@ -25,7 +25,9 @@ impl<N> Ports<N> {
 impl<N: Files + Net + Clock + Copy + Drop> Doors for Ports<N> {
     type Network = Sockets<N>;
 
-    ghost opens = { λ _ _ _. ⊤ };
+    ghost opens = { λ _ _ _ _. ⊤ };
+
+    ghost refuses = { λ _ _ _ _. ⊤ };
 
     ghost closes = { λ _ _ _. ⊤ };
 

@@ -1,8 +1,9 @@
 // A network over the system's sockets.
-ghost use Rattle.std.specs.Prelude.{⊤};
+ghost use Rattle.std.specs.Prelude.{⊤, IfErr, length};
+ghost use Rattle.hose_net.specs.Doors.{IsAmong};
 
 use crate::board::{Board, place_token};
-use crate::door::Door;
+use crate::door::{Door, fault_at};
 use hose_net::{Address, Connections, DoorsFault, Pause, Ready};
 use mio::{Events, Poll};
 use std::alloc::Global;
@@ -49,14 +50,17 @@ pub struct Sockets<N> {
 
 impl<N: Files + Net + Clock + Drop> Sockets<N> {
     /// Opens doors, which have the numbers from 0 on. Where one cannot be opened, none is.
-    pub fn open(rt: N, alloc: Global, addresses: &[Address<'_>]) -> Result<Sockets<N>, DoorsFault> {
+    pub fn open(rt: N, alloc: Global, addresses: &[Address<'_>]) -> Result<Sockets<N>, DoorsFault>
+        ensures { IfErr result (IsAmong (length addresses.now)) }
+    {
         let Ok(mut network) = Sockets::new(rt, alloc) else {
             return Err(DoorsFault::Memory);
         };
-        for (number, address) in addresses.iter().enumerate() {
-            if network.open_door(alloc, *address).is_err() {
+        for place in 0..addresses.len() {
+            if let Err(error) = network.open_door(alloc, addresses[place]) {
+                let fault = fault_at(place, error.kind());
                 network.shut();
-                return Err(DoorsFault::Door(number));
+                return Err(fault);
             }
         }
         Ok(network)
@@ -176,6 +180,8 @@ fn is_no_arrival(error: &io::Error) -> bool {
 impl<N: Clock + Drop> Connections for Sockets<N> {
     ghost did = { λ _ _ _. ⊤ };
 
+    ghost saw = { λ _ _ _ _. ⊤ };
+
     // Where the system cannot be asked any more, the host is to stop.
     fn next(&mut self) -> Ready {
         for _ in 0..u64::MAX {
@@ -234,7 +240,7 @@ impl<N: Clock + Drop> Connections for Sockets<N> {
         }
     }
 
-    fn write(&mut self, place: usize, bytes: &[u8]) -> Result<usize, Pause> {
+    fn write<B>(&mut self, place: usize, bytes: &[u8], _kept: &B) -> Result<usize, Pause> {
         let Some(stream) = self.board.stream_mut(place) else {
             return Err(Pause::Over);
         };

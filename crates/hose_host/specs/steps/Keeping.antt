@@ -1,8 +1,9 @@
 -- What the calls of a host keep: steps of proofs.
 use Rattle.std.specs.Prelude.{◌≡◌, ◌≢◌, ℕ, ◌<◌, ◌≤◌, true, false, List, length, slice_index_or}
 use Rattle.hose_host.specs.declared.answers.HostAnswers.{Ghosts}
-use Rattle.hose_net.specs.Happening.{Happening}
-use Rattle.hose_net.specs.Story.{Hosts, Life, Step, Terms, exchanges, heard_in, is_empty, life}
+use Rattle.hose_net.specs.declared.connections.Connections.{Ghosts as ConnectionsGhosts}
+use mathlib.Core.List.{IsPrefix}
+use Rattle.hose_net.specs.Story.{Hosts, IsStopped, Life, Step, Terms, exchanges, heard_in, is_empty, life}
 use Rattle.hose_host.specs.steps.Seats.{SeatState, Sits}
 
 -- where a host is with one connection, of which these bytes were got and are not looked at yet
@@ -27,15 +28,21 @@ pub record Hall (N A : Type 0) : Type 0 where
 abbrev pub hall : {N A : Type 0} → N → A → List SeatState → ℕ → Hall N A
 hall network by seats heard = record { network = network; by = by; seats = seats; heard = heard }
 
-module _ {N A R : Type 0} (did : N → List Happening → N → Type 0) (by : Ghosts A R) where
+module _ {N A R B : Type 0} (net : ConnectionsGhosts N) (by : Ghosts A R B) where
   -- what a host is about that answers by this answerer
-  abbrev pub terms_of : by.subject → Terms N by.said R
-  terms_of topic = record { did = did; says = by.says topic; text = by.text topic }
+  abbrev pub terms_of : by.origin → by.subject → Terms N B by.said R
+  terms_of from topic = record {
+    did = net.did;
+    saw = net.saw B;
+    stands = by.stands from;
+    says = by.says topic;
+    text = by.text topic;
+  }
 
   -- a host stands at the end of this story, and knows of whom it answered no line
   pub record Stands (first : N) (from : by.origin) (topic : by.subject)
       (story : List (Step by.said R)) (heard : ℕ) (network : N) (answers : A) : Type 0 where
-    pub hosts : Hosts (terms_of topic) first story network
+    pub hosts : Hosts (terms_of from topic) first story network
     pub comes : by.comes from (exchanges story) answers
     pub about : by.about answers ≡ topic
     pub hears : heard_in story ≡ heard
@@ -47,6 +54,7 @@ module _ {N A R : Type 0} (did : N → List Happening → N → Type 0) (by : Gh
       (from : by.origin) (topic : by.subject) (story : List (Step by.said R)) (heard : ℕ)
       (now : At N A) : Type 0 where
     pub later : List (Step by.said R)
+    pub onward : IsPrefix story later
     pub others : (other : ℕ) → other ≢ place → life other later ≡ life other story
     pub stands : Stands first from topic later heard now.network now.by
     pub sits : Sits (by.text topic) heard (life place later) now.seat now.coming
@@ -75,8 +83,9 @@ module _ {N A R : Type 0} (did : N → List Happening → N → Type 0) (by : Gh
 
   -- a story that went on
   pub record GoesOn (Then : How) (first : N) (from : by.origin) (topic : by.subject)
-      (now : Hall N A) : Type 0 where
+      (story : List (Step by.said R)) (now : Hall N A) : Type 0 where
     pub later : List (Step by.said R)
+    pub onward : IsPrefix story later
     pub stands : Stands first from topic later now.heard now.network now.by
     pub sit : AllSit Then topic now.heard later now.seats
 
@@ -84,4 +93,11 @@ module _ {N A R : Type 0} (did : N → List Happening → N → Type 0) (by : Gh
   abbrev pub KeepsAll : How → How → Hall N A → Hall N A → Type 0
   KeepsAll First Then old new = (first : N) (from : by.origin) (topic : by.subject)
       (story : List (Step by.said R)) → Stands first from topic story old.heard old.network old.by
-      → AllSit First topic old.heard story old.seats → GoesOn Then first from topic new
+      → AllSit First topic old.heard story old.seats → GoesOn Then first from topic story new
+
+  -- a call keeps what a host is, and the host was told to stop by then
+  abbrev pub StopsAll : How → How → Hall N A → Hall N A → Type 0
+  StopsAll First Then old new = (first : N) (from : by.origin) (topic : by.subject)
+      (story : List (Step by.said R)) → Stands first from topic story old.heard old.network old.by
+      → AllSit First topic old.heard story old.seats
+      → (on : GoesOn Then first from topic story new) × IsStopped on.later

@@ -1,6 +1,6 @@
 -- What connections in memory tell.
 use Rattle.std.specs.Prelude.{Bool, List}
-use Rattle.hose_net.specs.Happening.{Happening, Came, Got, Heard, Left, Refused, Sent}
+use Rattle.hose_net.specs.Happening.{Happening, Came, Got, Heard, Left, Refused, Sent, Stopped}
 use Rattle.hose_net.specs.declared.mem_connections.Happened.{Happened}
 use Rattle.hose_net.specs.declared.mem_connections.Happened.TheVariants as happened
 
@@ -17,3 +17,4 @@ happening_of (happened.Sent place bytes) = Sent place bytes.items
 happening_of (happened.Refused place) = Refused place
 happening_of (happened.Left place) = Left place
 happening_of (happened.Heard upto) = Heard upto
+happening_of happened.Stopped = Stopped

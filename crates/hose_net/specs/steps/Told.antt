@@ -1,6 +1,6 @@
 -- What happens as it is told what is ready, and as a write is not made.
 use Rattle.std.specs.Prelude.{ℕ, List, [], ◌∷◌}
-use Rattle.hose_net.specs.Happening.{Happening, Heard, Refused}
+use Rattle.hose_net.specs.Happening.{Happening, Heard, Refused, Stopped}
 use Rattle.hose_net.specs.declared.connections.Pause.{Pause}
 use Rattle.hose_net.specs.declared.connections.Pause.TheVariants as pause
 use Rattle.hose_net.specs.declared.connections.Ready.{Ready}
@@ -11,7 +11,7 @@ abbrev pub told_by : Ready → List Happening
 told_by (ready.Door door) = []
 told_by (ready.Place place) = []
 told_by (ready.Heard upto) = Heard upto ∷ []
-told_by ready.Stop = []
+told_by ready.Stop = Stopped ∷ []
 
 -- what happened, where a write at a place came to this
 abbrev pub paused_by : ℕ → Pause → List Happening

@@ -11,7 +11,7 @@ returns-then-is_ending-clause-keeps g c =
     let mid = hall c.finish_all.new.network c.finish_all.new.answers c.finish_all.new.seats.items c.args.places.now.heard in
     let last = hall c.write_out.new.network c.write_out.new.answers c.write_out.new.places.seats.items c.write_out.new.places.heard in
     let yes : g.A.HostAnswers.ends c.finish_all.new.answers ≡ true = cc (c.is_ending.ensures, c.if-is_ending.true) in
-    subst (λ (ended : Bool). KeepsAll g.N.Connections.did g.A.HostAnswers Resting (AllFinished ended) first last) (sym (c.write_out.ensures.ends ∙ yes))
-    (all_then g.N.Connections.did g.A.HostAnswers Resting (AllFinished true) (AllFinished true) first mid last
-    (subst (λ (ended : Bool). KeepsAll g.N.Connections.did g.A.HostAnswers Resting (AllFinished ended) first mid) yes c.finish_all.ensures.keeps)
+    subst (λ (ended : Bool). KeepsAll g.N.Connections g.A.HostAnswers Resting (AllFinished ended) first last) (sym (c.write_out.ensures.ends ∙ yes))
+    (all_then g.N.Connections g.A.HostAnswers Resting (AllFinished true) (AllFinished true) first mid last
+    (subst (λ (ended : Bool). KeepsAll g.N.Connections g.A.HostAnswers Resting (AllFinished ended) first mid) yes c.finish_all.ensures.keeps)
     c.write_out.ensures.keeps)

@@ -9,5 +9,5 @@ returns-clause-keeps g c =
     let was = c.args.seat.now in
     let mid = c.take_turn.new.seat in
     let now = c.end_turn.new.seat in
-    keeps_then g.N.Connections.did g.A.HostAnswers heard (Calm heard was.kept) (Freed heard mid.kept) (Calm heard now.kept) c.args.place (at c.args.network.now c.args.answers.now was was.kept) (at c.take_turn.new.network c.take_turn.new.answers mid mid.kept) (at c.end_turn.new.network c.take_turn.new.answers now now.kept)
+    keeps_then g.N.Connections g.A.HostAnswers heard (Calm heard was.kept) (Freed heard mid.kept) (Calm heard now.kept) c.args.place (at c.args.network.now c.args.answers.now was was.kept) (at c.take_turn.new.network c.take_turn.new.answers mid mid.kept) (at c.end_turn.new.network c.take_turn.new.answers now now.kept)
     c.take_turn.ensures.keeps (c.end_turn.ensures heard)

@@ -15,9 +15,9 @@ loop-preserved g c =
     let seat = c.take_line-now.new.seat in
     let by_now = c.take_line-now.new.answers in
     record {
-      keeps = keeps_then g.N.Connections.did g.A.HostAnswers heard (Freed heard []) (Freed heard []) (Freed heard []) c.args.place (at c.args.network.now c.args.answers.now c.args.seat.now (drop c.args.looked piece)) step (at c.args.network.now by_now seat (drop (now + count) piece)) c.loop.invariant.keeps
-          (subst (λ (left : List ℕ). Keeps g.N.Connections.did g.A.HostAnswers (Freed heard []) (Freed heard []) c.args.place heard step (at c.args.network.now by_now seat left)) (drop-drop count now piece)
-          (subst (λ (from : List ℕ). Keeps g.N.Connections.did g.A.HostAnswers (Freed heard []) (Freed heard []) c.args.place heard (at c.args.network.now c.loop.answers c.loop.seat from) (at c.args.network.now by_now seat (drop count from))) (take_rest piece now) c.take_line-now.ensures.keeps));
+      keeps = keeps_then g.N.Connections g.A.HostAnswers heard (Freed heard []) (Freed heard []) (Freed heard []) c.args.place (at c.args.network.now c.args.answers.now c.args.seat.now (drop c.args.looked piece)) step (at c.args.network.now by_now seat (drop (now + count) piece)) c.loop.invariant.keeps
+          (subst (λ (left : List ℕ). Keeps g.N.Connections g.A.HostAnswers (Freed heard []) (Freed heard []) c.args.place heard step (at c.args.network.now by_now seat left)) (drop-drop count now piece)
+          (subst (λ (from : List ℕ). Keeps g.N.Connections g.A.HostAnswers (Freed heard []) (Freed heard []) c.args.place heard (at c.args.network.now c.loop.answers c.loop.seat from) (at c.args.network.now by_now seat (drop count from))) (take_rest piece now) c.take_line-now.ensures.keeps));
       bound = search (arith, c.take_line-now.ensures.bound, c.loop.invariant.bound);
       ends = λ _. c.loop.invariant.ends (c.takes_lines.ensures c.if-not-takes_lines.false).1;
       fits = c.take_line-now.ensures.fits;
