@@ -35,6 +35,7 @@ use Rattle.hose_clerk.specs.HostLines.HostLine.{Counts, Ends, Speaks}
 use Rattle.hose_clerk.specs.Hosting.{IsCountReply, IsEndReply, IsHostAnswer, IsOwnAnswer, IsSessionAnswer, disks_told}
 use Rattle.hose_clerk.specs.declared.replies.HostReply.{HostReply}
 use Rattle.hose_clerk.specs.declared.replies.HostReply.TheVariants as reply
+use Rattle.hose_clerk.specs.declared.tally.Tally.{Tally}
 use Rattle.hose_clerk.specs.declared.sessions.Client.{Client}
 use Rattle.hose_clerk.specs.declared.sessions.Session.{Session}
 use Rattle.hose_clerk.specs.declared.sessions.Session.TheVariants as session
@@ -83,15 +84,15 @@ end_names network epoch customer (reply.Told told) is = subst (NamesPlaces netwo
 end_names network epoch customer (reply.Ending at) is = tt
 end_names network epoch customer (reply.Figures figures) is = absurd is
 
-count_no_disk : (epoch : ℕ) (customer : List ℕ) (told : HostReply) → IsCountReply epoch customer told → disks_told told ≡ 0
-count_no_disk epoch customer (reply.Told told) is = ap one_if_disk is.1
-count_no_disk epoch customer (reply.Ending at) is = absurd is
-count_no_disk epoch customer (reply.Figures figures) is = refl
+count_no_disk : (tally : Tally) (epoch : ℕ) (customer : List ℕ) (told : HostReply) → IsCountReply tally epoch customer told → disks_told told ≡ 0
+count_no_disk tally epoch customer (reply.Told told) is = ap one_if_disk is.1
+count_no_disk tally epoch customer (reply.Ending at) is = absurd is
+count_no_disk tally epoch customer (reply.Figures figures) is = refl
 
-count_names : (network : Network) (epoch : ℕ) (customer : List ℕ) (told : HostReply) → IsCountReply epoch customer told → NamesOf network told
-count_names network epoch customer (reply.Told told) is = subst (NamesPlaces network) (sym is.1) tt
-count_names network epoch customer (reply.Ending at) is = absurd is
-count_names network epoch customer (reply.Figures figures) is = tt
+count_names : (network : Network) (tally : Tally) (epoch : ℕ) (customer : List ℕ) (told : HostReply) → IsCountReply tally epoch customer told → NamesOf network told
+count_names network tally epoch customer (reply.Told told) is = subst (NamesPlaces network) (sym is.1) tt
+count_names network tally epoch customer (reply.Ending at) is = absurd is
+count_names network tally epoch customer (reply.Figures figures) is = tt
 
 -- ---- lines that change nothing
 
@@ -102,17 +103,17 @@ none_kept ledger quotes none customer = subst (AreKept ledger) (sym (none custom
   made = λ number quote there. absurd (cc (at_none_held {X = Quote} number, there));
 })
 
-module _ {K R : Type 0} (books : Ghosts K R) (now : K) where
+module _ {K R : Type 0} (books : Ghosts K R) (tally : Tally) (now : K) where
   abbrev network : Network
   network = (books.ledger now).network
 
   -- a line has this answer at each history, and its session stands so then
   abbrev StaysAnswered : Session → HostLine → HostReply → Session → Type 0
   StaysAnswered session said told left = (history : List Entry) (stage : Stage) → HasBookOf 0 history (books.ledger now) → IsBefore network history session stage
-      → (after : Stage) × IsHostAnswer network history stage said told history after × FitsStage network history left after
+      → (after : Stage) × IsHostAnswer network tally history stage said told history after × FitsStage network history left after
 
   stays_answered : (session : Session) (said : HostLine) (told : HostReply) (left : Session) → StaysAnswered session said told left
-      → disks_told told ≡ 0 → IsSessionKept (books.ledger now) left → is_new_at left ≡ false → NamesOf network told → AnswersTo books now now session said told left
+      → disks_told told ≡ 0 → IsSessionKept (books.ledger now) left → is_new_at left ≡ false → NamesOf network told → AnswersTo books tally now now session said told left
   stays_answered session said told left at none kept known names = record {
     replied = λ history stage book before.
         let here = at history stage book before in
@@ -126,7 +127,7 @@ module _ {K R : Type 0} (books : Ghosts K R) (now : K) where
 
   -- the first line is a greeting
   pub greeted : (name : List ℕ) (quotes : AllQuotes) (at : ℕ) → ((customer : List ℕ) → quotes_in quotes customer ≡ none_held) → at ≡ (books.ledger now).book.epoch
-      → AnswersTo books now now session.New (Speaks (Greets name)) (reply.Told (Welcome at)) (session.Serving (record { name = name; quotes = quotes }))
+      → AnswersTo books tally now now session.New (Speaks (Greets name)) (reply.Told (Welcome at)) (session.Serving (record { name = name; quotes = quotes }))
   greeted name quotes at none is = stays_answered session.New (Speaks (Greets name)) (reply.Told (Welcome at)) (session.Serving (record { name = name; quotes = quotes }))
       (λ history stage book before. (
         Serving name none_held,
@@ -145,7 +146,7 @@ module _ {K R : Type 0} (books : Ghosts K R) (now : K) where
   refused_at Unread told history plain = (plain, refl, refl)
 
   -- it is none
-  pub refused : (said : SessionLine) (told : Reply) → IsPlainReply said told → AnswersTo books now now session.New (Speaks said) (reply.Told told) session.Over
+  pub refused : (said : SessionLine) (told : Reply) → IsPlainReply said told → AnswersTo books tally now now session.New (Speaks said) (reply.Told told) session.Over
   refused said told plain = stays_answered session.New (Speaks said) (reply.Told told) session.Over
       (λ history stage book before. (
         Refused,
@@ -158,27 +159,27 @@ module _ {K R : Type 0} (books : Ghosts K R) (now : K) where
     abbrev mine : Session
     mine = session.Serving client
 
-    pub bye_answered : AnswersTo books now now mine (Speaks Leaves) (reply.Told Bye) session.Over
+    pub bye_answered : AnswersTo books tally now now mine (Speaks Leaves) (reply.Told Bye) session.Over
     bye_answered = stays_answered mine (Speaks Leaves) (reply.Told Bye) session.Over
         (λ history stage book before. (Left, subst (λ (s : Stage). IsSessionAnswer network history s Leaves Bye history Left) (sym before.serves) (refl, refl, refl), tt))
         refl tt refl tt
 
-    pub bad_answered : (word : ℕ) → AnswersTo books now now mine (Speaks (IsBad word)) (reply.Told (Bad word)) mine
+    pub bad_answered : (word : ℕ) → AnswersTo books tally now now mine (Speaks (IsBad word)) (reply.Told (Bad word)) mine
     bad_answered word = stays_answered mine (Speaks (IsBad word)) (reply.Told (Bad word)) mine
         (λ history stage book before. (stage, subst (λ (s : Stage). IsSessionAnswer network history s (IsBad word) (Bad word) history s) (sym before.serves) (refl, refl, refl), before))
         refl kept refl tt
 
-    pub long_answered : AnswersTo books now now mine (Speaks IsLong) (reply.Told Long) mine
+    pub long_answered : AnswersTo books tally now now mine (Speaks IsLong) (reply.Told Long) mine
     long_answered = stays_answered mine (Speaks IsLong) (reply.Told Long) mine
         (λ history stage book before. (stage, subst (λ (s : Stage). IsSessionAnswer network history s IsLong Long history s) (sym before.serves) (refl, refl, refl), before))
         refl kept refl tt
 
-    pub memory_answered : AnswersTo books now now mine (Speaks Unread) (reply.Told Memory) mine
+    pub memory_answered : AnswersTo books tally now now mine (Speaks Unread) (reply.Told Memory) mine
     memory_answered = stays_answered mine (Speaks Unread) (reply.Told Memory) mine
         (λ history stage book before. (stage, subst (λ (s : Stage). IsSessionAnswer network history s Unread Memory history s) (sym before.serves) (refl, refl, refl), before))
         refl kept refl tt
 
-    pub end_answered : (told : HostReply) → IsEndReply (books.ledger now).book.epoch client.name told → AnswersTo books now now mine Ends told mine
+    pub end_answered : (told : HostReply) → IsEndReply (books.ledger now).book.epoch client.name told → AnswersTo books tally now now mine Ends told mine
     end_answered told is = stays_answered mine Ends told mine
         (λ history stage book before. (
           stage,
@@ -187,14 +188,14 @@ module _ {K R : Type 0} (books : Ghosts K R) (now : K) where
         ))
         (end_no_disk (books.ledger now).book.epoch client.name told is) kept refl (end_names network (books.ledger now).book.epoch client.name told is)
 
-    pub count_answered : (told : HostReply) → IsCountReply (books.ledger now).book.epoch client.name told → AnswersTo books now now mine Counts told mine
+    pub count_answered : (told : HostReply) → IsCountReply tally (books.ledger now).book.epoch client.name told → AnswersTo books tally now now mine Counts told mine
     count_answered told is = stays_answered mine Counts told mine
         (λ history stage book before. (
           stage,
-          subst (λ (s : Stage). IsOwnAnswer IsCountReply history s told history s) (sym before.serves) (subst (λ (epoch : ℕ). IsCountReply epoch client.name told) (epoch_is (books.ledger now).book history book) is, refl, refl),
+          subst (λ (s : Stage). IsOwnAnswer (IsCountReply tally) history s told history s) (sym before.serves) (subst (λ (epoch : ℕ). IsCountReply tally epoch client.name told) (epoch_is (books.ledger now).book history book) is, refl, refl),
           before,
         ))
-        (count_no_disk (books.ledger now).book.epoch client.name told is) kept refl (count_names network (books.ledger now).book.epoch client.name told is)
+        (count_no_disk tally (books.ledger now).book.epoch client.name told is) kept refl (count_names network tally (books.ledger now).book.epoch client.name told is)
 
 -- ---- a command
 
@@ -202,12 +203,12 @@ module _ {K R : Type 0} (books : Ghosts K R) (now : K) where
 held_by : (holdings : Holdings) (customer : List ℕ) (after : Holding) → with_held holdings customer after customer ≡ after
 held_by holdings customer after = ap (λ (same : Bool). if same then after else holdings customer) ((bytes_eq-Decides customer customer).1 refl)
 
-pub asked_answered : {K R : Type 0} (books : Ghosts K R) (old new : K) (name : List ℕ) (before after : AllQuotes) (command : Command) (told : Reply)
+pub asked_answered : {K R : Type 0} (books : Ghosts K R) (tally : Tally) (old new : K) (name : List ℕ) (before after : AllQuotes) (command : Command) (told : Reply)
     → Steps books (record { books = old; quotes = before }) (record { books = new; quotes = after }) name command told
     → (books.ledger new).network ≡ (books.ledger old).network → IsMet (books.frame old) (committed_of told) (books.frame new) → NamesPlaces (books.ledger old).network told
     → AreAllKept (books.ledger new) after → IsSameOrNext (books.ledger old) (books.ledger new)
-    → AnswersTo books old new (session.Serving (record { name = name; quotes = before })) (Speaks (Asks command)) (reply.Told told) (session.Serving (record { name = name; quotes = after }))
-asked_answered {K} {R} books old new name before after command told steps network met names kept goes = record {
+    → AnswersTo books tally old new (session.Serving (record { name = name; quotes = before })) (Speaks (Asks command)) (reply.Told told) (session.Serving (record { name = name; quotes = after }))
+asked_answered {K} {R} books tally old new name before after command told steps network met names kept goes = record {
   replied = λ history stage book is.
       let on = steps 0 history is.holdings (record { book = book; held = is.held }) in
       let next = on.stepped.next in

@@ -33,6 +33,8 @@ use Rattle.hose_core.proofs.HeldQuotes.{IsFront, front_same, front_with, held_lo
 use Rattle.hose_clerk.specs.HostLines.{HostLine}
 use Rattle.hose_clerk.specs.Hosting.{AreHostSteps, HostState, IsAskedAt, IsAskedOf, IsHostAnswer, IsHostStep, TellsDisks, disks_of, disks_told, ends_host, host_from, stage_before, with_stage}
 use Rattle.hose_clerk.specs.declared.replies.HostReply.{HostReply}
+use Rattle.hose_clerk.specs.Tally.{no_tally, tally_with}
+use Rattle.hose_clerk.specs.declared.tally.Tally.{Tally}
 use Rattle.hose_clerk.specs.declared.sessions.Session.{Session}
 use Rattle.hose_clerk.specs.declared.sessions.Session.TheVariants as session
 use Rattle.hose_clerk.specs.steps.Answering.{AnswersTo, AreSessionsKept, FitsStage, HasAsked, HasHosted, HasReplied, HasStayed, IsBefore, IsSessionKept}
@@ -196,7 +198,7 @@ record Changed {K R : Type 0} (books : Ghosts K R) (Kind : EntryKind) (network :
   stays : Stays (books.frame old) (books.frame new)
   told : TellsOne (books.frame old) disks (books.frame new)
 
-module _ {K R : Type 0} (books : Ghosts K R) (since : List Entry) (first old new : K) (xs : List Answered) (sessions : List Session) (was : HasHosted books since first old sessions false xs) where
+module _ {K R : Type 0} (books : Ghosts K R) (since : List Entry) (first old new : K) (xs : List Answered) (sessions : List Session) (tally : Tally) (was : HasHosted books since first old sessions false tally xs) where
   abbrev network : Network
   network = (books.ledger first).network
 
@@ -264,7 +266,7 @@ module _ {K R : Type 0} (books : Ghosts K R) (since : List Entry) (first old new
     changed stage next never at (inr asked) = ⊎_elim (λ yes. absurd (never yes asked)) (λ no. went stage next no (at no) asked) (cases_Bool x.first)
 
     module _ (one left : Session) (after : List Session) (at : session_at sessions x.place ≡ one) (open_still : is_over_at one ≡ false) (put : IsPut sessions x.place left after) (is_first : x.first ≡ is_new_at one)
-        (answers : AnswersTo books old new one x.said x.reply left) (needs : x.needs ≡ (books.ledger new).book.epoch) where
+        (answers : AnswersTo books tally old new one x.said x.reply left) (needs : x.needs ≡ (books.ledger new).book.epoch) where
       abbrev stage : Stage
       stage = stage_before x.first (here.stages x.place)
 
@@ -273,17 +275,19 @@ module _ {K R : Type 0} (books : Ghosts K R) (since : List Entry) (first old new
           (is_before (books.ledger old).network here.history one (here.stages x.place) open_still
           (subst (λ (s : Session). FitsStage (books.ledger old).network here.history s (here.stages x.place)) at (was.sits x.place)))
 
-      module _ (replied : HasReplied books old new here.history stage x.said x.reply left) where
+      module _ (replied : HasReplied books tally old new here.history stage x.said x.reply left) where
         abbrev state : HostState
-        state = record { history = replied.next; stages = with_stage here.stages x.place replied.after; ended = ends_host x.reply }
+        state = record { history = replied.next; stages = with_stage here.stages x.place replied.after; ended = ends_host x.reply; tally = tally_with x.reply here.tally }
 
         step : IsHostStep network x here state
         step = record {
           goes_on = was.ends;
           after = replied.after;
-          answer = subst (λ (n : Network). IsHostAnswer n here.history stage x.said x.reply replied.next replied.after) was.network replied.answer;
+          answer = subst (λ (t : Tally). IsHostAnswer network t here.history stage x.said x.reply replied.next replied.after) (sym was.counted)
+              (subst (λ (n : Network). IsHostAnswer n tally here.history stage x.said x.reply replied.next replied.after) was.network replied.answer);
           stages = refl;
           ended = refl;
+          tally = refl;
           needs = needs ∙ epoch_is (books.ledger new).book replied.next replied.book;
         }
 
@@ -312,7 +316,7 @@ module _ {K R : Type 0} (books : Ghosts K R) (since : List Entry) (first old new
         sits : (place : ℕ) → Sits (session_at after place) (state.stages place)
         sits place = ⊎_elim (λ same. subst (λ (at : ℕ). Sits (session_at after at) (state.stages at)) same sits_here) (λ apart. sits_there place apart) (cases_eq x.place place)
 
-        hosted_by : HasHosted books since first new after (ends_host x.reply) (xs ++ x ∷ [])
+        hosted_by : HasHosted books since first new after (ends_host x.reply) (tally_with x.reply tally) (xs ++ x ∷ [])
         hosted_by = record {
           hosted = record {
             state = state;
@@ -327,16 +331,17 @@ module _ {K R : Type 0} (books : Ghosts K R) (since : List Entry) (first old new
           network = answers.network ∙ was.network;
           sits = sits;
           ends = refl;
+          counted = ap (tally_with x.reply) was.counted;
         }
 
       -- one line more is answered
-      pub hosted_more : HasHosted books since first new after (ends_host x.reply) (xs ++ x ∷ [])
+      pub hosted_more : HasHosted books since first new after (ends_host x.reply) (tally_with x.reply tally) (xs ++ x ∷ [])
       hosted_more = hosted_by (answers.replied here.history stage was.book is_at)
 
 -- what all lines have come to stays as who is new or over is put at a place
-pub hosted_put : {K R : Type 0} (books : Ghosts K R) (since : List Entry) (first now : K) (place : ℕ) (one : Session) (sessions after : List Session) (ended : Bool) (xs : List Answered)
-    → ((network : Network) (history : List Entry) (stage : Stage) → FitsStage network history one stage) → IsPut sessions place one after → HasHosted books since first now sessions ended xs → HasHosted books since first now after ended xs
-hosted_put books since first now place one sessions after ended xs fits put was = record {
+pub hosted_put : {K R : Type 0} (books : Ghosts K R) (since : List Entry) (first now : K) (place : ℕ) (one : Session) (sessions after : List Session) (ended : Bool) (tally : Tally) (xs : List Answered)
+    → ((network : Network) (history : List Entry) (stage : Stage) → FitsStage network history one stage) → IsPut sessions place one after → HasHosted books since first now sessions ended tally xs → HasHosted books since first now after ended tally xs
+hosted_put books since first now place one sessions after ended tally xs fits put was = record {
   hosted = was.hosted;
   book = was.book;
   network = was.network;
@@ -346,17 +351,19 @@ hosted_put books since first now place one sessions after ended xs fits put was 
       (λ apart. subst (λ (s : Session). FitsStage (books.ledger now).network was.hosted.state.history s (was.hosted.state.stages other)) (sym (put.others other apart)) (was.sits other))
       (cases_eq other place);
   ends = was.ends;
+  counted = was.counted;
 }
 
 -- and as places are made
-pub hosted_left : {K R : Type 0} (books : Ghosts K R) (since : List Entry) (first now : K) (sessions after : List Session) (ended : Bool) (xs : List Answered)
-    → LeavesAll sessions after → HasHosted books since first now sessions ended xs → HasHosted books since first now after ended xs
-hosted_left books since first now sessions after ended xs leaves was = record {
+pub hosted_left : {K R : Type 0} (books : Ghosts K R) (since : List Entry) (first now : K) (sessions after : List Session) (ended : Bool) (tally : Tally) (xs : List Answered)
+    → LeavesAll sessions after → HasHosted books since first now sessions ended tally xs → HasHosted books since first now after ended tally xs
+hosted_left books since first now sessions after ended tally xs leaves was = record {
   hosted = was.hosted;
   book = was.book;
   network = was.network;
   sits = λ place. subst (λ (s : Session). FitsStage (books.ledger now).network was.hosted.state.history s (was.hosted.state.stages place)) (sym (leaves place)) (was.sits place);
   ends = was.ends;
+  counted = was.counted;
 }
 
 -- so does what sessions hold
@@ -364,7 +371,7 @@ pub kept_left : (ledger : Ledger) (sessions after : List Session) → LeavesAll 
 kept_left ledger sessions after leaves kept place = subst (IsSessionKept ledger) (sym (leaves place)) (kept place)
 
 -- nothing is answered yet, and no one is there
-pub hosted_none : {K R : Type 0} (books : Ghosts K R) (since : List Entry) (now : K) → IsSound (books.ledger now).network 0 since → HasBookOf 0 since (books.ledger now) → HasHosted books since now now [] false []
+pub hosted_none : {K R : Type 0} (books : Ghosts K R) (since : List Entry) (now : K) → IsSound (books.ledger now).network 0 since → HasBookOf 0 since (books.ledger now) → HasHosted books since now now [] false no_tally []
 hosted_none books since now sound book = record {
   hosted = record {
     state = host_from since;
@@ -379,4 +386,5 @@ hosted_none books since now sound book = record {
   network = refl;
   sits = λ place. tt;
   ends = refl;
+  counted = refl;
 }

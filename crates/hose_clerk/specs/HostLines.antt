@@ -9,7 +9,7 @@ use Rattle.hose_graph.specs.Limits.{operator}
 use Rattle.hose_graph.specs.Name.{IsName}
 use Rattle.hose_graph.specs.Network.{Network}
 use Rattle.hose_law.specs.Transcript.{SessionLine}
-use Rattle.hose_law.specs.Transcript.SessionLine.{Greets, Asks, Leaves, IsBad, IsLong, Unread}
+use Rattle.hose_law.specs.Transcript.SessionLine.{Greets, IsBad, IsLong}
 use Rattle.hose_greeting.specs.SessionLines.{IsGreeting, SaysLater}
 use Rattle.hose_clerk.specs.declared.doors.DoorRule.{DoorRule}
 use Rattle.hose_clerk.specs.declared.doors.DoorRule.TheVariants.{Any, AnyButOperator, Only}
@@ -58,9 +58,7 @@ SaysFirstAt rule bytes (Greets name) = (length bytes ≤ line_limit) × IsGreeti
 SaysFirstAt rule bytes (IsBad word) = (length bytes ≤ line_limit)
     × IsFirstNotAllowed (greeting_grammar_at rule) [] (words_of bytes) word
 SaysFirstAt rule bytes IsLong = line_limit < length bytes
-SaysFirstAt rule bytes (Asks command) = ⊥
-SaysFirstAt rule bytes Leaves = ⊥
-SaysFirstAt rule bytes Unread = ⊥
+SaysFirstAt rule bytes line = ⊥
 
 -- ---- later lines
 
@@ -77,19 +75,14 @@ IsCount line = words_of line ≡ codes "figures" ∷ []
 abbrev pub SaysLaterAt : Network → List ℕ → HostLine → Type 0
 SaysLaterAt network bytes (Speaks (IsBad word)) =
     SaysLater network bytes (IsBad word) × (¬ IsEnd bytes) × (¬ IsCount bytes)
-SaysLaterAt network bytes (Speaks (Greets name)) = ⊥
-SaysLaterAt network bytes (Speaks (Asks command)) = SaysLater network bytes (Asks command)
-SaysLaterAt network bytes (Speaks Leaves) = SaysLater network bytes Leaves
-SaysLaterAt network bytes (Speaks IsLong) = SaysLater network bytes IsLong
-SaysLaterAt network bytes (Speaks Unread) = SaysLater network bytes Unread
+SaysLaterAt network bytes (Speaks line) = SaysLater network bytes line
 SaysLaterAt network bytes Ends = (length bytes ≤ line_limit) × IsEnd bytes
 SaysLaterAt network bytes Counts = (length bytes ≤ line_limit) × IsCount bytes
 
 -- what a line says at a door of this rule, by whether it is the first of its connection
 abbrev pub SaysBy : Network → DoorRule → Bool → List ℕ → HostLine → Type 0
 SaysBy network rule true bytes (Speaks line) = SaysFirstAt rule bytes line
-SaysBy network rule true bytes Ends = ⊥
-SaysBy network rule true bytes Counts = ⊥
+SaysBy network rule true bytes another = ⊥
 SaysBy network rule false bytes said = SaysLaterAt network bytes said
 
 -- what a line says, by whether it is the first of its connection and by the door that this came by

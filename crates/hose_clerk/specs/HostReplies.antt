@@ -3,6 +3,7 @@ use Rattle.std.specs.Prelude.{ℕ, List, ◌++◌, codes, decimal}
 use Rattle.hose_graph.specs.Network.{Network}
 use Rattle.hose_proto.specs.ReplyText.{line_of, reply_text}
 use Rattle.hose_clerk.specs.declared.figures.Figures.{Figures}
+use Rattle.hose_clerk.specs.declared.times.Times.{Times}
 use Rattle.hose_clerk.specs.declared.replies.HostReply.{HostReply}
 use Rattle.hose_clerk.specs.declared.replies.HostReply.TheVariants as reply
 
@@ -15,28 +16,42 @@ abbrev pub comers_text : Figures → List ℕ
 comers_text figures =
     numbered (codes "figures connections ") figures.connections
     ++ numbered (codes " ever ") figures.ever
-    ++ numbered (codes " lines ") figures.lines
+    ++ numbered (codes " lines ") figures.tally.lines
 
 -- how many orders there were, by their replies
 abbrev pub orders_text : Figures → List ℕ
 orders_text figures =
-    numbered (codes " admitted ") figures.admitted
-    ++ numbered (codes " refused ") figures.refused
-    ++ numbered (codes " released ") figures.released
-    ++ numbered (codes " down ") figures.down
-    ++ numbered (codes " up ") figures.up
+    numbered (codes " admitted ") figures.tally.admitted
+    ++ numbered (codes " refused ") figures.tally.refused
+    ++ numbered (codes " released ") figures.tally.released
+    ++ numbered (codes " down ") figures.tally.down
+    ++ numbered (codes " up ") figures.tally.up
 
--- how many failures there were, and the epoch
+-- how many failures there were
 abbrev pub failures_text : Figures → List ℕ
 failures_text figures =
-    numbered (codes " disk ") figures.disk
-    ++ numbered (codes " memory ") figures.memory
+    numbered (codes " disk ") figures.tally.disk
+    ++ numbered (codes " memory ") figures.tally.memory
     ++ numbered (codes " lost ") figures.lost
-    ++ numbered (codes " at ") figures.at
 
--- what was counted
+-- how many orders and quotes were timed, how long they took, and how many of them longer than this
+abbrev pub times_text : Times → List ℕ
+times_text times =
+    numbered (codes " timed ") times.timed
+    ++ numbered (codes " took ") times.took
+    ++ numbered (codes " over-100us ") times.over_100us
+    ++ numbered (codes " over-1ms ") times.over_1ms
+    ++ numbered (codes " over-10ms ") times.over_10ms
+    ++ numbered (codes " over-100ms ") times.over_100ms
+    ++ numbered (codes " over-1s ") times.over_1s
+    ++ numbered (codes " over-10s ") times.over_10s
+
+-- what was counted, how long ago the last sync was, and the epoch
 abbrev pub figures_text : Figures → List ℕ
-figures_text figures = comers_text figures ++ orders_text figures ++ failures_text figures
+figures_text figures =
+    comers_text figures ++ orders_text figures ++ failures_text figures
+    ++ times_text figures.times ++ numbered (codes " synced ") figures.since_sync
+    ++ numbered (codes " at ") figures.at
 
 -- the line that tells what was counted
 abbrev pub figures_line : Figures → List ℕ

@@ -14,59 +14,46 @@ use Rattle.hose_law.specs.History.{IsDecidedAt, book_of}
 use Rattle.hose_law.specs.Quotes.{Holding, none_held}
 use Rattle.hose_law.specs.Script.{one_if_disk}
 use Rattle.hose_law.specs.Transcript.{IsPlainReply, SessionLine, Stage, stage_after}
-use Rattle.hose_law.specs.Transcript.SessionLine.{Greets, Asks, Leaves, IsBad, IsLong, Unread}
+use Rattle.hose_law.specs.Transcript.SessionLine.{Greets, Asks}
 use Rattle.hose_law.specs.Transcript.Stage.{Left, Refused, Serving, Waiting}
 use Rattle.hose_clerk.specs.HostLines.{HostLine}
 use Rattle.hose_clerk.specs.HostLines.HostLine.{Counts, Ends, Speaks}
+use Rattle.hose_clerk.specs.Tally.{no_tally, tally_with}
+use Rattle.hose_clerk.specs.declared.tally.Tally.{Tally}
 use Rattle.hose_clerk.specs.declared.replies.HostReply.{HostReply}
 use Rattle.hose_clerk.specs.declared.replies.HostReply.TheVariants as reply
 
--- where a host is: the history, how far each connection is by its place, and whether no line is
--- answered any more
+-- where a host is: the history, how far each connection is by its place, whether no line is
+-- answered any more, and what was answered, counted by reply
 pub record HostState : Type 0 where
   pub history : List Entry
   pub stages : ℕ → Stage
   pub ended : Bool
+  pub tally : Tally
 
--- where a host begins: at a history, with no one there
+-- where a host begins: at a history, with no one there and nothing answered
 abbrev pub host_from : List Entry → HostState
-host_from since = record { history = since; stages = λ place. Left; ended = false }
+host_from since = record {
+  history = since;
+  stages = λ place. Left;
+  ended = false;
+  tally = no_tally;
+}
 
 -- ---- one line
-
--- a line that changes no history is answered, and its session is so far then
-abbrev pub IsPlainStep : List Entry → Stage → SessionLine → Reply → List Entry → Stage → Type 0
-IsPlainStep history stage line reply next after =
-    IsPlainReply line reply × (next ≡ history) × (after ≡ stage_after stage line)
 
 -- A line of a session that is so far is answered at a history: the history and the session then.
 abbrev pub IsSessionAnswer : Network → List Entry → Stage → SessionLine → Reply → List Entry
     → Stage → Type 0
 IsSessionAnswer network history Waiting (Greets customer) reply next after =
     (reply ≡ Welcome (length history)) × (next ≡ history) × (after ≡ Serving customer none_held)
-IsSessionAnswer network history Waiting (Asks command) reply next after = ⊥
-IsSessionAnswer network history Waiting Leaves reply next after =
-    IsPlainStep history Waiting Leaves reply next after
-IsSessionAnswer network history Waiting (IsBad word) reply next after =
-    IsPlainStep history Waiting (IsBad word) reply next after
-IsSessionAnswer network history Waiting IsLong reply next after =
-    IsPlainStep history Waiting IsLong reply next after
-IsSessionAnswer network history Waiting Unread reply next after =
-    IsPlainStep history Waiting Unread reply next after
-IsSessionAnswer network history (Serving customer held) (Greets other) reply next after = ⊥
 IsSessionAnswer network history (Serving customer held) (Asks command) reply next after =
     (left : Holding) × IsStep network 0 history customer held command reply next left
     × (after ≡ Serving customer left)
-IsSessionAnswer network history (Serving customer held) Leaves reply next after =
-    IsPlainStep history (Serving customer held) Leaves reply next after
-IsSessionAnswer network history (Serving customer held) (IsBad word) reply next after =
-    IsPlainStep history (Serving customer held) (IsBad word) reply next after
-IsSessionAnswer network history (Serving customer held) IsLong reply next after =
-    IsPlainStep history (Serving customer held) IsLong reply next after
-IsSessionAnswer network history (Serving customer held) Unread reply next after =
-    IsPlainStep history (Serving customer held) Unread reply next after
 IsSessionAnswer network history Refused line reply next after = ⊥
 IsSessionAnswer network history Left line reply next after = ⊥
+IsSessionAnswer network history stage line reply next after =
+    IsPlainReply line reply × (next ≡ history) × (after ≡ stage_after stage line)
 
 -- the reply to `end` of a customer at an epoch: for the operator alone the host ends
 abbrev pub IsEndReply : ℕ → List ℕ → HostReply → Type 0
@@ -74,33 +61,34 @@ IsEndReply epoch customer (reply.Told told) = (customer ≢ operator) × (told �
 IsEndReply epoch customer (reply.Ending at) = (customer ≡ operator) × (at ≡ epoch)
 IsEndReply epoch customer (reply.Figures figures) = ⊥
 
--- the reply to `figures` of a customer at an epoch: to the operator alone they are told
-abbrev pub IsCountReply : ℕ → List ℕ → HostReply → Type 0
-IsCountReply epoch customer (reply.Told told) = (customer ≢ operator) × (told ≡ Denied epoch)
-IsCountReply epoch customer (reply.Ending at) = ⊥
-IsCountReply epoch customer (reply.Figures figures) =
-    (customer ≡ operator) × (figures.at ≡ epoch)
+-- the reply to `figures` of a customer at an epoch: to the operator alone it is told how many lines
+-- before were answered with which reply
+abbrev pub IsCountReply : Tally → ℕ → List ℕ → HostReply → Type 0
+IsCountReply tally epoch customer (reply.Told told) =
+    (customer ≢ operator) × (told ≡ Denied epoch)
+IsCountReply tally epoch customer (reply.Ending at) = ⊥
+IsCountReply tally epoch customer (reply.Figures figures) =
+    (customer ≡ operator) × (figures.tally ≡ tally) × (figures.at ≡ epoch)
 
 -- a line of a customer that a session serves is answered by such a reply, and nothing changes
 abbrev pub IsOwnAnswer : (ℕ → List ℕ → HostReply → Type 0) → List Entry → Stage → HostReply
     → List Entry → Stage → Type 0
 IsOwnAnswer Is history (Serving customer held) told next after =
     Is (length history) customer told × (next ≡ history) × (after ≡ Serving customer held)
-IsOwnAnswer Is history Waiting told next after = ⊥
-IsOwnAnswer Is history Refused told next after = ⊥
-IsOwnAnswer Is history Left told next after = ⊥
+IsOwnAnswer Is history stage told next after = ⊥
 
--- A line is answered at a history, and who gave it is so far before it and then.
-abbrev pub IsHostAnswer : Network → List Entry → Stage → HostLine → HostReply → List Entry → Stage
-    → Type 0
-IsHostAnswer network history stage (Speaks line) (reply.Told told) next after =
+-- A line is answered at a history, after so many other ones, and who gave it is so far before it
+-- and then.
+abbrev pub IsHostAnswer : Network → Tally → List Entry → Stage → HostLine → HostReply → List Entry
+    → Stage → Type 0
+IsHostAnswer network tally history stage (Speaks line) (reply.Told told) next after =
     IsSessionAnswer network history stage line told next after
-IsHostAnswer network history stage (Speaks line) (reply.Ending at) next after = ⊥
-IsHostAnswer network history stage (Speaks line) (reply.Figures figures) next after = ⊥
-IsHostAnswer network history stage Ends told next after =
+IsHostAnswer network tally history stage (Speaks line) (reply.Ending at) next after = ⊥
+IsHostAnswer network tally history stage (Speaks line) (reply.Figures figures) next after = ⊥
+IsHostAnswer network tally history stage Ends told next after =
     IsOwnAnswer IsEndReply history stage told next after
-IsHostAnswer network history stage Counts told next after =
-    IsOwnAnswer IsCountReply history stage told next after
+IsHostAnswer network tally history stage Counts told next after =
+    IsOwnAnswer (IsCountReply tally) history stage told next after
 
 -- how far who gives a line is before it: with the first line of a connection a session begins
 abbrev pub stage_before : Bool → Stage → Stage
@@ -118,16 +106,17 @@ ends_host (reply.Ending at) = true
 ends_host (reply.Figures figures) = false
 
 -- A line is answered where a host is: the reply is right at the history, the connection alone that
--- gave it goes on, and as many entries are needed as stand then.
+-- gave it goes on, the reply is counted, and as many entries are needed as stand then.
 pub record IsHostStep (network : Network) (exchange : Exchange HostLine HostReply)
     (old new : HostState) : Type 0 where
   pub goes_on : old.ended ≡ false
   pub after : Stage
-  pub answer : IsHostAnswer network old.history
+  pub answer : IsHostAnswer network old.tally old.history
       (stage_before exchange.first (old.stages exchange.place)) exchange.said exchange.reply
       new.history after
   pub stages : new.stages ≡ with_stage old.stages exchange.place after
   pub ended : new.ended ≡ ends_host exchange.reply
+  pub tally : new.tally ≡ tally_with exchange.reply old.tally
   pub needs : exchange.needs ≡ length new.history
 
 -- ---- all lines

@@ -1,4 +1,5 @@
 pub mod HostLines
 pub mod HostReplies
 pub mod Hosting
+pub mod Tally
 pub mod steps

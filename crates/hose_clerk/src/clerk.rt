@@ -3,6 +3,7 @@ ghost use Rattle.std.specs.Prelude.{◌≡◌, ◌≢◌, List, [], false};
 ghost use Rattle.hose_graph.specs.declared.entry.Entry.{Entry};
 ghost use Rattle.hose_law.specs.History.{IsSound};
 ghost use Rattle.hose_book.specs.Ledger.{HasBookOf};
+ghost use Rattle.hose_clerk.specs.Tally.{no_tally};
 ghost use Rattle.hose_clerk.specs.steps.Answering.{AreSessionsKept, HasHosted};
 
 use crate::desk::{Desk, topology_of};
@@ -40,19 +41,22 @@ impl<K: Books + Drop, R: RowMaker + Drop, L: Log> Clerk<K, R, L> {
         ensures core { result.desk.core ≡ core }
         ensures doors { result.doors.items ≡ doors.items }
         ensures ending { result.desk.is_ending ≡ false }
+        ensures tally { result.desk.figures.tally ≡ no_tally }
         ensures kept { AreSessionsKept (K.ledger core.books) result.sessions.items }
         // Nothing is answered yet.
         ensures hosted { (since : List Entry) → IsSound (K.ledger core.books).network 0 since
             → HasBookOf 0 since (K.ledger core.books)
-            → HasHosted K.Books since core.books core.books result.sessions.items false [] }
+            → HasHosted K.Books since core.books core.books result.sessions.items false no_tally
+            [] }
     {
+        let figures = Figures::new(log.nanos());
         Clerk {
             desk: Desk {
                 alloc,
                 core,
                 rows,
                 log,
-                figures: Figures::new(),
+                figures,
                 is_ending: false,
             },
             doors,
@@ -85,6 +89,8 @@ impl<K: Books + Drop, R: RowMaker + Drop, L: Log> Clerk<K, R, L> {
 impl<K: Books + Drop, R: RowMaker + Drop, L: Log> HostAnswers for Clerk<K, R, L> {
     type Reply = HostReply;
 
+    type Kept = K;
+
     ghost use Rattle.std.specs.Prelude.{List};
     ghost use Rattle.hose_graph.specs.Network.{Network};
     ghost use Rattle.hose_graph.specs.declared.entry.Entry.{Entry};
@@ -92,6 +98,7 @@ impl<K: Books + Drop, R: RowMaker + Drop, L: Log> HostAnswers for Clerk<K, R, L>
     ghost use Rattle.hose_clerk.specs.HostReplies.{host_text};
     ghost use Rattle.hose_clerk.specs.declared.doors.DoorRule.{DoorRule};
     ghost use Rattle.hose_clerk.specs.steps.Answering.{AreSessionsKept, HasHosted, NamesOf};
+    ghost use Rattle.hose_clerk.specs.steps.Hosting.{AreHosted};
     ghost use Rattle.hose_clerk.specs.steps.Sessions.{is_new_at, is_over_at, session_at};
 
     ghost said = { HostLine };
@@ -109,7 +116,11 @@ impl<K: Books + Drop, R: RowMaker + Drop, L: Log> HostAnswers for Clerk<K, R, L>
     ghost origin = { List Entry × Self };
 
     ghost comes = { λ from exchanges clerk. HasHosted K.Books from.0 from.1.desk.core.books
-        clerk.desk.core.books clerk.sessions.items clerk.desk.is_ending exchanges };
+        clerk.desk.core.books clerk.sessions.items clerk.desk.is_ending clerk.desk.figures.tally
+        exchanges };
+
+    ghost stands = { λ from exchanges books. AreHosted K.Books
+        (K.ledger from.1.desk.core.books).network from.0 from.1.desk.core.books books exchanges };
 
     ghost fits = { λ clerk.
         AreSessionsKept (K.ledger clerk.desk.core.books) clerk.sessions.items };
@@ -148,6 +159,10 @@ impl<K: Books + Drop, R: RowMaker + Drop, L: Log> HostAnswers for Clerk<K, R, L>
 
     fn put<O: Sink>(&self, output: &mut O, reply: &HostReply) -> Result<(), Failed> {
         put_host_reply(output, topology_of(&self.desk.core), reply)
+    }
+
+    fn kept(&self) -> &K {
+        self.desk.core.books()
     }
 
     fn counted(&self) -> u64 {

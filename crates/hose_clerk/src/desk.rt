@@ -19,6 +19,7 @@ use crate::log_lines::{is_order, tell};
 use crate::own_words::{is_count, is_end};
 use crate::replies::HostReply;
 use crate::sessions::{Client, Session};
+use crate::times::is_timed;
 use hose_book::Books;
 use hose_core::{Core, QuotesByCustomer};
 use hose_graph::{Command, Reply, Topology};
@@ -48,6 +49,20 @@ pub fn topology_of<K: Books + Drop>(core: &Core<K>) -> &Topology
     core.books().book().topology()
 }
 
+// The nanoseconds of a clock where it is asked, else 0.
+fn nanos_if<L: Log>(clock: &L, is_asked: bool) -> u64 {
+    if is_asked { clock.nanos() } else { 0 }
+}
+
+// Counts how long a command took, where it is timed.
+fn count_if<L: Log>(clock: &L, figures: &mut Figures, is_timed: bool, taken: u64, reply: &Reply)
+    ensures { figures.new.tally ≡ figures.old.tally }
+{
+    if is_timed {
+        figures.times.count(reply, taken, clock.nanos());
+    }
+}
+
 impl<K: Books + Drop, R: RowMaker + Drop, L: Log> Desk<K, R, L> {
     /// The reply to a line of a session at a door of this rule, and how far the session is then.
     pub fn reply_to(
@@ -60,8 +75,10 @@ impl<K: Books + Drop, R: RowMaker + Drop, L: Log> Desk<K, R, L> {
         requires kept { IsSessionKept (K.ledger self.old.core.books) session }
         ensures answers { AnswersSession K.Books
             (SaysBy (K.ledger self.old.core.books).network rule (is_new_at session))
-            self.old.core.books self.new.core.books session line.entry result.0 result.1 }
+            self.old.figures.tally self.old.core.books self.new.core.books session line.entry
+            result.0 result.1 }
         ensures ending { self.new.is_ending ≡ self.old.is_ending }
+        ensures tally { self.new.figures.tally ≡ self.old.figures.tally }
     {
         let client = match session {
             Session::New => return self.greet(rule, line),
@@ -74,7 +91,8 @@ impl<K: Books + Drop, R: RowMaker + Drop, L: Log> Desk<K, R, L> {
     // The reply to the first line.
     fn greet(&self, rule: DoorRule, line: Line<'_>) -> (HostReply, Session)
         ensures { AnswersSession K.Books (SaysBy (K.ledger self.now.core.books).network rule true)
-            self.now.core.books self.now.core.books New line.entry result.0 result.1 }
+            self.now.figures.tally self.now.core.books self.now.core.books New line.entry
+            result.0 result.1 }
     {
         match greeting_at(rule, line) {
             Ok(name) => {
@@ -93,10 +111,11 @@ impl<K: Books + Drop, R: RowMaker + Drop, L: Log> Desk<K, R, L> {
     fn serve(&mut self, client: Client, line: Line<'_>) -> (HostReply, Session)
         requires { AreAllKept (K.ledger self.old.core.books) client.quotes }
         ensures answers { AnswersSession K.Books
-            (SaysLaterAt (K.ledger self.old.core.books).network)
+            (SaysLaterAt (K.ledger self.old.core.books).network) self.old.figures.tally
             self.old.core.books self.new.core.books (Serving client) line.entry
             result.0 result.1 }
         ensures ending { self.new.is_ending ≡ self.old.is_ending }
+        ensures tally { self.new.figures.tally ≡ self.old.figures.tally }
     {
         let Line::Text(text) = line else {
             return (HostReply::Told(Reply::Long), Session::Serving(client));
@@ -125,15 +144,19 @@ impl<K: Books + Drop, R: RowMaker + Drop, L: Log> Desk<K, R, L> {
     fn ask(&mut self, client: Client, command: Command, text: &[u8]) -> (HostReply, Session)
         requires asks { AsksOf (K.ledger self.old.core.books).network command }
         requires kept { AreAllKept (K.ledger self.old.core.books) client.quotes }
-        ensures answers { AnswersTo K.Books self.old.core.books self.new.core.books (Serving client)
-            (Speaks (Asks command)) result.0 result.1 }
+        ensures answers { AnswersTo K.Books self.old.figures.tally self.old.core.books
+            self.new.core.books (Serving client) (Speaks (Asks command)) result.0 result.1 }
         ensures ending { self.new.is_ending ≡ self.old.is_ending }
+        ensures tally { self.new.figures.tally ≡ self.old.figures.tally }
     {
         let Client { name, mut quotes } = client;
         let is_order = is_order(&command);
+        let is_timed = is_timed(&command, is_order);
+        let taken = nanos_if(&self.log, is_timed);
         let reply = self
             .core
             .step_for(self.alloc, &name, &mut quotes, command, &mut self.rows);
+        count_if(&self.log, &mut self.figures, is_timed, taken, &reply);
         let top = topology_of(&self.core);
         tell(
             self.alloc,
@@ -155,8 +178,8 @@ impl<K: Books + Drop, R: RowMaker + Drop, L: Log> Desk<K, R, L> {
         requires word { IsFirstNotAllowed (command_grammar (K.ledger self.now.core.books).network)
             [] (words_of text.now) word }
         requires kept { AreAllKept (K.ledger self.now.core.books) client.quotes }
-        ensures { AnswersText K.Books self.now.core.books (Serving client) text.now
-            result.0 result.1 }
+        ensures { AnswersText K.Books self.now.figures.tally self.now.core.books (Serving client)
+            text.now result.0 result.1 }
     {
         if is_bye(text) {
             return (HostReply::Told(Reply::Bye), Session::Over);
@@ -188,11 +211,13 @@ impl<K: Books + Drop, R: RowMaker + Drop, L: Log> Desk<K, R, L> {
 
     // The reply to `figures`.
     fn figures_for(&self, client: &Client) -> HostReply
-        ensures { IsCountReply (K.ledger self.now.core.books).book.epoch client.now.name result }
+        ensures { IsCountReply self.now.figures.tally (K.ledger self.now.core.books).book.epoch
+            client.now.name result }
     {
         let at = self.core.books().book().epoch();
         if client.name.is_operator() {
-            HostReply::Figures(self.figures.told_at(self.log.lost(), at))
+            let lost = self.log.lost();
+            HostReply::Figures(self.figures.told_at(lost, self.log.nanos(), at))
         } else {
             HostReply::Told(Reply::Denied { at })
         }

@@ -28,6 +28,8 @@ mod log_lines;
 mod own_words;
 mod replies;
 mod sessions;
+mod tally;
+mod times;
 
 pub use clerk::Clerk;
 pub use desk::Desk;
@@ -35,3 +37,5 @@ pub use doors::DoorRule;
 pub use figures::Figures;
 pub use replies::HostReply;
 pub use sessions::{Client, Session};
+pub use tally::Tally;
+pub use times::Times;

@@ -9,7 +9,7 @@ use std::sync::atomic::Ordering;
 use std::sync::{Arc, Wait};
 use std::thread;
 use std::thread::Threads;
-use std::time::{Clock, Duration};
+use std::time::{Clock, Duration, Instant};
 
 // How many bytes wait to be written at most, and how many of them are written at once.
 const RING: usize = 1 << 20;
@@ -24,6 +24,8 @@ const LAST_WAITS: u32 = 500;
 
 const LAST_MILLIS: u64 = 2;
 
+const NANOS: u64 = 1_000_000_000;
+
 // What is shared with the thread that writes.
 #[derive(Drop)]
 struct Begun {
@@ -37,6 +39,8 @@ struct Begun {
 #[derive(Drop)]
 pub struct ErrorLog<R> {
     rt: R,
+    // Whose nanoseconds are counted from here on.
+    since: Option<Instant>,
     begun: Option<Begun>,
     line: Vec<u8>,
     lost: u64,
@@ -49,6 +53,7 @@ impl<R: Threads + Wait + Clock + Copy + Drop + Send + 'static> ErrorLog<R> {
     pub fn begin<W: Write + Drop + Send + 'static>(rt: R, alloc: Global, output: W) -> ErrorLog<R> {
         ErrorLog {
             rt,
+            since: Instant::now(&rt).ok(),
             begun: begin(rt, alloc, output).ok(),
             line: Vec::new(alloc),
             lost: 0,
@@ -57,10 +62,11 @@ impl<R: Threads + Wait + Clock + Copy + Drop + Send + 'static> ErrorLog<R> {
     }
 }
 
-impl<R> ErrorLog<R> {
+impl<R: Clock> ErrorLog<R> {
     /// A log that is not written, for who wants none: nothing counts as lost.
     pub fn silent(rt: R, alloc: Global) -> ErrorLog<R> {
         ErrorLog {
+            since: Instant::now(&rt).ok(),
             rt,
             begun: None,
             line: Vec::new(alloc),
@@ -68,7 +74,9 @@ impl<R> ErrorLog<R> {
             is_silent: true,
         }
     }
+}
 
+impl<R> ErrorLog<R> {
     // Counts a line that is lost, and has the thread tell of it.
     fn lose(&mut self) {
         self.lost = self.lost.saturating_add(1);
@@ -133,6 +141,15 @@ impl<R: Clock + Drop> Log for ErrorLog<R> {
             None => 0,
         };
         self.lost.saturating_add(unwritten)
+    }
+
+    fn nanos(&self) -> u64 {
+        let (Some(since), Ok(now)) = (self.since, Instant::now(&self.rt)) else {
+            return 0;
+        };
+        let past = now.saturating_duration_since(since);
+        let nanos = u64::from(past.subsec_nanos());
+        past.as_secs().saturating_mul(NANOS).saturating_add(nanos)
     }
 
     fn end(&mut self) {

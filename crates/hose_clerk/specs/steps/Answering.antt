@@ -30,6 +30,7 @@ use Rattle.hose_clerk.specs.Hosting.{IsHostAnswer, disks_told}
 use Rattle.hose_clerk.specs.steps.Hosting.{AreHosted}
 use Rattle.hose_clerk.specs.declared.replies.HostReply.{HostReply}
 use Rattle.hose_clerk.specs.declared.replies.HostReply.TheVariants as reply
+use Rattle.hose_clerk.specs.declared.tally.Tally.{Tally}
 use Rattle.hose_clerk.specs.declared.sessions.Client.{Client}
 use Rattle.hose_clerk.specs.declared.sessions.Session.{Session}
 use Rattle.hose_clerk.specs.declared.sessions.Session.TheVariants as session
@@ -118,22 +119,24 @@ pub record HasStayed {K : Type 0} (old new : K) (history : List Entry) (told : H
 
 -- A line of a session that is so far was answered at a history, and the session fits what this led
 -- to.
-pub record HasReplied {K R : Type 0} (books : Ghosts K R) (old new : K) (history : List Entry)
-    (stage : Stage) (said : HostLine) (told : HostReply) (session : Session) : Type 0 where
+pub record HasReplied {K R : Type 0} (books : Ghosts K R) (tally : Tally) (old new : K)
+    (history : List Entry) (stage : Stage) (said : HostLine) (told : HostReply)
+    (session : Session) : Type 0 where
   pub next : List Entry
   pub after : Stage
-  pub answer : IsHostAnswer (books.ledger old).network history stage said told next after
+  pub answer : IsHostAnswer (books.ledger old).network tally history stage said told next after
   pub sits : FitsStage (books.ledger new).network next session after
   pub book : HasBookOf 0 next (books.ledger new)
   pub changes : HasStayed old new history told next
       ⊎ HasAsked books old new history stage said told next
 
--- A line of a session that says this was answered at each history that the books stand for.
-pub record AnswersTo {K R : Type 0} (books : Ghosts K R) (old new : K) (session : Session)
-    (said : HostLine) (told : HostReply) (left : Session) : Type 0 where
+-- A line of a session that says this was answered, after those that were counted, at each history
+-- that the books stand for.
+pub record AnswersTo {K R : Type 0} (books : Ghosts K R) (tally : Tally) (old new : K)
+    (session : Session) (said : HostLine) (told : HostReply) (left : Session) : Type 0 where
   pub replied : (history : List Entry) (stage : Stage) → HasBookOf 0 history (books.ledger old)
       → IsBefore (books.ledger old).network history session stage
-      → HasReplied books old new history stage said told left
+      → HasReplied books tally old new history stage said told left
   pub network : (books.ledger new).network ≡ (books.ledger old).network
   pub goes : IsSameOrNext (books.ledger old) (books.ledger new)
   pub kept : IsSessionKept (books.ledger new) left
@@ -142,29 +145,30 @@ pub record AnswersTo {K R : Type 0} (books : Ghosts K R) (old new : K) (session 
 
 -- A line of a session was answered, which says something.
 pub record AnswersSession {K R : Type 0} (books : Ghosts K R) (Says : List ℕ → HostLine → Type 0)
-    (old new : K) (session : Session) (line : Line) (told : HostReply) (left : Session) :
-    Type 0 where
+    (tally : Tally) (old new : K) (session : Session) (line : Line) (told : HostReply)
+    (left : Session) : Type 0 where
   pub said : HostLine
   pub says : ShownAs Says line said
-  pub answers : AnswersTo books old new session said told left
+  pub answers : AnswersTo books tally old new session said told left
 
 -- and of its text this is known
-pub record AnswersText {K R : Type 0} (books : Ghosts K R) (books_now : K) (session : Session)
-    (text : List ℕ) (told : HostReply) (left : Session) : Type 0 where
+pub record AnswersText {K R : Type 0} (books : Ghosts K R) (tally : Tally) (books_now : K)
+    (session : Session) (text : List ℕ) (told : HostReply) (left : Session) : Type 0 where
   pub said : HostLine
   pub says : SaysText (books.ledger books_now).network text said
-  pub answers : AnswersTo books books_now books_now session said told left
+  pub answers : AnswersTo books tally books_now books_now session said told left
 
 -- ---- all lines
 
 -- Lines were answered from a history on, by books that were first so, and have come to these: each
--- session fits where the host is.
+-- session fits where the host is, and the replies were counted.
 pub record HasHosted {K R : Type 0} (books : Ghosts K R) (since : List Entry) (first now : K)
-    (sessions : List Session) (ended : Bool) (exchanges : List (Exchange HostLine HostReply)) :
-    Type 0 where
+    (sessions : List Session) (ended : Bool) (tally : Tally)
+    (exchanges : List (Exchange HostLine HostReply)) : Type 0 where
   pub hosted : AreHosted books (books.ledger first).network since first now exchanges
   pub book : HasBookOf 0 hosted.state.history (books.ledger now)
   pub network : (books.ledger now).network ≡ (books.ledger first).network
   pub sits : (place : ℕ) → FitsStage (books.ledger now).network hosted.state.history
       (session_at sessions place) (hosted.state.stages place)
   pub ends : hosted.state.ended ≡ ended
+  pub counted : hosted.state.tally ≡ tally

@@ -1,7 +1,10 @@
 use Rattle.std.proofs.Common.{◌≡◌, ◌∙◌, ◌∷◌, ◌++◌, [], Bool, ap, refl, rules, subst, sym}
 use Rattle.hose_clerk.specs.HostLines.{SaysBy, rule_at}
 use Rattle.hose_clerk.specs.declared.doors.DoorRule.{DoorRule}
+use Rattle.hose_clerk.specs.Hosting.{ends_host}
+use Rattle.hose_clerk.specs.Tally.{tally_with}
 use Rattle.hose_clerk.specs.declared.sessions.Session.TheVariants.{Over}
+use Rattle.hose_clerk.specs.declared.tally.Tally.{Tally}
 use Rattle.hose_clerk.specs.steps.Answering.{HasHosted}
 use Rattle.hose_clerk.specs.steps.Sessions.{is_new_at, is_over_at, session_at}
 use Rattle.hose_clerk.proofs.Hosted.{Answered, hosted_more, kept_put}
@@ -41,9 +44,11 @@ returns-clause-answers g c = λ from before bytes shows has.
     let says = subst (λ (b : Bool). SaysBy network (rule_at c.args.self.now.doors.items c.args.door) b bytes answered.said) (ap is_new_at (sym at))
     (subst (λ (r : DoorRule). SaysBy network r (is_new_at one) bytes answered.said) rule (answered.says bytes shows)) in
     let put = put_then sessions c.take-session.new.sessions.items after c.args.place Over left c.take-session.ensures.left c.put.ensures in
-    let was = subst (λ (e : Bool). HasHosted g.K.Books from.0 from.1.desk.core.books old sessions e before) c.requires.goes_on has in
-    let more = hosted_more g.K.Books from.0 from.1.desk.core.books old new before sessions was x one left after at (sym (ap is_over_at at) ∙ c.requires.open) put (ap is_new_at at) answered.answers refl in
-    (answered.said, says, subst (λ (e : Bool). HasHosted g.K.Books from.0 from.1.desk.core.books new after e (before ++ x ∷ [])) (sym c.ends-self.ensures) more)
+    let was = subst (λ (e : Bool). HasHosted g.K.Books from.0 from.1.desk.core.books old sessions e c.args.self.now.desk.figures.tally before) c.requires.goes_on has in
+    let more = hosted_more g.K.Books from.0 from.1.desk.core.books old new before sessions c.args.self.now.desk.figures.tally was x one left after at (sym (ap is_over_at at) ∙ c.requires.open) put (ap is_new_at at) answered.answers refl in
+    let counted = c.count.ensures ∙ ap (tally_with x.reply) c.reply_to-reply.ensures.tally in
+    let tallied = subst (λ (t : Tally). HasHosted g.K.Books from.0 from.1.desk.core.books new after (ends_host x.reply) t (before ++ x ∷ [])) (sym counted) more in
+    (answered.said, says, subst (λ (e : Bool). HasHosted g.K.Books from.0 from.1.desk.core.books new after e c.count.new.self.tally (before ++ x ∷ [])) (sym c.ends-self.ensures) tallied)
 
 pub returns-clause-others : goal.returns-clause-others
 returns-clause-others g c = λ other apart.

@@ -1,5 +1,7 @@
-use Rattle.std.proofs.Common.{inl, refl}
+use Rattle.std.proofs.Common.{inl, refl, subst, sym}
 use Rattle.hose_clerk.specs.declared.sessions.Session.TheVariants.{Over}
+use Rattle.hose_clerk.specs.declared.tally.Tally.{Tally}
+use Rattle.hose_clerk.specs.steps.Answering.{HasHosted}
 use Rattle.hose_clerk.proofs.Hosted.{hosted_put, kept_put}
 use Rattle.hose_clerk.proofs.clerk.ClerkHostAnswers.leave.Goals as goal
 
@@ -10,5 +12,6 @@ returns-clause-fits g c =
 
 pub returns-clause-comes : goal.returns-clause-comes
 returns-clause-comes g c = λ from exchanges has.
-    hosted_put g.K.Books from.0 from.1.desk.core.books c.args.self.now.desk.core.books c.args.place Over c.args.self.now.sessions.items c.take-gone.new.sessions.items c.args.self.now.desk.is_ending exchanges
-    (λ network history stage. tt) c.take-gone.ensures.left has
+    subst (λ (t : Tally). HasHosted g.K.Books from.0 from.1.desk.core.books c.args.self.now.desk.core.books c.take-gone.new.sessions.items c.args.self.now.desk.is_ending t exchanges) (sym c.leave.ensures)
+    (hosted_put g.K.Books from.0 from.1.desk.core.books c.args.self.now.desk.core.books c.args.place Over c.args.self.now.sessions.items c.take-gone.new.sessions.items c.args.self.now.desk.is_ending c.args.self.now.desk.figures.tally exchanges
+    (λ network history stage. tt) c.take-gone.ensures.left has)

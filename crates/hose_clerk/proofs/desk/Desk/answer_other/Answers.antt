@@ -7,21 +7,21 @@ pub returns-then-is_bye : goal.returns-then-is_bye
 returns-then-is_bye g c = record {
   said = Speaks Leaves;
   says = c.is_bye.ensures.0 c.if-is_bye.true;
-  answers = bye_answered g.K.Books c.args.self.now.core.books c.args.client c.requires.kept;
+  answers = bye_answered g.K.Books c.args.self.now.figures.tally c.args.self.now.core.books c.args.client c.requires.kept;
 }
 
 pub returns-then-is_end : goal.returns-then-is_end
 returns-then-is_end g c = record {
   said = Ends;
   says = c.is_end.ensures.0 c.if-is_end.true;
-  answers = end_answered g.K.Books c.args.self.now.core.books c.args.client c.requires.kept c.end_by-reply.result c.end_by-reply.ensures;
+  answers = end_answered g.K.Books c.args.self.now.figures.tally c.args.self.now.core.books c.args.client c.requires.kept c.end_by-reply.result c.end_by-reply.ensures;
 }
 
 pub returns-then-is_count : goal.returns-then-is_count
 returns-then-is_count g c = record {
   said = Counts;
   says = c.is_count.ensures.0 c.if-is_count.true;
-  answers = count_answered g.K.Books c.args.self.now.core.books c.args.client c.requires.kept c.figures_for-reply.result c.figures_for-reply.ensures;
+  answers = count_answered g.K.Books c.args.self.now.figures.tally c.args.self.now.core.books c.args.client c.requires.kept c.figures_for-reply.result c.figures_for-reply.ensures;
 }
 
 pub returns : goal.returns
@@ -33,5 +33,5 @@ returns g c = record {
     (λ is. cc (c.is_end.ensures.1 is, c.if-is_end.false)),
     (λ is. cc (c.is_count.ensures.1 is, c.if-is_count.false)),
   );
-  answers = bad_answered g.K.Books c.args.self.now.core.books c.args.client c.requires.kept c.args.word;
+  answers = bad_answered g.K.Books c.args.self.now.figures.tally c.args.self.now.core.books c.args.client c.requires.kept c.args.word;
 }

@@ -13,7 +13,7 @@ returns-in-Ok g c =
     record {
       said = Speaks (Greets c.in-Ok.name);
       says = subst (IsGreetedAt c.args.rule c.args.line) c.in-Ok.is c.greeting_at.ensures;
-      answers = greeted g.K.Books books c.in-Ok.name c.new-quotes.result c.epoch-at.result c.new-quotes.ensures at;
+      answers = greeted g.K.Books c.args.self.now.figures.tally books c.in-Ok.name c.new-quotes.result c.epoch-at.result c.new-quotes.ensures at;
     }
 
 pub returns-in-Err : goal.returns-in-Err
@@ -22,5 +22,5 @@ returns-in-Err g c =
     record {
       said = Speaks is.0;
       says = is.1;
-      answers = refused g.K.Books c.args.self.now.core.books is.0 c.in-Err.reply is.2;
+      answers = refused g.K.Books c.args.self.now.figures.tally c.args.self.now.core.books is.0 c.in-Err.reply is.2;
     }
