@@ -1,5 +1,5 @@
 -- Lines of a talk, one after another.
-use Rattle.std.proofs.Common.{◌≡◌, ◌≢◌, ◌∙◌, ◌↔◌, ℕ, ◌≤◌, ◌<◌, ◌+◌, arith, List, [], ◌∷◌, ◌++◌, None, Some, Result, Ok, Err, true, false, refl, sym, ap, subst, take}
+use Rattle.std.proofs.Common.{◌≡◌, ◌≢◌, ◌∙◌, ◌↔◌, length, length-append, ℕ, ◌≤◌, ◌<◌, ◌+◌, arith, List, [], ◌∷◌, ◌++◌, None, Some, Result, Ok, Err, true, false, refl, sym, ap, subst, take}
 use Rattle.std.specs.List.{flat_map}
 use Rattle.hose_io.specs.Stream.{Grows}
 use Rattle.hose_io.specs.Writing.{GrowsInPart}
@@ -9,15 +9,17 @@ use Rattle.hose_io.specs.declared.source.Source.{Ghosts as SourceGhosts}
 use Rattle.hose_words.specs.Lines.{StopsAfterLines}
 use Rattle.hose_words.specs.steps.Lines.{IsNext, Reader}
 use Rattle.hose_words.specs.steps.Reading.{ReadsOn}
-use Rattle.hose_words.specs.Saying.{IsAllTaken, IsLeftOver}
+use Rattle.hose_words.specs.Reading.{WhereTold}
+use Rattle.hose_words.specs.Saying.{IsAllTaken, SayLines}
+use Rattle.hose_words.proofs.OnReading.{WhereTold-map}
 use Rattle.hose_words.specs.steps.Saying.{SaysUpTo, StopsReading}
 use Rattle.hose_words.specs.declared.lines.TheConstants.{INPUT_LIMIT}
 use Rattle.hose_words.specs.declared.lines.Line.{Line}
 use Rattle.hose_words.specs.declared.lines.LineFault.{LineFault}
 use Rattle.hose_words.specs.declared.lines.LineFault.TheVariants as line_fault
-use Rattle.hose_words.proofs.Saying.{flat_map-last, met_fault, rose_now, said_all, said_enough, said_more, said_none, said_until, takes_line}
+use Rattle.hose_words.proofs.Saying.{flat_map-last, met_fault, rose_now, said_all, said_more, said_none, said_until, takes_line}
 use Rattle.hose_talk.specs.steps.Said.{ComesOn}
-use Rattle.hose_talk.specs.Talk.{AllOut, LastCut, Talk, TalksUpTo, talk}
+use Rattle.hose_talk.specs.Talk.{AllOut, IsLeftNear, LastCut, Talk, TalksUpTo, most_ahead, talk}
 use Rattle.hose_talk.specs.steps.Talk.{Exchanges, HasTalked, KeepsFault, TakesReply, TalksByReader, terms_of}
 use Rattle.hose_talk.specs.steps.TalkFaults.{of_line}
 use Rattle.hose_talk.specs.declared.answers.Answers.{Ghosts}
@@ -36,16 +38,22 @@ one_past taken below = omega (arith, below)
 pub not_past : {T : Type 0} (value : T) (taken : ℕ) → taken ≤ INPUT_LIMIT → (◌≡◌ {A = Result T TalkFault} (Ok value) (Err talk_fault.TooLong)) ↔ (INPUT_LIMIT < taken)
 not_past value taken below = ((λ is. absurd (cc is)), (λ more. absurd (omega (arith, below, more))))
 
+-- no more lines are read, and what was taken ahead is left
+said_near : {S L : Type 0} (source : SourceGhosts S) (Says : List L → List ℕ → L → Type 0) (start now : Reader S) (lines : List L) → length now.pending ≤ most_ahead
+    → WhereTold (source.content start.source) (source.content now.source) (λ was left. SayLines Says (start.pending ++ was) lines (now.pending ++ left)) → SaysUpTo source start now Says lines IsLeftNear
+said_near source Says start now lines near said = WhereTold-map (source.content start.source) (source.content now.source) _ _ said (λ was left says. (now.pending ++ left, says, ((now.pending, refl), omega (arith, near, length-append now.pending left))))
+
 module _ {A R S O : Type 0} (by : Ghosts A R) (source : SourceGhosts S) (sink : SinkGhosts O) where
   -- a line that was read was answered
   pub answered_line : (old new : Talk (Reader S) O A) (shown : Line) (reply : R) (puts : List ℕ → Type 0) → IsNext source old.lines new.lines (Ok (Some shown)) → ((from : by.origin) → ComesOn (by.says (by.about old.by)) (by.comes from) shown old.by new.by reply)
-      → by.about new.by ≡ by.about old.by → puts (by.text (by.about new.by) reply) → TakesReply by source sink old new puts
-  answered_line old new shown reply puts next answers about out = record {
+      → by.about new.by ≡ by.about old.by → puts (by.text (by.about new.by) reply) → length new.lines.pending ≤ most_ahead → TakesReply by source sink old new puts
+  answered_line old new shown reply puts next answers about out near = record {
     reply = reply;
     answers = λ from lines replies came.
         let more = answers from lines replies came in
         (more.0, takes_line source old.lines new.lines shown (λ bytes. by.says (by.about old.by) lines bytes more.0) next more.1, more.2);
     out = subst (λ (subject : by.subject). puts (by.text subject reply)) about out;
+    near = near;
     progress = next.progress;
   }
 
@@ -94,14 +102,14 @@ module _ {A R S O : Type 0} (by : Ghosts A R) (source : SourceGhosts S) (sink : 
           }
 
       -- a line more is taken, and its reply is cut off
-      talked_cut : Taken (GrowsInPart (sink.content now.output) (sink.content new.output)) → UpTo IsLeftOver (LastCut text sink start.output new.output)
+      talked_cut : Taken (GrowsInPart (sink.content now.output) (sink.content new.output)) → UpTo IsLeftNear (LastCut text sink start.output new.output)
       talked_cut taken =
           let more = taken.answers from talked.lines talked.replies talked.comes in
           let out = subst (λ (subject : by.subject). GrowsInPart (sink.content now.output) (sink.content new.output) (by.text subject taken.reply)) about taken.out in
           record {
             lines = talked.lines ++ more.0 ∷ [];
             replies = talked.replies ++ taken.reply ∷ [];
-            said = said_enough source Says start.lines new.lines _
+            said = said_near source Says start.lines new.lines _ taken.near
                 (said_more source Says start.lines now.lines new.lines talked.lines talked.said still.reads more.0 (λ bytes. by.says (by.about now.by) talked.lines bytes more.0) more.1 (λ bytes is. subst (λ (subject : by.subject). by.says subject talked.lines bytes more.0) about is));
             comes = more.2;
             out = (
@@ -149,13 +157,13 @@ module _ {A R S O : Type 0} (by : Ghosts A R) (source : SourceGhosts S) (sink : 
       )
 
     -- no line is answered any more
-    pub talks_over : (start now : Talk (Reader S) O A) → HasTalked by source sink from start now → IsStillReading source sink start.lines now.lines start.output now.output → by.over now.by ≡ true → TalksByReader by source sink from start now (Ok talk_end.Over)
-    talks_over start now talked still over = (
+    pub talks_over : (start now : Talk (Reader S) O A) → HasTalked by source sink from start now → IsStillReading source sink start.lines now.lines start.output now.output → by.over now.by ≡ true → length now.lines.pending ≤ most_ahead → TalksByReader by source sink from start now (Ok talk_end.Over)
+    talks_over start now talked still over near = (
       (
         record {
           lines = talked.lines;
           replies = talked.replies;
-          said = said_enough source (by.says (by.about start.by)) start.lines now.lines talked.lines talked.said;
+          said = said_near source (by.says (by.about start.by)) start.lines now.lines talked.lines near talked.said;
           comes = talked.comes;
           out = talked.out;
         },

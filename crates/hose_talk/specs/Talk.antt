@@ -1,5 +1,5 @@
 -- What a talk comes to.
-use Rattle.std.specs.Prelude.{◌≡◌, ℕ, ◌<◌, Bool, true, false, List, [], ◌∷◌, ◌++◌, length, take, Option, Result, Ok, Err}
+use Rattle.std.specs.Prelude.{◌≡◌, ℕ, ◌+◌, ◌<◌, ◌≤◌, Bool, true, false, List, [], ◌∷◌, ◌++◌, length, take, Option, Result, Ok, Err}
 use Rattle.std.specs.List.{flat_map}
 use Rattle.hose_io.specs.Frame.{Rose}
 use Rattle.hose_io.specs.Stream.{Grows, Stream}
@@ -39,6 +39,16 @@ abbrev pub TellsOf : {L : Type 0} → (List L → List ℕ → L → Type 0) →
     → Telling L
 TellsOf Says old new stops lines = WhereTold old new (λ text left.
     (rest : List ℕ) × SayLines Says text lines rest × stops text rest left)
+
+-- how many bytes are taken ahead of the lines at most: what one look at an input may give
+abbrev pub most_ahead : ℕ
+most_ahead = 8192
+
+-- What is left is the end of what comes after the lines of a text, but for what was taken ahead.
+-- So no more than that is taken while the reply to a line is not out.
+abbrev pub IsLeftNear : List ℕ → List ℕ → List ℕ → Type 0
+IsLeftNear text rest left =
+    IsLeftOver text rest left × (length rest ≤ length left + most_ahead)
 
 -- the terms of a talk: what its text tells, what lines and their replies come to, whether no line
 -- is answered any more, and the text of a reply
@@ -91,11 +101,11 @@ module _ {L A R S O : Type 0} (source : SourceGhosts S) (sink : SinkGhosts O)
   -- any more; or reading met a fault, or the output failed in a reply.
   abbrev pub TalksTo : Result TalkEnd TalkFault → Type 0
   TalksTo (Ok talk_end.Input) = TalksOut IsAllTaken false × ReadingWorked × WritingWorked
-  TalksTo (Ok talk_end.Over) = TalksOut IsLeftOver true × ReadingWorked × WritingWorked
+  TalksTo (Ok talk_end.Over) = TalksOut IsLeftNear true × ReadingWorked × WritingWorked
   TalksTo (Err talk_fault.Read) = TalksOut (StopsAfterLines line_fault.Read) false
       × Rose (source.frame old.lines) (source.frame new.lines) × WritingWorked
   TalksTo (Err talk_fault.TooLong) = TalksOut (StopsAfterLines line_fault.TooLong) false
       × ReadingWorked × WritingWorked
   TalksTo (Err talk_fault.Write) =
-      TalksUpTo terms new.by IsLeftOver (LastCut terms.text sink old.output new.output)
+      TalksUpTo terms new.by IsLeftNear (LastCut terms.text sink old.output new.output)
       × ReadingWorked × Rose (sink.frame old.output) (sink.frame new.output)

@@ -106,6 +106,8 @@ pub fn converse<A: Answers, S: Source, O: Sink>(
             return Ok(TalkEnd::Input);
         }
     }
+    // What was taken ahead is told with how much it is.
+    let _ahead = lines.pending();
     Ok(TalkEnd::Over)
 }
 
@@ -131,6 +133,8 @@ fn exchange<A: Answers, S: Source, O: Sink>(
         return Ok(false);
     };
     let reply = answers.answer(line);
+    // What was taken ahead is told with how much it is.
+    let _ahead = lines.pending();
     answers.put(output, &reply)?;
     Ok(true)
 }

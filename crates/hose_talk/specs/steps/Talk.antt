@@ -1,5 +1,5 @@
 -- What a talk comes to: steps of proofs.
-use Rattle.std.specs.Prelude.{◌≡◌, ℕ, ◌+◌, ◌<◌, Bool, true, false, IsFalse, List, [], ◌∷◌, ◌++◌, length, None, Some, Result, Ok, Err}
+use Rattle.std.specs.Prelude.{◌≡◌, ℕ, ◌+◌, ◌<◌, ◌≤◌, Bool, true, false, IsFalse, List, [], ◌∷◌, ◌++◌, length, None, Some, Result, Ok, Err}
 use Rattle.hose_io.specs.Frame.{Rose}
 use Rattle.hose_io.specs.Stream.{Grows}
 use Rattle.hose_io.specs.Writing.{GrowsInPart}
@@ -14,7 +14,7 @@ use Rattle.hose_talk.specs.declared.answers.Answers.{Ghosts}
 use Rattle.hose_talk.specs.declared.talking.TalkEnd.{TalkEnd}
 use Rattle.hose_talk.specs.declared.talking.TalkFault.{TalkFault}
 use Rattle.hose_talk.specs.declared.talking.TalkFault.TheVariants as talk_fault
-use Rattle.hose_talk.specs.Talk.{AllOut, Talk, talk, TalksTo, Telling, TellsOf, Terms}
+use Rattle.hose_talk.specs.Talk.{AllOut, Talk, talk, TalksTo, Telling, TellsOf, Terms, most_ahead}
 
 -- ---- where a talk is
 
@@ -36,6 +36,7 @@ module _ {A R S O : Type 0} (by : Ghosts A R) (source : SourceGhosts S) (sink : 
         (λ bytes. by.says (by.about old.by) lines bytes said)
         × by.comes from (lines ++ said ∷ []) (replies ++ reply ∷ []) new.by
     pub out : puts (by.text (by.about old.by) reply)
+    pub near : length new.lines.pending ≤ most_ahead
     pub progress : length new.lines.pending + old.lines.taken
         < length old.lines.pending + new.lines.taken
 

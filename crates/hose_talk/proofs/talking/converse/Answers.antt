@@ -1,7 +1,7 @@
-use Rattle.std.proofs.Common.{◌≡◌, ◌∙◌, Ok, Err, false, refl, ap, subst}
+use Rattle.std.proofs.Common.{◌≡◌, ◌≤◌, ◌∙◌, ℕ, Ok, Err, false, refl, ap, subst}
 use Rattle.std.proofs.lemmas.Result.{err_from_is_err_and}
 use Rattle.hose_words.proofs.OnReading.{ReadsOn-then}
-use Rattle.hose_talk.specs.Talk.{talk}
+use Rattle.hose_talk.specs.Talk.{most_ahead, talk}
 use Rattle.hose_talk.specs.steps.Talk.{Exchanges}
 use Rattle.hose_talk.specs.declared.talking.TalkEnd.TheVariants as talk_end
 use Rattle.hose_talk.proofs.StillReading.{reading_begun, reading_more}
@@ -63,7 +63,7 @@ pub returns-clause-talks : goal.returns-clause-talks
 returns-clause-talks g c = λ from begins.
     let before = c.loop-answers.invariant in
     let was = c.loop-answers in
-    talks_over g.A.Answers g.S.Source g.O.Sink from (talk c.args.lines.now c.args.output.now c.args.answers.now) (talk was.lines was.output was.answers) (before.talked from begins) before.still (cc (c.is_over.ensures, c.loop-answers-test.false))
+    talks_over g.A.Answers g.S.Source g.O.Sink from (talk c.args.lines.now c.args.output.now c.args.answers.now) (talk was.lines was.output was.answers) (before.talked from begins) before.still (cc (c.is_over.ensures, c.loop-answers-test.false)) (subst (λ (n : ℕ). n ≤ most_ahead) c.pending-ahead.ensures.count c.pending-ahead.ensures.limit)
 
 pub returns-clause-too_long : goal.returns-clause-too_long
 returns-clause-too_long g c = not_past talk_end.Over c.loop-answers.lines.taken c.loop-answers.invariant.below

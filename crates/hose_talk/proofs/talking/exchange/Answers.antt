@@ -1,9 +1,9 @@
-use Rattle.std.proofs.Common.{◌≡◌, Ok, Err, refl, ◌∙◌, ap, subst, true}
+use Rattle.std.proofs.Common.{◌≡◌, ◌≤◌, ℕ, Ok, Err, refl, ◌∙◌, ap, subst, true}
 use Rattle.std.proofs.lemmas.Result.{err_from_is_err_and}
 use Rattle.hose_io.specs.Stream.{Grows}
 use Rattle.hose_io.specs.Writing.{GrowsInPart}
 use Rattle.hose_words.specs.steps.Lines.{IsNext}
-use Rattle.hose_talk.specs.Talk.{talk}
+use Rattle.hose_talk.specs.Talk.{most_ahead, talk}
 use Rattle.hose_talk.specs.steps.TalkFaults.{of_line}
 use Rattle.hose_talk.specs.declared.talking.TalkFault.TheVariants.{Write}
 use Rattle.hose_talk.proofs.Talks.{answered_line, exchanges_read}
@@ -27,7 +27,7 @@ returns-in_err-put-clause-exchanges g c =
     let is : c.from_residual-in_err-put.result ≡ Err Write = told.1 ∙ ap Err told.2 in
     rw is (
       answered_line g.A.Answers g.S.Source g.O.Sink (talk c.args.lines.now c.args.output.now c.args.answers.now) (talk new c.put.new.output c.answer-reply.new.self) c.in-Some.line c.answer-reply.result (GrowsInPart (g.O.Sink.content c.args.output.now) (g.O.Sink.content c.put.new.output)) next
-          c.answer-reply.ensures.answers c.answer-reply.ensures.about put.err,
+          c.answer-reply.ensures.answers c.answer-reply.ensures.about put.err (subst (λ (n : ℕ). n ≤ most_ahead) c.pending-ahead.ensures.count c.pending-ahead.ensures.limit),
       next.fault.1,
       put.met.failed (refl {a = true}),
     )
@@ -38,7 +38,7 @@ returns-clause-exchanges g c =
     let next = subst (IsNext g.S.Source c.args.lines.now new) (c.in_ok-line.was ∙ ap Ok c.in-Some.is) c.next.follows.holds-at-none in
     let put = c.in_ok-put.ensures in (
       answered_line g.A.Answers g.S.Source g.O.Sink (talk c.args.lines.now c.args.output.now c.args.answers.now) (talk new c.put.new.output c.answer-reply.new.self) c.in-Some.line c.answer-reply.result (Grows (g.O.Sink.content c.args.output.now) (g.O.Sink.content c.put.new.output)) next
-          c.answer-reply.ensures.answers c.answer-reply.ensures.about put.ok,
+          c.answer-reply.ensures.answers c.answer-reply.ensures.about put.ok (subst (λ (n : ℕ). n ≤ most_ahead) c.pending-ahead.ensures.count c.pending-ahead.ensures.limit),
       next.fault.1,
       put.met.ok,
     )
