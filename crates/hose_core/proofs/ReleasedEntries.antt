@@ -53,5 +53,5 @@ module _ {K R : Type 0} (books : Ghosts K R) (old new : K) (customer : List ℕ)
       (λ given more is. (subst (λ (b : Book). IsReleaseAnswer b customer id given more) here is, refl)) by
 
 -- what holds of the same release holds of this one
-pub as_released : (Is : List ℕ → ℕ → Type 0) (customer other : List ℕ) (id more : ℕ) → Release customer id ≡ Release other more → Is other more → Is customer id
-as_released Is customer other id more same is = subst (λ (name : List ℕ). Is name id) (cc same) (subst (Is other) (cc same) is)
+pub as_released : (Is : List ℕ → ℕ → Type 0) (customer other : List ℕ) (id more : ℕ) → other ≡ customer → more ≡ id → Is other more → Is customer id
+as_released Is customer other id more named numbered is = subst (λ (name : List ℕ). Is name id) named (subst (Is other) numbered is)

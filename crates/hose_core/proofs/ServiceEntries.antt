@@ -23,18 +23,9 @@ use Rattle.hose_core.proofs.Stepped.{stepped_by}
 
 -- ---- orders
 
--- an order is of one link, and of one kind
-same_order : (down other : Bool) (link more : ℕ) → service_entry down link ≡ service_entry other more → (down ≡ other) × (link ≡ more)
-same_order true true link more same = (refl, cc same)
-same_order true false link more same = absurd (cc same)
-same_order false true link more same = absurd (cc same)
-same_order false false link more same = (refl, cc same)
-
 -- what holds of the same order holds of this one
-pub as_ordered : (Is : Bool → ℕ → Type 0) (down other : Bool) (link more : ℕ) → service_entry down link ≡ service_entry other more → Is other more → Is down link
-as_ordered Is down other link more same is =
-    let both = same_order down other link more same in
-    subst (λ (b : Bool). Is b link) (sym both.0) (subst (Is other) (sym both.1) is)
+pub as_ordered : (Is : Bool → ℕ → Type 0) (down other : Bool) (link more : ℕ) → other ≡ down → more ≡ link → Is other more → Is down link
+as_ordered Is down other link more ordered numbered is = subst (λ (b : Bool). Is b link) ordered (subst (Is other) numbered is)
 
 -- it may want memory where the operator gives it
 pub order_wants : (book : Book) (customer : List ℕ) (held : Holding) (down : Bool) (link : ℕ) → customer ≡ operator → MayWantMemory book customer held (service_command down link)

@@ -1,5 +1,5 @@
 -- What becomes of a quote that is taken.
-use Rattle.std.proofs.Common.{◌≡◌, ◌∙◌, ℕ, List, Bool, Option, None, Some, take, refl, sym, subst}
+use Rattle.std.proofs.Common.{◌≡◌, ℕ, List, Bool, Option, None, Some, take, refl, sym, subst}
 use Rattle.std.specs.Prelude.{◌↔◌, IsTrue}
 use Rattle.hose_graph.specs.Network.{IsNetwork, Network}
 use Rattle.hose_graph.specs.declared.command.Command.TheVariants as command
@@ -98,11 +98,7 @@ holds_there here ledger same quote result holds =
     subst (λ (l : Ledger). (earlier : Book) → IsMadeAt l.network earlier quote → IsTrue result ↔ HaveEqualGrounds l.network earlier l.book quote.hose) same holds
 
 -- the claim's entry is planned, with what the claim tells
-pub claim_planned : {K R : Type 0} (books : Ghosts K R) (ledger : Ledger) → IsNetwork ledger.network → (earlier : Book) (quote : Quote) (customer : List ℕ) (claim : Claim K R) (told : List (ℕ × ℕ)) → IsClaimOf books claim customer quote
-    → claim.told ≡ Some told → IsMadeAt ledger.network earlier quote → HaveEqualGrounds ledger.network earlier ledger.book quote.hose → IsPlannedEntry ledger customer quote.hose told claim.entry
-claim_planned books ledger is earlier quote customer claim told of_quote tells made equal =
-    let same : quote.amounts ≡ told = some_list quote.amounts told (sym of_quote.told ∙ tells) in
-    subst (λ (plan : List (ℕ × ℕ)). IsPlannedEntry ledger customer quote.hose plan claim.entry) same (still_planned ledger is earlier quote customer claim.entry made equal of_quote.entry)
-  where
-    some_list : (one other : List (ℕ × ℕ)) → Some one ≡ Some other → one ≡ other
-    some_list one other is = cc is
+pub claim_planned : {K R : Type 0} (books : Ghosts K R) (ledger : Ledger) → IsNetwork ledger.network → (earlier : Book) (quote : Quote) (customer : List ℕ) (claim : Claim K R) → IsClaimOf books claim customer quote → IsMadeAt ledger.network earlier quote
+    → HaveEqualGrounds ledger.network earlier ledger.book quote.hose → IsPlannedEntry ledger customer quote.hose claim.told claim.entry
+claim_planned books ledger is earlier quote customer claim of_quote made equal =
+    subst (λ (plan : List (ℕ × ℕ)). IsPlannedEntry ledger customer quote.hose plan claim.entry) (sym of_quote.told) (still_planned ledger is earlier quote customer claim.entry made equal of_quote.entry)

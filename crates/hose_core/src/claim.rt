@@ -1,6 +1,7 @@
 // Claims on what a take, a release or an order of the operator needs.
 ghost use Rattle.std.specs.Prelude.{◌≡◌, ◌<◌, ◌≤◌, IfOk};
 ghost use Rattle.hose_graph.specs.Ranges.{AreInRanges};
+ghost use Rattle.hose_graph.specs.declared.entry.Entry.{Entry};
 ghost use Rattle.hose_graph.specs.declared.limits.TheConstants.{MOST_EPOCH, MOST_LINKS};
 ghost use Rattle.hose_law.specs.steps.Service.{service_entry};
 ghost use Rattle.hose_core.specs.steps.Claiming.{IsClaimOf, IsReleaseClaim, IsServiceClaim};
@@ -10,14 +11,52 @@ use hose_book::Books;
 use hose_graph::{Amounts, Entry, Name};
 use std::alloc::{AllocError, Global};
 
-/// All the memory that a take, a release or an order of the operator needs, taken before it.
+/// All the memory that a take needs, taken before it.
 #[derive(Drop)]
 pub struct Claim<K: Books> {
     /// What joins the book where it is accepted.
     pub entry: Entry,
     pub(crate) ready: K::Ready,
-    // What the reply to a take tells.
-    pub(crate) told: Option<Amounts>,
+    // What the reply tells.
+    pub(crate) told: Amounts,
+}
+
+/// All the memory that a release needs, taken before it.
+#[derive(Drop)]
+pub struct ReleaseClaim<K: Books> {
+    pub(crate) customer: Name,
+    pub(crate) id: u64,
+    pub(crate) ready: K::Ready,
+}
+
+impl<K: Books> ReleaseClaim<K> {
+    /// What joins the book where it is accepted.
+    pub fn entry(&self) -> Entry
+        ensures { result ≡ Entry.Release self.now.customer self.now.id }
+    {
+        Entry::Release {
+            customer: self.customer,
+            id: self.id,
+        }
+    }
+}
+
+/// All the memory that an order of the operator needs, taken before it: the link that is to be
+/// taken out of service, where `down` is true, or put back.
+#[derive(Drop)]
+pub struct ServiceClaim<K: Books> {
+    pub(crate) link: u32,
+    pub(crate) down: bool,
+    pub(crate) ready: K::Ready,
+}
+
+impl<K: Books> ServiceClaim<K> {
+    /// What joins the book where it is accepted.
+    pub fn entry(&self) -> Entry
+        ensures { result ≡ service_entry self.now.down self.now.link }
+    {
+        service_entry(self.link, self.down)
+    }
 }
 
 /// Claims what a customer needs to take a quote.
@@ -36,11 +75,7 @@ pub fn claim_take<K: Books>(
         amounts: quote.amounts.copy(alloc)?,
     };
     let ready = K::prepare(alloc, &entry)?;
-    Ok(Claim {
-        entry,
-        ready,
-        told: Some(told),
-    })
+    Ok(Claim { entry, ready, told })
 }
 
 /// Claims what a customer needs to release the VPN of a number of at most 4,000,000,000.
@@ -48,35 +83,31 @@ pub fn claim_release<K: Books>(
     alloc: Global,
     customer: &Name,
     id: u64,
-) -> Result<Claim<K>, AllocError>
+) -> Result<ReleaseClaim<K>, AllocError>
     requires { id ≤ MOST_EPOCH }
     ensures { IfOk result (λ claim. IsReleaseClaim K.Books claim customer.now id) }
 {
-    let entry = Entry::Release {
-        customer: *customer,
+    let customer = *customer;
+    let ready = K::prepare(alloc, &Entry::Release { customer, id })?;
+    Ok(ReleaseClaim {
+        customer,
         id,
-    };
-    let ready = K::prepare(alloc, &entry)?;
-    Ok(Claim {
-        entry,
         ready,
-        told: None,
     })
 }
 
 /// Claims what is needed to take a link out of service, where `down` is true, or to put it back.
 /// The link's number is below 2,048.
-pub fn claim_service<K: Books>(alloc: Global, link: u32, down: bool) -> Result<Claim<K>, AllocError>
+pub fn claim_service<K: Books>(
+    alloc: Global,
+    link: u32,
+    down: bool,
+) -> Result<ServiceClaim<K>, AllocError>
     requires { link < MOST_LINKS }
     ensures { IfOk result (λ claim. IsServiceClaim K.Books claim down link) }
 {
-    let entry = service_entry(link, down);
-    let ready = K::prepare(alloc, &entry)?;
-    Ok(Claim {
-        entry,
-        ready,
-        told: None,
-    })
+    let ready = K::prepare(alloc, &service_entry(link, down))?;
+    Ok(ServiceClaim { link, down, ready })
 }
 
 // The entry that takes a link out of service, or puts it back.

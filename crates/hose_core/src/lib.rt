@@ -32,7 +32,7 @@ mod telling;
 pub use admitting::{Admission, admit_claimed_now, admit_now, admit_with_rows};
 pub use bound::newest_now;
 pub use by_customer::QuotesByCustomer;
-pub use claim::{Claim, claim_release, claim_service, claim_take};
+pub use claim::{Claim, ReleaseClaim, ServiceClaim, claim_release, claim_service, claim_take};
 pub use planning::{BookView, plan_beside};
 pub use provider::{Provider, dispatch};
 pub use quotes::{Quote, Quotes};

@@ -5,21 +5,25 @@ ghost use Rattle.hose_graph.specs.declared.entry.Entry.{Entry};
 ghost use Rattle.hose_core.specs.steps.Claiming.{IsReleaseClaim};
 ghost use Rattle.hose_core.specs.steps.Stepping.{HaveAnswered, StepsAtEach};
 
-use crate::claim::Claim;
+use crate::claim::ReleaseClaim;
 use crate::entering::enter;
 use hose_book::Books;
 use hose_graph::{Entry, MOST_EPOCH, Name, Reply};
 
 /// Gives up the VPN of a claim on a release. It takes no memory.
-pub fn release_now<K: Books>(books: &mut K, claim: Claim<K>) -> Reply
+pub fn release_now<K: Books>(books: &mut K, claim: ReleaseClaim<K>) -> Reply
     requires claim { (customer : List ℕ) × (id : ℕ) × IsReleaseClaim K.Books claim customer id }
     ensures step { (customer : List ℕ) (id : ℕ) → IsReleaseClaim K.Books claim customer id
         → StepsAtEach K.Books books.old books.new customer (Command.Release id) result }
     ensures answered { HaveAnswered K.Books books.old books.new result }
     ensures memory { result ≢ Reply.Memory }
 {
-    let Claim { entry, ready, .. } = claim;
-    let (customer, id) = released(&entry);
+    let entry = claim.entry();
+    let ReleaseClaim {
+        customer,
+        id,
+        ready,
+    } = claim;
     enter_release(books, entry, ready, &customer, id)
 }
 
@@ -46,17 +50,4 @@ fn enter_release<K: Books>(
         return Reply::Spent { at };
     }
     enter(books, entry, ready, Reply::Released { id, at: at + 1 })
-}
-
-// Whose VPN an entry gives up, and its number.
-fn released(entry: &Entry) -> (Name, u64)
-    requires { (customer : List ℕ) × (id : ℕ) × (entry.now ≡ Entry.Release customer id) }
-    ensures { entry.now ≡ Entry.Release result.0 result.1 }
-{
-    match entry {
-        Entry::Release { customer, id } => (*customer, *id),
-        Entry::Admit { .. } => unreachable!(),
-        Entry::Down { .. } => unreachable!(),
-        Entry::Up { .. } => unreachable!(),
-    }
 }

@@ -9,14 +9,14 @@ ghost use Rattle.hose_core.specs.steps.Claiming.{IsServiceClaim};
 ghost use Rattle.hose_core.specs.steps.Serving.{service_command, service_reply};
 ghost use Rattle.hose_core.specs.steps.Stepping.{HaveAnswered, StepsAtEach};
 
-use crate::claim::Claim;
+use crate::claim::ServiceClaim;
 use crate::entering::enter;
 use hose_book::Books;
 use hose_graph::{Entry, MOST_EPOCH, Reply};
 
 /// Takes the link of a claim out of service for the operator, or puts it back: `Down`, `Up`,
 /// `Already`, `Spent` or `Disk`. It takes no memory. The link is one of the network.
-pub fn service_now<K: Books>(books: &mut K, claim: Claim<K>) -> Reply
+pub fn service_now<K: Books>(books: &mut K, claim: ServiceClaim<K>) -> Reply
     requires claim { (down : Bool) × (link : ℕ) × IsServiceClaim K.Books claim down link
         × IsLinkOf (K.ledger books.old).network link }
     ensures step { (down : Bool) (link : ℕ) → IsServiceClaim K.Books claim down link
@@ -24,8 +24,8 @@ pub fn service_now<K: Books>(books: &mut K, claim: Claim<K>) -> Reply
     ensures answered { HaveAnswered K.Books books.old books.new result }
     ensures memory { result ≢ Reply.Memory }
 {
-    let Claim { entry, ready, .. } = claim;
-    let (link, down) = ordered(&entry);
+    let entry = claim.entry();
+    let ServiceClaim { link, down, ready } = claim;
     enter_order(books, entry, ready, link, down)
 }
 
@@ -58,19 +58,6 @@ fn enter_order<K: Books>(
         return Reply::Spent { at };
     }
     enter(books, entry, ready, done(link, down, at + 1))
-}
-
-// The link that an entry takes out of service, with true, or puts back.
-fn ordered(entry: &Entry) -> (u32, bool)
-    requires { (down : Bool) × (link : ℕ) × (entry.now ≡ service_entry down link) }
-    ensures { entry.now ≡ service_entry result.1 result.0 }
-{
-    match entry {
-        Entry::Down { link } => (*link, true),
-        Entry::Up { link } => (*link, false),
-        Entry::Admit { .. } => unreachable!(),
-        Entry::Release { .. } => unreachable!(),
-    }
 }
 
 // The reply that tells what was done to a link, with the epoch after it.

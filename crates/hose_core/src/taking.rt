@@ -46,9 +46,6 @@ pub fn take_now<K: Books>(books: &mut K, quote: &Quote, claim: Claim<K>) -> Repl
     ensures memory { result ≢ Reply.Memory }
 {
     let Claim { entry, ready, told } = claim;
-    let Some(told) = told else {
-        unreachable!();
-    };
     if !still_holds(books.book(), quote) {
         return Reply::Stale {
             seen: quote.seen,

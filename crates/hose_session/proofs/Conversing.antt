@@ -1,5 +1,5 @@
 -- Lines of a session, one after the other, to its end.
-use Rattle.std.proofs.Common.{◌≡◌, ◌≢◌, ◌↔◌, inl, inr, ℕ, Bool, false, List, [], ◌∷◌, ◌++◌, length, Result, Ok, Err, refl, sym, ap, subst, ◌∙◌, arith, append-nil, append_assoc}
+use Rattle.std.proofs.Common.{◌≡◌, ◌≢◌, ◌↔◌, inl, inr, ℕ, Bool, false, List, [], ◌∷◌, ◌++◌, length, Option, Result, Ok, Err, refl, sym, ap, subst, ◌∙◌, arith, append-nil, append_assoc}
 use Rattle.std.specs.Prelude.{⊤}
 use Rattle.std.proofs.lemmas.List.Elements.{All-append, All-nil}
 use Rattle.hose_io.specs.Frame.{Rose}
@@ -15,6 +15,8 @@ use Rattle.hose_talk.proofs.Retold.{talks_as}
 use Rattle.hose_graph.specs.Network.{Network}
 use Rattle.hose_graph.specs.declared.entry.Entry.{Entry}
 use Rattle.hose_graph.specs.declared.command.Reply.{Reply}
+use Rattle.hose_core.specs.declared.quotes.Quote.{Quote}
+use Rattle.hose_law.specs.Quotes.{none_held}
 use Rattle.hose_law.specs.Transcript.{IsSessionStep, IsTranscript, IsTranscriptStep, SessionLine, SessionState, Stage, session_state}
 use Rattle.hose_law.specs.Transcript.SessionLine.{Greets, Asks, Leaves, IsBad, IsLong, Unread}
 use Rattle.hose_law.specs.Transcript.Stage.{Left, Refused, Serving, Waiting}
@@ -27,15 +29,13 @@ use Rattle.hose_shared.specs.steps.Along.{HasEntryAt}
 use Rattle.hose_shared.specs.steps.Sharing.{IsSamePass}
 use Rattle.hose_turn.specs.Known.{Known}
 use Rattle.hose_session.specs.steps.Ending.{end_after, over_at}
-use Rattle.hose_session.specs.steps.Exchanges.{AnswersAt, ComesAlong, GoesAlong, IsAt, IsExchange, IsPhaseAt, SaysAt}
+use Rattle.hose_session.specs.steps.Exchanges.{AnswersAt, ComesAlong, GoesAlong, IsAt, IsExchange, IsPhaseAt, Progress, SaysAt}
 use Rattle.hose_greeting.specs.steps.Shown.{ShownSays}
 use Rattle.hose_session.specs.Session.{AnswersUpTo, IsServing, IsSession, IsWaiting, MayGoOn, WasLeft, WasRefused}
 use Rattle.hose_session.specs.steps.Session.{ServesSession}
 use Rattle.hose_greeting.specs.SessionLines.{SaysAfter}
-use Rattle.hose_session.specs.declared.client.Client.{Client}
-use Rattle.hose_session.specs.declared.client.Phase.{Phase}
-use Rattle.hose_session.specs.declared.client.Phase.TheVariants as phase
-use Rattle.hose_session.specs.declared.client.Progress.{Progress}
+use Rattle.hose_session.specs.declared.phase.Phase.{Phase}
+use Rattle.hose_session.specs.declared.phase.Phase.TheVariants as phase
 use Rattle.hose_session.specs.declared.ending.SessionEnd.{SessionEnd}
 use Rattle.hose_shared.proofs.Passes.{entries_longer, same_on}
 use Rattle.hose_session.specs.declared.ending.SessionEnd.TheVariants as session_end
@@ -122,8 +122,8 @@ module _ (network : Network) where
       }
 
   -- nothing has come yet
-  pub comes_none : (pass : Known) → IsSamePass pass pass → ComesAlong network pass (record { pass = pass; phase = phase.Waiting }) [] []
-  comes_none pass same = record { stage = Waiting; own = []; along = along_none pass same; at = refl }
+  pub comes_none : (pass : Known) → IsSamePass pass pass → ComesAlong network pass (record { pass = pass; phase = phase.Waiting; quotes = none_held }) [] []
+  comes_none pass same = record { stage = Waiting; own = []; along = along_none pass same; at = (refl, refl) }
 
   -- one line more comes
   pub comes_on : (first : Known) (old new : Progress) (line : Line) (reply : Reply) (lines : List SessionLine) (replies : List Reply) → ComesAlong network first old lines replies
@@ -144,7 +144,7 @@ module _ (network : Network) where
 -- ---- a talk that ended
 
 -- the talk of a session that is so far
-module _ {S O : Type 0} (network : Network) (source : SourceGhosts S) (sink : SinkGhosts O) (input input' : S) (output output' : O) (first pass : Known) where
+module _ {S O : Type 0} (network : Network) (source : SourceGhosts S) (sink : SinkGhosts O) (input input' : S) (output output' : O) (first pass : Known) (quotes : List (Option Quote)) where
   -- the terms of a session
   abbrev terms : Terms SessionLine Progress Reply
   terms = record {
@@ -155,13 +155,13 @@ module _ {S O : Type 0} (network : Network) (source : SourceGhosts S) (sink : Si
   }
 
   abbrev pub Talks : Phase → Result TalkEnd TalkFault → Type 0
-  Talks at = TalksTo source sink terms (talk input output (record { pass = pass; phase = at })) (talk input' output' (record { pass = pass; phase = at }))
+  Talks at = TalksTo source sink terms (talk input output (record { pass = pass; phase = at; quotes = quotes })) (talk input' output' (record { pass = pass; phase = at; quotes = quotes }))
 
   abbrev Serves : SessionEnd → Type 0
   Serves = ServesSession source sink network input input' output output' first pass
 
   module _ (at : Phase) (stops : List ℕ → List ℕ → List ℕ → Type 0) (puts : List Reply → Type 0)
-      (talks : TalksUpTo terms (record { pass = pass; phase = at }) stops puts) where
+      (talks : TalksUpTo terms (record { pass = pass; phase = at; quotes = quotes }) stops puts) where
     up_to : (ends : Stage → Type 0) → ends talks.comes.stage → (outs : List Reply → Type 0) → outs talks.replies → AnswersUpTo network pass.seen (length first.seen) (TellsOf (SaysAfter network) (source.content input) (source.content input')) stops ends outs talks.replies talks.comes.own
     up_to ends is outs out = record { lines = talks.lines; stage = talks.comes.stage; last = talks.comes.along.last; said = talks.said; transcript = talks.comes.along.transcript; ended = is; out = out }
 
@@ -169,12 +169,12 @@ module _ {S O : Type 0} (network : Network) (source : SourceGhosts S) (sink : Si
         → IsSession network pass.seen (length first.seen) (TellsOf (SaysAfter network) (source.content input) (source.content input')) (sink.content output) (sink.content output') (Rose (source.frame input) (source.frame input')) (Rose (sink.frame output) (sink.frame output')) end talks.replies talks.comes.own → Serves end
     serves end session = record { replies = talks.replies; own = talks.comes.own; session = session; entries = talks.comes.along.entries; same = talks.comes.along.same; owns = talks.comes.along.owns; disks = talks.comes.along.disks }
 
-  serving : (client : Client) (stage : Stage) → IsPhaseAt network pass.seen (phase.Serving client) stage → IsServing stage
-  serving client stage (held, same, are) = subst IsServing (sym same) tt
+  serving : (customer : List ℕ) (stage : Stage) → IsPhaseAt network pass.seen (phase.Serving customer) quotes stage → IsServing stage
+  serving customer stage (held, same, are) = subst IsServing (sym same) tt
 
-  may_go_on : (at : Phase) (stage : Stage) → over_at at ≡ false → IsPhaseAt network pass.seen at stage → MayGoOn stage
-  may_go_on phase.Waiting stage goes is = inl is
-  may_go_on (phase.Serving client) stage goes is = inr (serving client stage is)
+  may_go_on : (at : Phase) (stage : Stage) → over_at at ≡ false → IsPhaseAt network pass.seen at quotes stage → MayGoOn stage
+  may_go_on phase.Waiting stage goes is = inl is.0
+  may_go_on (phase.Serving customer) stage goes is = inr (serving customer stage is)
   may_go_on phase.Refused stage goes is = absurd (cc goes)
   may_go_on phase.Left stage goes is = absurd (cc goes)
 
@@ -184,12 +184,12 @@ module _ {S O : Type 0} (network : Network) (source : SourceGhosts S) (sink : Si
 
   -- a session that ended so was served so
   pub serves_so : (at : Phase) (ended : Result TalkEnd TalkFault) → Talks at ended → Serves (end_after at ended)
-  serves_so phase.Waiting (Ok talk_end.Input) talks = serves phase.Waiting _ _ talks.0.0 session_end.NoHello (inr (up_to phase.Waiting _ _ talks.0.0 IsWaiting talks.0.0.comes.at _ talks.0.0.out))
-  serves_so (phase.Serving client) (Ok talk_end.Input) talks = serves (phase.Serving client) _ _ talks.0.0 session_end.End (up_to (phase.Serving client) _ _ talks.0.0 IsServing (serving client talks.0.0.comes.stage talks.0.0.comes.at) _ talks.0.0.out)
+  serves_so phase.Waiting (Ok talk_end.Input) talks = serves phase.Waiting _ _ talks.0.0 session_end.NoHello (inr (up_to phase.Waiting _ _ talks.0.0 IsWaiting talks.0.0.comes.at.0 _ talks.0.0.out))
+  serves_so (phase.Serving customer) (Ok talk_end.Input) talks = serves (phase.Serving customer) _ _ talks.0.0 session_end.End (up_to (phase.Serving customer) _ _ talks.0.0 IsServing (serving customer talks.0.0.comes.stage talks.0.0.comes.at) _ talks.0.0.out)
   serves_so phase.Refused (Ok talk_end.Input) talks = absurd (cc talks.0.1)
   serves_so phase.Left (Ok talk_end.Input) talks = absurd (cc talks.0.1)
   serves_so phase.Waiting (Ok talk_end.Over) talks = absurd (cc talks.0.1)
-  serves_so (phase.Serving client) (Ok talk_end.Over) talks = absurd (cc talks.0.1)
+  serves_so (phase.Serving customer) (Ok talk_end.Over) talks = absurd (cc talks.0.1)
   serves_so phase.Refused (Ok talk_end.Over) talks = serves phase.Refused _ _ talks.0.0 session_end.NoHello (inl (up_to phase.Refused _ _ talks.0.0 WasRefused talks.0.0.comes.at _ talks.0.0.out))
   serves_so phase.Left (Ok talk_end.Over) talks = serves phase.Left _ _ talks.0.0 session_end.Bye (up_to phase.Left _ _ talks.0.0 WasLeft talks.0.0.comes.at _ talks.0.0.out)
   serves_so at (Err talk_fault.Read) talks = serves at _ _ talks.0.0 session_end.Read (up_to at _ _ talks.0.0 MayGoOn (may_go_on at talks.0.0.comes.stage talks.0.1 talks.0.0.comes.at) _ talks.0.0.out, talks.1)
@@ -217,16 +217,16 @@ module _ {S O : Type 0} (network : Network) (source : SourceGhosts S) (sink : Si
 
   -- in the words of who held the talk, on the network that there was
   pub talks_there : {A : Type 0} (begun last : A) (Comes : List SessionLine → List Reply → A → Type 0) (over : A → Bool) (at : Phase) (there : Network) → there ≡ network
-      → ((lines : List SessionLine) (replies : List Reply) → Comes lines replies last → ComesAlong network first (record { pass = pass; phase = at }) lines replies) → over last ≡ over_at at → (ended : Result TalkEnd TalkFault)
+      → ((lines : List SessionLine) (replies : List Reply) → Comes lines replies last → ComesAlong network first (record { pass = pass; phase = at; quotes = quotes }) lines replies) → over last ≡ over_at at → (ended : Result TalkEnd TalkFault)
       → TalksTo source sink (terms_there Comes over there) (talk input output begun) (talk input' output' last) ended → Talks at ended
   talks_there begun last Comes over at there same follows is ended talks =
-      talks_as source sink (terms_there Comes over network) terms.tells terms.comes terms.over input input' output output' begun last (record { pass = pass; phase = at }) (record { pass = pass; phase = at }) (λ stops lines says. says) follows is ended
+      talks_as source sink (terms_there Comes over network) terms.tells terms.comes terms.over input input' output output' begun last (record { pass = pass; phase = at; quotes = quotes }) (record { pass = pass; phase = at; quotes = quotes }) (λ stops lines says. says) follows is ended
       (subst (λ (n : Network). TalksTo source sink (terms_there Comes over n) (talk input output begun) (talk input' output' last) ended) same talks)
 
 -- a session ends as its input is too long exactly where its talk does
 pub too_long_so : (at : Phase) (ended : Result TalkEnd TalkFault) (P : Type 0) → (ended ≡ Err talk_fault.TooLong) ↔ P → (end_after at ended ≡ session_end.TooLong) ↔ P
 too_long_so phase.Waiting (Ok end) P is = ((λ same. absurd (cc same)), (λ long. absurd (cc (is.1 long))))
-too_long_so (phase.Serving client) (Ok end) P is = ((λ same. absurd (cc same)), (λ long. absurd (cc (is.1 long))))
+too_long_so (phase.Serving customer) (Ok end) P is = ((λ same. absurd (cc same)), (λ long. absurd (cc (is.1 long))))
 too_long_so phase.Refused (Ok end) P is = ((λ same. absurd (cc same)), (λ long. absurd (cc (is.1 long))))
 too_long_so phase.Left (Ok end) P is = ((λ same. absurd (cc same)), (λ long. absurd (cc (is.1 long))))
 too_long_so at (Err talk_fault.Read) P is = ((λ same. absurd (cc same)), (λ long. absurd (cc (is.1 long))))

@@ -1,8 +1,7 @@
 -- Exchanges along a pass.
-use Rattle.std.proofs.Common.{◌≡◌, inl, inr, ℕ, ◌+◌, ◌<◌, ◌≤◌, List, [], length, None, Some, refl, sym, ap, subst, arith, append-nil, ◌∙◌}
+use Rattle.std.proofs.Common.{◌≡◌, inl, inr, ℕ, ◌+◌, ◌<◌, ◌≤◌, false, List, [], length, Option, None, Some, refl, sym, ap, subst, arith, append-nil, ◌∙◌}
 use Rattle.std.proofs.lemmas.List.Elements.{All-nil}
 use Rattle.hose_words.specs.declared.lines.Line.{Line}
-use Rattle.hose_graph.specs.steps.Naming.{NamesPlaces}
 use Rattle.hose_graph.specs.Network.{Network}
 use Rattle.hose_graph.specs.declared.command.Command.{Command}
 use Rattle.hose_graph.specs.declared.command.Reply.{Reply}
@@ -15,19 +14,19 @@ use Rattle.hose_law.specs.Transcript.SessionLine.{Greets, Asks, IsBad, IsLong, L
 use Rattle.hose_law.specs.Transcript.Stage.{Left, Serving, Waiting}
 use Rattle.hose_law.specs.Transcript.Stage.{Refused as StageRefused}
 use Rattle.hose_law.proofs.Fronts.{prefix_length}
+use Rattle.hose_core.specs.declared.quotes.Quote.{Quote}
 use Rattle.hose_core.specs.steps.Holding.{AreHeld}
 use Rattle.hose_core.specs.steps.Stepping.{committed_of}
 use Rattle.hose_shared.specs.steps.Along.{HasEntryAt, StepsAlong}
 use Rattle.hose_shared.specs.steps.Providing.{Customer, Provides}
 use Rattle.hose_shared.specs.steps.Sharing.{HasSeenMore, IsSamePass}
 use Rattle.hose_turn.specs.Known.{Known}
-use Rattle.hose_session.specs.steps.Exchanges.{AnswersAt, IsAt, IsExchange, IsPhaseAt, ServesClientOn}
+use Rattle.hose_session.specs.steps.Ending.{customer_of, over_at}
+use Rattle.hose_session.specs.steps.Exchanges.{AnswersAt, IsExchange, ServesOn}
 use Rattle.hose_greeting.specs.steps.Shown.{ShownSays}
 use Rattle.hose_greeting.specs.SessionLines.{SaysFirst, SaysLater}
-use Rattle.hose_session.specs.declared.client.Client.{Client}
-use Rattle.hose_session.specs.declared.client.Phase.{Phase}
-use Rattle.hose_session.specs.declared.client.Phase.TheVariants as phase
-use Rattle.hose_session.specs.declared.client.Progress.{Progress}
+use Rattle.hose_session.specs.declared.phase.Phase.{Phase}
+use Rattle.hose_session.specs.declared.phase.Phase.TheVariants as phase
 
 -- a failure of the disk is told only where the pass has met more faults
 told_faults : (old new : ℕ) (reply : Reply) → (committed_of reply ≡ Failing → old < new) → old ≤ new → old + one_if_disk reply ≤ new
@@ -52,31 +51,12 @@ module _ (network : Network) (old new : Known) (customer : List ℕ) (held : Hol
     faults = told_faults old.faults new.faults answer along.failed along.same.faults;
   }
 
--- a command of a client was answered by a shared book
-module _ {network : Network} {customer : List ℕ} {command : Command} {answer : Reply} {old new : Customer} (provides : Provides network old new customer command answer) where
-  -- whose pass is at hand then
-  pub is_at_hand : new.pass ≡ None → ⊥
-  is_at_hand none = absurd (cc (provides.is, none))
-
-  pub provided_names : NamesPlaces network answer
-  provided_names = provides.names
-
-same_pass : (one other : Known) → Some one ≡ Some other → one ≡ other
-same_pass one other is = cc is
-
-pub provided_exchange : (network : Network) (old : Known) (client : Client) (new : Known) {command : Command} {answer : Reply} {left : Customer} → Provides network (record { pass = Some old; quotes = client.quotes }) left client.name command answer → left.pass ≡ Some new
-    → (held : Holding) → AreHeld network 0 old.seen held client.quotes → ServesClientOn network old new client (record client { quotes = left.quotes }) held (Asks command) answer
-provided_exchange network old client new {command = command} {answer = answer} {left = left} provides is held are =
-    let before = same_pass old provides.before provides.was in
-    let after = same_pass provides.after new (sym provides.is ∙ is) in
-    let steps = provides.steps held (subst (λ (k : Known). AreHeld network 0 k.seen held client.quotes) before are) in
-    subst (λ (k : Known). ServesClientOn network k new client (record client { quotes = left.quotes }) held (Asks command) answer) (sym before)
-    (subst (λ (k : Known). ServesClientOn network provides.before k client (record client { quotes = left.quotes }) held (Asks command) answer) after (record {
-      left = steps.along.left;
-      exchange = along_exchange network provides.before provides.after client.name held command answer steps.along;
-      holds = steps.holds;
-      name = refl;
-    }))
+-- a command of a customer was answered by a shared book
+pub provided_exchange : {network : Network} {old new : Customer} {customer : List ℕ} {command : Command} {answer : Reply} → Provides network old new customer command answer → (held : Holding) → AreHeld network 0 old.pass.seen held old.quotes
+    → ServesOn network old.pass new.pass customer held (Asks command) answer new.quotes
+provided_exchange {network} {old} {new} {customer} {command} {answer} provides held are =
+    let steps = provides.steps held are in
+    record { left = steps.along.left; exchange = along_exchange network old.pass new.pass customer held command answer steps.along; holds = steps.holds }
 
 -- a line that has no place in the history
 module _ (network : Network) (pass : Known) (same : IsSamePass pass pass) where
@@ -99,20 +79,20 @@ module _ (network : Network) (pass : Known) (same : IsSamePass pass pass) where
       no_disk IsLong plain = ap one_if_disk plain
       no_disk Unread plain = ap one_if_disk plain
 
-  module _ (client : Client) (held : Holding) (are : AreHeld network 0 pass.seen held client.quotes) where
-    abbrev ServesOn : SessionLine → Reply → Type 0
-    ServesOn = ServesClientOn network pass pass client client held
+  module _ (customer : List ℕ) (quotes : List (Option Quote)) (held : Holding) (are : AreHeld network 0 pass.seen held quotes) where
+    abbrev Serves : SessionLine → Reply → Type 0
+    Serves said reply = ServesOn network pass pass customer held said reply quotes
 
-    here : (said : SessionLine) (reply : Reply) → IsPlainReply said reply → ((from : ℕ) → IsSessionStep network 0 pass.seen (Serving client.name held) said reply (Serving client.name held) from from []) → ServesOn said reply
-    here said reply plain step = record { left = held; exchange = plain_exchange (Serving client.name held) (Serving client.name held) said reply plain step; holds = are; name = refl }
+    here : (said : SessionLine) (reply : Reply) → IsPlainReply said reply → ((from : ℕ) → IsSessionStep network 0 pass.seen (Serving customer held) said reply (Serving customer held) from from []) → Serves said reply
+    here said reply plain step = record { left = held; exchange = plain_exchange (Serving customer held) (Serving customer held) said reply plain step; holds = are }
 
-    pub bad_exchange : (word : ℕ) (reply : Reply) → reply ≡ Bad word → ServesOn (IsBad word) reply
+    pub bad_exchange : (word : ℕ) (reply : Reply) → reply ≡ Bad word → Serves (IsBad word) reply
     bad_exchange word reply is = here (IsBad word) reply is (λ from. (is, refl, refl, refl))
 
-    pub long_exchange : ServesOn IsLong Long
+    pub long_exchange : Serves IsLong Long
     long_exchange = here IsLong Long refl (λ from. (refl, refl, refl, refl))
 
-    pub memory_exchange : ServesOn Unread Memory
+    pub memory_exchange : Serves Unread Memory
     memory_exchange = here Unread Memory refl (λ from. (refl, refl, refl, refl))
 
   pub bye_exchange : (customer : List ℕ) (held : Holding) → IsExchange network pass pass (Serving customer held) Leaves Bye Left
@@ -140,42 +120,44 @@ greeted_exchange network old new customer at is more = record {
 
 -- ---- what a line comes to
 
-module _ (network : Network) (old new : Known) (line : Line) (reply : Reply) where
-  -- a client was served on
-  pub served_at : (client client' : Client) (held : Holding) (said : SessionLine) → ShownSays (SaysLater network) line said → ServesClientOn network old new client client' held said reply
-      → AnswersAt network old (record { pass = new; phase = phase.Serving client' }) (Serving client.name held) line reply
-  served_at client client' held said says serves = record {
-    said = said;
-    next = Serving client.name serves.left;
-    says = says;
-    exchange = serves.exchange;
-    at = (serves.left, ap (λ (name : List ℕ). Serving name serves.left) (sym serves.name), serves.holds);
-  }
+module _ (network : Network) (old new : Known) (line : Line) (reply : Reply) (quotes : List (Option Quote)) where
+  -- a customer was served on
+  pub served_at : (customer : List ℕ) (held : Holding) (said : SessionLine) → ShownSays (SaysLater network) line said → ServesOn network old new customer held said reply quotes
+      → AnswersAt network old (record { pass = new; phase = phase.Serving customer; quotes = quotes }) (Serving customer held) line reply
+  served_at customer held said says serves = record { said = said; next = Serving customer serves.left; says = says; exchange = serves.exchange; at = (serves.left, refl, serves.holds) }
 
   -- a customer was greeted
-  pub greeted_at : (client : Client) (customer : List ℕ) → client ≡ record { name = customer; quotes = none_held } → AreHeld network 0 new.seen none_held none_held → ShownSays SaysFirst line (Greets customer)
-      → IsExchange network old new Waiting (Greets customer) reply (Serving customer none_held) → AnswersAt network old (record { pass = new; phase = phase.Serving client }) Waiting line reply
-  greeted_at client customer is none says exchange = record {
-    said = Greets customer;
-    next = Serving customer none_held;
-    says = says;
-    exchange = exchange;
-    at = (none_held, ap (λ (c : Client). Serving c.name none_held) (sym is), subst (λ (c : Client). AreHeld network 0 new.seen none_held c.quotes) (sym is) none);
-  }
+  pub greeted_at : (customer : List ℕ) → AreHeld network 0 new.seen none_held quotes → ShownSays SaysFirst line (Greets customer) → IsExchange network old new Waiting (Greets customer) reply (Serving customer none_held)
+      → AnswersAt network old (record { pass = new; phase = phase.Serving customer; quotes = quotes }) Waiting line reply
+  greeted_at customer none says exchange = record { said = Greets customer; next = Serving customer none_held; says = says; exchange = exchange; at = (none_held, refl, none) }
 
   -- a first line was refused
-  pub refused_at : (said : SessionLine) → ShownSays SaysFirst line said → IsExchange network old new Waiting said reply StageRefused → AnswersAt network old (record { pass = new; phase = phase.Refused }) Waiting line reply
+  pub refused_at : (said : SessionLine) → ShownSays SaysFirst line said → IsExchange network old new Waiting said reply StageRefused → AnswersAt network old (record { pass = new; phase = phase.Refused; quotes = quotes }) Waiting line reply
   refused_at said says exchange = record { said = said; next = StageRefused; says = says; exchange = exchange; at = refl }
 
   -- a customer left
   pub left_at : (customer : List ℕ) (held : Holding) → ShownSays (SaysLater network) line Leaves → IsExchange network old new (Serving customer held) Leaves reply Left
-      → AnswersAt network old (record { pass = new; phase = phase.Left }) (Serving customer held) line reply
+      → AnswersAt network old (record { pass = new; phase = phase.Left; quotes = quotes }) (Serving customer held) line reply
   left_at customer held says exchange = record { said = Leaves; next = Left; says = says; exchange = exchange; at = refl }
 
--- what is answered to a client, whatever it holds whose quotes these are, is answered at the stage of its session
-pub answers_client : (network : Network) (progress new : Progress) (client : Client) (line : Line) (reply : Reply) → progress.phase ≡ phase.Serving client
-    → ((held : Holding) → AreHeld network 0 progress.pass.seen held client.quotes → AnswersAt network progress.pass new (Serving client.name held) line reply) → (stage : Stage) → IsAt network progress stage
-    → AnswersAt network progress.pass new stage line reply
-answers_client network progress new client line reply is answers stage at =
-    let here = subst (λ (p : Phase). IsPhaseAt network progress.pass.seen p stage) is at in
-    subst (λ (s : Stage). AnswersAt network progress.pass new s line reply) (sym here.1) (answers here.0 here.2)
+-- what was answered to a customer who is served was answered in that phase
+pub in_phase : (network : Network) (old new : Known) (quotes : List (Option Quote)) (stage : Stage) (line : Line) (reply : Reply) (at : Phase) (customer : List ℕ) → at ≡ phase.Serving customer
+    → AnswersAt network old (record { pass = new; phase = phase.Serving customer; quotes = quotes }) stage line reply → AnswersAt network old (record { pass = new; phase = at; quotes = quotes }) stage line reply
+in_phase network old new quotes stage line reply at customer is answers = subst (λ (p : Phase). AnswersAt network old (record { pass = new; phase = p; quotes = quotes }) stage line reply) (sym is) answers
+
+-- who is not over and serves nobody waits
+pub waits : (at : Phase) → over_at at ≡ false → customer_of at ≡ None → at ≡ phase.Waiting
+waits phase.Waiting goes none = refl
+waits (phase.Serving customer) goes none = absurd (cc none)
+waits phase.Refused goes none = absurd (cc goes)
+waits phase.Left goes none = absurd (cc goes)
+
+-- and who serves somebody serves just this customer
+pub serves_him : (at : Phase) (customer : List ℕ) → customer_of at ≡ Some customer → at ≡ phase.Serving customer
+serves_him phase.Waiting customer some = absurd (cc some)
+serves_him (phase.Serving name) customer some = ap phase.Serving (same_name name customer some)
+  where
+    same_name : (one other : List ℕ) → Some one ≡ Some other → one ≡ other
+    same_name one other is = cc is
+serves_him phase.Refused customer some = absurd (cc some)
+serves_him phase.Left customer some = absurd (cc some)

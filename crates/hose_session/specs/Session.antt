@@ -2,9 +2,9 @@
 use Rattle.std.specs.Prelude.{◌≡◌, ◌⊎◌, ℕ, List, Option, ⊤}
 use Rattle.hose_io.specs.Stream.{Grows}
 use Rattle.hose_words.specs.Lines.{StopsAfterLines}
-use Rattle.hose_words.specs.Saying.{IsAllTaken, IsLeftOver}
+use Rattle.hose_words.specs.Saying.{IsAllTaken}
 use Rattle.hose_words.specs.declared.lines.LineFault.TheVariants as line_fault
-pub use Rattle.hose_talk.specs.Talk.{Telling, TellsOf}
+pub use Rattle.hose_talk.specs.Talk.{IsLeftNear, Telling, TellsOf}
 use Rattle.hose_graph.specs.Network.{Network}
 use Rattle.hose_graph.specs.declared.entry.Entry.{Entry}
 use Rattle.hose_graph.specs.declared.command.Reply.{Reply}
@@ -68,9 +68,9 @@ module _ (network : Network) (history : List Entry) (from : ℕ) (tells : Tellin
   IsSession session_end.End =
       AnswersUpTo network history from tells IsAllTaken IsServing AllRepliesOut
   IsSession session_end.Bye =
-      AnswersUpTo network history from tells IsLeftOver WasLeft AllRepliesOut
+      AnswersUpTo network history from tells IsLeftNear WasLeft AllRepliesOut
   IsSession session_end.NoHello = λ replies own.
-      AnswersUpTo network history from tells IsLeftOver WasRefused AllRepliesOut replies own
+      AnswersUpTo network history from tells IsLeftNear WasRefused AllRepliesOut replies own
       ⊎ AnswersUpTo network history from tells IsAllTaken IsWaiting AllRepliesOut replies own
   IsSession session_end.Read = λ replies own.
       AnswersUpTo network history from tells (StopsAfterLines line_fault.Read) MayGoOn AllRepliesOut
@@ -79,5 +79,5 @@ module _ (network : Network) (history : List Entry) (from : ℕ) (tells : Tellin
       AnswersUpTo network history from tells (StopsAfterLines line_fault.TooLong) MayGoOn
       AllRepliesOut
   IsSession session_end.Write = λ replies own.
-      AnswersUpTo network history from tells IsLeftOver (λ stage. ⊤)
+      AnswersUpTo network history from tells IsLeftNear (λ stage. ⊤)
       (CutsLast network before after) replies own × WriteFails

@@ -13,11 +13,10 @@
 //! ```
 #![tactic(auto)]
 
-mod answering;
-mod client;
+mod conversation;
 mod ending;
+mod phase;
 mod session;
 
-pub use answering::Session;
 pub use ending::SessionEnd;
-pub use session::serve_session;
+pub use session::{Session, serve_session};

@@ -1,25 +1,32 @@
 // A session from its first line to its end.
-ghost use Rattle.std.specs.Prelude.{◌≡◌, ◌≢◌, ◌⊎◌, ◌↔◌, ◌+◌, ◌<◌, ◌≤◌, ℕ, List, None, Some, length};
+ghost use Rattle.std.specs.Prelude.{◌≡◌, ◌≢◌, ◌⊎◌, ◌↔◌, ◌+◌, ◌<◌, ◌≤◌, ℕ, List, length};
 ghost use Rattle.hose_io.specs.Frame.{Rose, Stays};
 ghost use Rattle.hose_io.specs.Stream.{Gives};
 ghost use Rattle.hose_shared.specs.steps.Sharing.{IsPassOf};
 ghost use Rattle.hose_session.specs.steps.Session.{IsGreeted, ServesSession};
-ghost use Rattle.hose_session.specs.declared.client.Phase.TheVariants.{Waiting};
 
-use crate::answering::Session;
-use crate::client::{Phase, Progress};
+use crate::conversation::Conversation;
 use crate::ending::SessionEnd;
+use crate::phase::Phase;
+use hose_core::Quotes;
 use hose_disk::Disk;
-use hose_graph::Reply;
-use hose_io::{Failed, Sink, Source};
+use hose_io::{Sink, Source};
 use hose_paths::RowMaker;
-use hose_pool::{Gate, Point};
-use hose_proto::put_reply;
-use hose_shared::Begun;
-use hose_talk::{Answers, hold_talk};
+use hose_pool::Gate;
+use hose_shared::{Begun, Context, Seat, Shared};
+use hose_talk::hold_talk;
 use hose_turn::Pass;
-use hose_words::{INPUT_LIMIT, Line};
+use hose_words::INPUT_LIMIT;
 use std::sync::Wait;
+
+/// A session, but for its streams, its rows and its pass: what it is answered with, the shared
+/// book, and its number at the gate.
+#[derive(Drop)]
+pub struct Session<'a, W, D: Disk, B: Begun<D>, G: Gate> {
+    pub context: &'a Context<'a, W, G>,
+    pub shared: &'a Shared<D, B>,
+    pub number: u64,
+}
 
 /// Serves one customer over an input and an output, along a pass of the shared book.
 ///
@@ -51,103 +58,21 @@ pub fn serve_session<W: Wait, S: Source, O: Sink, D: Disk, B: Begun<D>, R: RowMa
     ensures source { Stays (S.frame source.old) (S.frame source.new) }
     ensures sink { Stays (O.frame sink.old) (O.frame sink.new) }
 {
-    let mut talk = Conversation::new(session, pass, rows);
-    let ended = hold_talk(&mut talk, source, sink);
-    let Some(progress) = talk.into_progress() else {
-        unreachable!();
+    let Session {
+        context,
+        shared,
+        number,
+    } = session;
+    let quotes = Quotes::new();
+    let seat = Seat {
+        context,
+        shared,
+        session: number,
+        pass,
+        quotes,
     };
-    (progress.phase.end_after(ended), progress.pass)
-}
-
-// A session while its lines are answered: what it plans with, and how far it is.
-#[derive(Drop)]
-struct Conversation<'a, W, D: Disk, B: Begun<D>, G: Gate, R: RowMaker> {
-    session: Session<'a, W, D, B, G>,
-    rows: &'a mut R,
-    progress: Option<Progress>,
-}
-
-impl<'a, W, D: Disk, B: Begun<D>, G: Gate, R: RowMaker> Conversation<'a, W, D, B, G, R> {
-    fn new(session: Session<'a, W, D, B, G>, pass: Pass, rows: &'a mut R) -> Self
-        ensures session { result.session ≡ session.entry }
-        ensures progress { result.progress ≡ Some (record { pass = pass; phase = Waiting }) }
-    {
-        let phase = Phase::Waiting;
-        Conversation {
-            session,
-            rows,
-            progress: Some(Progress { pass, phase }),
-        }
-    }
-
-    fn into_progress(self) -> Option<Progress>
-        ensures { result ≡ self.entry.progress }
-    {
-        self.progress
-    }
-}
-
-impl<'a, W: Wait, D: Disk, B: Begun<D>, G: Gate, R: RowMaker> Answers
-    for Conversation<'a, W, D, B, G, R> {
-    type Reply = Reply;
-
-    ghost use Rattle.std.specs.Prelude.{IfSome, MatchOption};
-    ghost use Rattle.hose_graph.specs.steps.Naming.{NamesPlaces};
-    ghost use Rattle.hose_graph.specs.Network.{Network};
-    ghost use Rattle.hose_law.specs.Transcript.{SessionLine};
-    ghost use Rattle.hose_proto.specs.ReplyText.{line_of, reply_text};
-    ghost use Rattle.hose_turn.specs.Known.{Known};
-    ghost use Rattle.hose_session.specs.steps.Exchanges.{CanBeServed, ComesAlong, is_over};
-    ghost use Rattle.hose_greeting.specs.SessionLines.{SaysAfter};
-
-    ghost said = { SessionLine };
-
-    ghost subject = { Network };
-
-    ghost about = { λ talk. talk.session.shared.now.network };
-
-    ghost says = { SaysAfter };
-
-    ghost text = { λ network reply. line_of (reply_text network reply) };
-
-    ghost origin = { Known };
-
-    ghost comes = { λ first lines replies talk. IfSome talk.progress (λ progress.
-        ComesAlong talk.session.shared.now.network first progress lines replies) };
-
-    ghost fits = { λ talk. MatchOption talk.progress ⊥ (CanBeServed talk.session.shared.now) };
-
-    ghost can_put = { λ talk reply. NamesPlaces talk.session.shared.now.network reply };
-
-    ghost over = { λ talk. is_over talk.progress };
-
-    fn answer(&mut self, line: Line<'_>) -> Reply {
-        let Some(progress) = self.progress.take() else {
-            unreachable!();
-        };
-        let (reply, after) = self.session.reply_to(progress, line, self.rows);
-        self.progress = Some(after);
-        reply
-    }
-
-    fn put<O: Sink>(&self, output: &mut O, reply: &Reply) -> Result<(), Failed> {
-        let session = &self.session;
-        put_reply(output, session.shared.topology(), reply)?;
-        session.context.gate.at(Point::Answered {
-            session: session.number,
-        });
-        Ok(())
-    }
-
-    fn is_over(&self) -> bool {
-        let Some(progress) = &self.progress else {
-            return true;
-        };
-        match progress.phase {
-            Phase::Waiting => false,
-            Phase::Serving(_) => false,
-            Phase::Refused => true,
-            Phase::Left => true,
-        }
-    }
+    let phase = Phase::Waiting;
+    let mut talk = Conversation { seat, rows, phase };
+    let ended = hold_talk(&mut talk, source, sink);
+    talk.into_end(ended)
 }

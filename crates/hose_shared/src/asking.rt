@@ -87,7 +87,7 @@ impl<D: Disk, B: Begun<D>> Shared<D, B> {
         let Ok(claim) = claim_release(caller.context.alloc, caller.customer, id) else {
             return (Reply::Memory, pass);
         };
-        let entry = Snapshot::of(&claim.entry);
+        let entry = Snapshot::of(&claim.entry());
         let (mut held, start) = self.begin_turn(caller.context.rt, pass);
         let reply = release_now(&mut held.value_mut().store, claim);
         (reply, self.end_turn(held, start, Some(entry)))
@@ -118,7 +118,7 @@ impl<D: Disk, B: Begun<D>> Shared<D, B> {
         let Ok(claim) = claim_service(caller.context.alloc, link, down) else {
             return (Reply::Memory, pass);
         };
-        let entry = Snapshot::of(&claim.entry);
+        let entry = Snapshot::of(&claim.entry());
         let (mut held, start) = self.begin_turn(caller.context.rt, pass);
         let reply = service_now(&mut held.value_mut().store, claim);
         (reply, self.end_turn(held, start, Some(entry)))

@@ -22,11 +22,11 @@ mod caller;
 mod entering;
 mod kept;
 mod planning;
-mod providing;
 mod quoting;
+mod seat;
 mod shared;
 
 pub use caller::{Caller, Context};
 pub use kept::{AnyStore, Begun, Kept};
-pub use providing::SharedProvider;
+pub use seat::Seat;
 pub use shared::Shared;

@@ -2,6 +2,7 @@ pub mod Sums
 pub mod Seats
 pub mod Prefix
 pub mod Places
+pub mod Idle
 pub mod Line
 pub mod History
 pub mod Faults

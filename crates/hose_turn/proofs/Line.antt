@@ -41,20 +41,20 @@ given_here owner ticket seat = ap (λ b. cond b seat (owner ticket)) (eq-eqb tic
 given_else : (owner : ℕ → ℕ) (ticket seat other : ℕ) → other ≢ ticket → given owner ticket seat other ≡ owner other
 given_else owner ticket seat other differ = ap (λ b. cond b seat (owner other)) (ne_eqb other ticket differ)
 
-module _ {serving drawn : ℕ} {owner : ℕ → ℕ} {seat : ℕ} where
+module _ {at_turn drawn : ℕ} {owner : ℕ → ℕ} {seat : ℕ} where
   -- a pass with no ticket does not have the turn
-  pub turning-none : {view : View} → HasOwnTicket serving drawn owner seat view → view.ticket ≡ None → turning view ≡ 0
+  pub turning-none : {view : View} → HasOwnTicket at_turn drawn owner seat view → view.ticket ≡ None → turning view ≡ 0
   turning-none {view = view} queued bare = bit_off view.has_turn (λ on. no_some (sym bare ∙ queued.called on))
 
-  bare_queued : (view : View) → view.ticket ≡ None → view.has_turn ≡ false → HasOwnTicket serving drawn owner seat view
+  bare_queued : (view : View) → view.ticket ≡ None → view.has_turn ≡ false → HasOwnTicket at_turn drawn owner seat view
   bare_queued view bare off = record {
     spent = λ _. bare;
     waits = λ ticket is. absurd (no_some (sym bare ∙ is));
     called = λ on. absurd (not_on (sym off ∙ on));
   }
 
-  same_queued : {old new : View} → HasOwnTicket serving drawn owner seat old → (new.share ≡ 0 → old.share ≡ 0) → new.ticket ≡ old.ticket → new.has_turn ≡ old.has_turn
-      → HasOwnTicket serving drawn owner seat new
+  same_queued : {old new : View} → HasOwnTicket at_turn drawn owner seat old → (new.share ≡ 0 → old.share ≡ 0) → new.ticket ≡ old.ticket → new.has_turn ≡ old.has_turn
+      → HasOwnTicket at_turn drawn owner seat new
   same_queued queued shares tickets turns = record {
     spent = λ none_left. tickets ∙ queued.spent (shares none_left);
     waits = λ ticket is. queued.waits ticket (sym tickets ∙ is);
@@ -66,16 +66,16 @@ module _ {S : Type 0} (R : S → Type 0) where
   Table = State (Option S) View
 
   -- seats and slots change, and the words stay
-  words_stay : (s : Table) (line : IsTicketQueue R s) (homes : List (maybe.Option (Option S))) (views : List View) → sum_by share_of views ≤ all_shares → line.drawn ≡ line.serving + sum_by holding views
-      → ((seat : ℕ) (view : View) → get_elem? views seat ≡ some view → HasOwnTicket line.serving line.drawn line.owner seat view) → length homes ≡ 1
+  words_stay : (s : Table) (line : IsTicketQueue R s) (homes : List (maybe.Option (Option S))) (views : List View) → sum_by share_of views ≤ all_shares → line.drawn ≡ line.at_turn + sum_by holding views
+      → ((seat : ℕ) (view : View) → get_elem? views seat ≡ some view → HasOwnTicket line.at_turn line.drawn line.owner seat view) → length homes ≡ 1
       → (sum_by turning views ≡ 0 → (value : S) × (homes ≡ some (Some value) ∷ []) × R value) → IsTicketQueue R record { words = s.words; homes = homes; views = views }
   words_stay s line homes views shares holders each one_slot home = record {
-    serving = line.serving;
+    at_turn = line.at_turn;
     drawn = line.drawn;
     owner = line.owner;
     three_words = line.three_words;
     ticket_word = line.ticket_word;
-    serving_word = line.serving_word;
+    at_turn_word = line.at_turn_word;
     shares = shares;
     holders = holders;
     each = each;
@@ -97,8 +97,8 @@ module _ {S : Type 0} (R : S → Type 0) where
       (let a = sum_set share_of s.views seat old new at in let b = sum_by_push share_of views branch in let c = line.shares in omega arith)
       (let a = sum_set holding s.views seat old new at in let b = sum_by_push holding views branch in let c = line.holders in omega arith)
       (λ other view is.
-      ⊎_elim (seats_stay (HasOwnTicket line.serving line.drawn line.owner) s.views seat new (same_queued (line.each seat old at) (λ none_left. absurd (omega arith)) tickets turns) (λ i d _. line.each i d) other view)
-      (λ (same : branch ≡ view). subst (HasOwnTicket line.serving line.drawn line.owner other) same (bare_queued branch bare off)) (at_snoc views branch view other is))
+      ⊎_elim (seats_stay (HasOwnTicket line.at_turn line.drawn line.owner) s.views seat new (same_queued (line.each seat old at) (λ none_left. absurd (omega arith)) tickets turns) (λ i d _. line.each i d) other view)
+      (λ (same : branch ≡ view). subst (HasOwnTicket line.at_turn line.drawn line.owner other) same (bare_queued branch bare off)) (at_snoc views branch view other is))
       line.one_slot
       (λ none_turns. let a = sum_set turning s.views seat old new at in let b = sum_by_push turning views branch in line.home (omega arith))
 
@@ -118,13 +118,13 @@ module _ {S : Type 0} (R : S → Type 0) where
       words_stay s line s.homes (set views other spent)
       (let a = sum_set share_of s.views seat old new at in let b = sum_set share_of views other theirs spent there in let c = line.shares in omega arith)
       (let a = sum_set holding s.views seat old new at in let b = sum_set holding views other theirs spent there in let c = line.holders in omega arith)
-      (seats_stay (HasOwnTicket line.serving line.drawn line.owner) views other spent (bare_queued spent bare_after off)
-      (λ i view _. seats_stay (HasOwnTicket line.serving line.drawn line.owner) s.views seat new (same_queued (line.each seat old at) (λ none_left. absurd (omega arith)) tickets turns) (λ j d _. line.each j d) i view))
+      (seats_stay (HasOwnTicket line.at_turn line.drawn line.owner) views other spent (bare_queued spent bare_after off)
+      (λ i view _. seats_stay (HasOwnTicket line.at_turn line.drawn line.owner) s.views seat new (same_queued (line.each seat old at) (λ none_left. absurd (omega arith)) tickets turns) (λ j d _. line.each j d) i view))
       line.one_slot
       (λ none_turns. let a = sum_set turning s.views seat old new at in let b = sum_set turning views other theirs spent there in line.home (omega arith))
 
   -- fewer hold tickets than there are shares
-  pub few_hold : (s : Table) (line : IsTicketQueue R s) → line.drawn ≤ line.serving + all_shares
+  pub few_hold : (s : Table) (line : IsTicketQueue R s) → line.drawn ≤ line.at_turn + all_shares
   few_hold s line =
       let a = sum_below holding share_of s.views (λ seat view is. one_if-le view.ticket view.share (line.each seat view is).spent) in let b = line.shares in let c = line.holders in omega arith
 
@@ -135,15 +135,15 @@ module _ {S : Type 0} (R : S → Type 0) where
   line_stays R' s line seat word old new at shares tickets turns right =
       let held : one_if new.ticket ≡ one_if old.ticket = ap one_if tickets in
       let turned : bit new.has_turn ≡ bit old.has_turn = ap bit turns in record {
-        serving = line.serving;
+        at_turn = line.at_turn;
         drawn = line.drawn;
         owner = line.owner;
         three_words = length-set s.words 0 word ∙ line.three_words;
         ticket_word = get_or-set_other s.words 0 1 word 0 (λ e. omega arith) ∙ line.ticket_word;
-        serving_word = get_or-set_other s.words 0 2 word 0 (λ e. omega arith) ∙ line.serving_word;
+        at_turn_word = get_or-set_other s.words 0 2 word 0 (λ e. omega arith) ∙ line.at_turn_word;
         shares = let a = sum_set share_of s.views seat old new at in let c = line.shares in omega arith;
         holders = let a = sum_set holding s.views seat old new at in let c = line.holders in omega arith;
-        each = seats_stay (HasOwnTicket line.serving line.drawn line.owner) s.views seat new (same_queued (line.each seat old at) (λ none_left. sym shares ∙ none_left) tickets turns) (λ i view _. line.each i view);
+        each = seats_stay (HasOwnTicket line.at_turn line.drawn line.owner) s.views seat new (same_queued (line.each seat old at) (λ none_left. sym shares ∙ none_left) tickets turns) (λ i view _. line.each i view);
         one_slot = line.one_slot;
         home = λ none_turns. let a = sum_set turning s.views seat old new at in let b = sum_has turning s.views seat old at in
             let there = line.home (omega arith) in (there.0, there.1, right there.0 (omega arith) there.2);
@@ -163,15 +163,15 @@ module _ {S : Type 0} (R : S → Type 0) where
       let not_turned : bit old.has_turn ≡ 0 = turning-none mine bare in
       let turned : bit new.has_turn ≡ bit old.has_turn = ap bit turns in
       let before = line.holders in record {
-        serving = line.serving;
+        at_turn = line.at_turn;
         drawn = n + 1;
         owner = owner;
         three_words = length-set s.words 1 _ ∙ wide;
         ticket_word = get_or-set_same s.words 1 word 0 (omega arith) ∙ is;
-        serving_word = get_or-set_other s.words 1 2 _ 0 (λ e. omega arith) ∙ line.serving_word;
+        at_turn_word = get_or-set_other s.words 1 2 _ 0 (λ e. omega arith) ∙ line.at_turn_word;
         shares = let a = sum_set share_of s.views seat old new at in let c = line.shares in omega arith;
         holders = let a = sum_set holding s.views seat old new at in omega arith;
-        each = seats_stay (HasOwnTicket line.serving (n + 1) owner) s.views seat new (record {
+        each = seats_stay (HasOwnTicket line.at_turn (n + 1) owner) s.views seat new (record {
           spent = λ none_left. absurd (omega arith);
           waits = λ k e. let same : n ≡ k = ap num (sym ticket ∙ e) in (omega arith, omega arith, subst (λ (z : ℕ). owner z ≡ seat) same (given_here line.owner n seat));
           called = λ on. absurd (no_some (sym bare ∙ mine.called (sym turns ∙ on)));
@@ -189,20 +189,20 @@ module _ {S : Type 0} (R : S → Type 0) where
       → (other : ℕ) (theirs : View) → other ≢ seat → get_elem? s.views other ≡ some theirs → theirs.has_turn ≡ true → ⊥
   alone s line seat mine at on other theirs apart there on' =
       let queued = line.each other theirs there in let own = line.each seat mine at in
-      apart (sym ((queued.waits line.serving (queued.called on')).2) ∙ (own.waits line.serving (own.called on)).2)
+      apart (sym ((queued.waits line.at_turn (queued.called on')).2) ∙ (own.waits line.at_turn (own.called on)).2)
 
   -- where the one whose ticket is served does not have the turn, none has
-  pub none_turns_yet : (s : Table) (line : IsTicketQueue R s) (seat : ℕ) (mine : View) → get_elem? s.views seat ≡ some mine → mine.has_turn ≡ false → mine.ticket ≡ Some line.serving
+  pub none_turns_yet : (s : Table) (line : IsTicketQueue R s) (seat : ℕ) (mine : View) → get_elem? s.views seat ≡ some mine → mine.has_turn ≡ false → mine.ticket ≡ Some line.at_turn
       → (value : S) × (s.homes ≡ some (Some value) ∷ []) × R value
   none_turns_yet s line seat mine at off served = let own = line.each seat mine at in
       line.home (sum_none turning s.views (λ other theirs there. bit_off theirs.has_turn (λ on.
       let queued = line.each other theirs there in
-      let a = (queued.waits line.serving (queued.called on)).2 in let b = (own.waits line.serving served).2 in
+      let a = (queued.waits line.at_turn (queued.called on)).2 in let b = (own.waits line.at_turn served).2 in
       let same : mine ≡ theirs = some-injective mine theirs (sym at ∙ (ap (λ (z : ℕ). get_elem? s.views z) (sym b ∙ a) ∙ there)) in
       not_on (sym off ∙ (ap (λ (z : View). z.has_turn) same ∙ on)))))
 
   -- the one whose ticket is served takes the value
-  pub line_takes : (s : Table) (line : IsTicketQueue R s) (seat : ℕ) (old new : View) → get_elem? s.views seat ≡ some old → old.has_turn ≡ false → old.ticket ≡ Some line.serving
+  pub line_takes : (s : Table) (line : IsTicketQueue R s) (seat : ℕ) (old new : View) → get_elem? s.views seat ≡ some old → old.has_turn ≡ false → old.ticket ≡ Some line.at_turn
       → new.share ≡ old.share → new.ticket ≡ old.ticket → new.has_turn ≡ true
       → IsTicketQueue R record { words = s.words; homes = set s.homes 0 none; views = set s.views seat new }
   line_takes s line seat old new at off served shares tickets on =
@@ -213,17 +213,17 @@ module _ {S : Type 0} (R : S → Type 0) where
       words_stay s line (set s.homes 0 none) (set s.views seat new)
       (let a = sum_set share_of s.views seat old new at in let c = line.shares in omega arith)
       (let a = sum_set holding s.views seat old new at in let c = line.holders in omega arith)
-      (seats_stay (HasOwnTicket line.serving line.drawn line.owner) s.views seat new
+      (seats_stay (HasOwnTicket line.at_turn line.drawn line.owner) s.views seat new
       (record { spent = λ none_left. tickets ∙ mine.spent (sym shares ∙ none_left); waits = λ k e. mine.waits k (sym tickets ∙ e); called = λ _. tickets ∙ served }) (λ j view _. line.each j view))
       (length-set s.homes 0 none ∙ line.one_slot)
       (λ none_turns. let a = sum_set turning s.views seat old new at in absurd (omega arith))
 
   -- the one that has the turn gives a value and the turn on
   pub line_passes : (R' : S → Type 0) (s : Table) (line : IsTicketQueue R s) (seat word : ℕ) (old new : View) (value : S) → get_elem? s.views seat ≡ some old
-      → old.has_turn ≡ true → 0 < old.share → word ≡ (line.serving + 1) % 2 ^ 64 → new.share ≡ old.share → new.ticket ≡ None → new.has_turn ≡ false → R' value
+      → old.has_turn ≡ true → 0 < old.share → word ≡ (line.at_turn + 1) % 2 ^ 64 → new.share ≡ old.share → new.ticket ≡ None → new.has_turn ≡ false → R' value
       → IsTicketQueue R' record { words = set s.words 2 word; homes = set s.homes 0 (some (Some value)); views = set s.views seat new }
   line_passes R' s line seat word old new value at on live is shares bare off right =
-      let n : ℕ = line.serving in
+      let n : ℕ = line.at_turn in
       let wide = line.three_words in
       let mine = line.each seat old at in
       let served = mine.called on in
@@ -232,12 +232,12 @@ module _ {S : Type 0} (R : S → Type 0) where
       let before = line.holders in
       let owned = (mine.waits n served).2 in
       let back = one_slot_set s.homes (some (Some value)) line.one_slot in record {
-        serving = n + 1;
+        at_turn = n + 1;
         drawn = line.drawn;
         owner = line.owner;
         three_words = length-set s.words 2 _ ∙ wide;
         ticket_word = get_or-set_other s.words 2 1 _ 0 (λ e. omega arith) ∙ line.ticket_word;
-        serving_word = get_or-set_same s.words 2 word 0 (omega arith) ∙ is;
+        at_turn_word = get_or-set_same s.words 2 word 0 (omega arith) ∙ is;
         shares = let a = sum_set share_of s.views seat old new at in let c = line.shares in omega arith;
         holders = let a = sum_set holding s.views seat old new at in omega arith;
         each = seats_stay (HasOwnTicket (n + 1) line.drawn line.owner) s.views seat new (bare_queued new bare off)
@@ -255,12 +255,12 @@ module _ {S : Type 0} (R : S → Type 0) where
       → IsTicketQueue R record { words = word ∷ (ticket + 1) % 2 ^ 64 ∷ ticket ∷ []; homes = none ∷ []; views = view ∷ [] }
   line_opens word ticket view small all held on =
       let one : one_if view.ticket ≡ 1 = ap one_if held in let turned : bit view.has_turn ≡ 1 = ap bit on in record {
-        serving = ticket;
+        at_turn = ticket;
         drawn = ticket + 1;
         owner = λ _. 0;
         three_words = refl;
         ticket_word = refl;
-        serving_word = omega arith;
+        at_turn_word = omega arith;
         shares = omega (arith, sum_by-cons share_of view []);
         holders = omega (arith, sum_by-cons holding view []);
         each = λ seat other there. subst (λ (z : View). HasOwnTicket ticket (ticket + 1) (λ _. 0) seat z) (only view other seat there) (record {

@@ -153,10 +153,10 @@ module _ {S : Type 0} (stands : Origin → List Entry → S → Type 0) (faults 
       let mine = opened.known.each seat view at in
       let floor = opened.tally.each seat view at in
       let right = Right opened.origin opened.history opened.count in
-      let word : found ≡ opened.line.serving % 2 ^ 64 = opened.line.serving_word in
+      let word : found ≡ opened.line.at_turn % 2 ^ 64 = opened.line.at_turn_word in
       let words : set s.words 2 found ≡ s.words = set-get_or s.words 2 0 in
-      dite (opt_discrete view.ticket opened.line.serving)
-      (λ (served : view.ticket ≡ Some opened.line.serving).
+      dite (opt_discrete view.ticket opened.line.at_turn)
+      (λ (served : view.ticket ≡ Some opened.line.at_turn).
       let home = none_turns_yet right s opened.line seat view at off served in
       let new : View = record view { has_turn = true; seen = opened.history; floor = faults home.0 } in (
         new,
@@ -179,7 +179,7 @@ module _ {S : Type 0} (stands : Origin → List Entry → S → Type 0) (faults 
         λ ticket is. (
           λ same.
               let waits = (opened.line.each seat view at).waits ticket is in let low = waits.0 in let high = waits.1 in let near = few_hold right s opened.line in
-              absurd (not_served (is ∙ ap Some (sym (one_turn opened.line.serving ticket (2 ^ 64) low (omega arith) (sym word ∙ same))))),
+              absurd (not_served (is ∙ ap Some (sym (one_turn opened.line.at_turn ticket (2 ^ 64) low (omega arith) (sym word ∙ same))))),
           λ _. refl,
         ),
       ))
@@ -234,7 +234,7 @@ module _ {S : Type 0} (stands : Origin → List Entry → S → Type 0) (faults 
       let latest = mine.latest on in
       let now : ℕ = faults value in
       let new : View = passed_on view (rise view.floor now) in
-      let word : get_or s.words 2 0 ≡ opened.line.serving % 2 ^ 64 = opened.line.serving_word in
+      let word : get_or s.words 2 0 ≡ opened.line.at_turn % 2 ^ 64 = opened.line.at_turn_word in
       let before = Right opened.origin opened.history opened.count in
       let others = alone before s opened.line seat view at on in
       let stood : stands opened.origin opened.history value = subst (λ (z : Origin × List Entry). stands z.0 z.1 value) (λ i. (mine.same live i, latest i)) right in

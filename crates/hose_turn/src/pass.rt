@@ -4,7 +4,7 @@ ghost use Rattle.std.specs.Prelude.{◌≡◌, ◌<◌, ◌≤◌, true, [], ◌
 ghost use Rattle.hose_turn.specs.steps.Known.{HasOwnPlaces};
 ghost use Rattle.hose_turn.specs.steps.Limits.{all_shares};
 ghost use Rattle.hose_turn.specs.steps.Places.{HasSomePlaces};
-ghost use Rattle.hose_turn.specs.steps.Views.{known_of, IsAtRest};
+ghost use Rattle.hose_turn.specs.steps.Views.{known_of, no_pass, IsAtRest};
 
 use crate::rule::BoardSeat;
 use crate::view::View;
@@ -32,16 +32,26 @@ pub struct Pass {
 
 impl Model for Pass {
     ghost use Rattle.hose_turn.specs.Known.{Known};
-    ghost use Rattle.hose_turn.specs.steps.Views.{known_of, view_of, IsResting};
+    ghost use Rattle.hose_turn.specs.steps.Views.{known_of, lock_of, view_of, IsIdle};
 
     ghost Value = { Known };
 
-    ghost view = { λ pass. known_of pass.badge.table_id (view_of pass.badge.views) };
+    ghost view = { λ pass. let views = pass.badge.views in
+        known_of (lock_of pass.badge.table_id views) (view_of views) };
 
-    ghost invariant = { λ pass. IsResting pass.badge.views };
+    ghost invariant = { λ pass. IsIdle pass.badge.views };
 }
 
 impl Pass {
+    /// Stands in for a pass that was taken out of its place. It is of no lock.
+    pub fn blank() -> Pass
+        ensures { result ≡ no_pass }
+    {
+        Pass {
+            badge: Badge::blank(),
+        }
+    }
+
     /// Tells what is known of every pass: which places can be its own.
     pub fn law_places(&self)
         ensures { HasOwnPlaces self.now }
@@ -50,6 +60,7 @@ impl Pass {
     }
 
     pub(crate) fn take_seat<S>(self) -> BoardSeat<S>
+        requires { self.turn.words ≡ 3 }
         ensures known { known_of result.table_id result.me.0 ≡ self }
         ensures rests { IsAtRest result.me.0 }
         ensures slots { result.me.1 ≡ [] }

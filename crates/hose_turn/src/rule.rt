@@ -17,7 +17,7 @@ pub(crate) const EPOCH: usize = 0;
 
 pub(crate) const TICKET: usize = 1;
 
-pub(crate) const SERVING: usize = 2;
+pub(crate) const AT_TURN: usize = 2;
 
 pub(crate) struct OneHistory;
 

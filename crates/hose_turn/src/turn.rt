@@ -14,7 +14,7 @@ ghost use Rattle.hose_turn.specs.contracts.pass.Held.{the_row};
 use crate::bells::Bells;
 use crate::pass::{ALL_SHARES, Held, Pass};
 use crate::rule::{
-    Begin, Board, BoardSeat, CountEntry, Cut, Draw, EPOCH, Glue, Look, Open, PassOn, SERVING,
+    AT_TURN, Begin, Board, BoardSeat, CountEntry, Cut, Draw, EPOCH, Glue, Look, Open, PassOn,
     Settle, TICKET,
 };
 use crate::view::{Counted, HoldsHistory};
@@ -88,7 +88,7 @@ impl<S: HoldsHistory + Drop> Turn<S> {
             return Err(value);
         };
         Turn::begin(&board, &mut seat, value);
-        board.shared.fetch_add::<Open>(&mut seat, SERVING, 1);
+        board.shared.fetch_add::<Open>(&mut seat, AT_TURN, 1);
         Ok((Turn { board, bells }, Pass::of(seat)))
     }
 
@@ -130,12 +130,11 @@ impl<S: HoldsHistory + Drop> Turn<S> {
         requires other { other.turn ≡ self.now }
         ensures { HasJoined pass.old other pass.new }
     {
+        let board = &self.board.shared;
         let badge = replace(&mut pass.badge, Badge::blank());
         let mut seat: BoardSeat<S> = badge.into_seat();
-        self.board
-            .shared
-            .join_seat::<Glue>(&mut seat, other.take_seat());
-        self.board.shared.load::<Settle>(&mut seat, EPOCH);
+        board.join_seat::<Glue>(&mut seat, other.take_seat());
+        board.load::<Settle>(&mut seat, EPOCH);
         pass.badge = seat.into_badge();
     }
 
@@ -148,12 +147,13 @@ impl<S: HoldsHistory + Drop> Turn<S> {
         ensures floor { floor_of result ≡ S.faults (value_of result) }
         ensures places { HasOwnPlaces (holder result) }
     {
+        let board = &self.board.shared;
         let mut seat: BoardSeat<S> = pass.take_seat();
-        let mine = self.board.shared.fetch_add::<Draw>(&mut seat, TICKET, 1);
+        let mine = board.fetch_add::<Draw>(&mut seat, TICKET, 1);
         let mut looks = 0;
         for _ in rt.forever() {
-            if self.board.shared.load::<Look>(&mut seat, SERVING) == mine {
-                let value = self.board.shared.exchange(&mut seat, 0, None).unwrap();
+            if board.load::<Look>(&mut seat, AT_TURN) == mine {
+                let value = board.exchange(&mut seat, 0, None).unwrap();
                 return Held { seat, value };
             }
             looks = self.wait(rt, mine, looks);
@@ -164,7 +164,7 @@ impl<S: HoldsHistory + Drop> Turn<S> {
     /// Waits a little, after so many looks in a row at a ticket whose turn has not come; tells how
     /// many those are then.
     fn wait<W: Wait>(&self, rt: &W, mine: u64, looks: u32) -> u32 {
-        let before = mine.wrapping_sub(self.board.shared.peek(SERVING));
+        let before = mine.wrapping_sub(self.board.shared.peek(AT_TURN));
         let most = if before <= 1 { NEAR_LOOKS } else { FAR_LOOKS };
         if looks < most {
             spin_loop();
@@ -185,7 +185,7 @@ impl<S: HoldsHistory + Drop> Turn<S> {
     /// round meanwhile.
     fn sleep<W: Wait>(&self, rt: &W, mine: u64) {
         let number = self.bells.lie_down(mine);
-        if self.board.shared.peek(SERVING) != mine {
+        if self.board.shared.peek(AT_TURN) != mine {
             self.bells.sleep(rt, mine, number);
         }
         self.bells.get_up(mine);
@@ -193,13 +193,13 @@ impl<S: HoldsHistory + Drop> Turn<S> {
 
     /// Calls the ticket that has the turn now, and the next one, so that it is awake when its own
     /// turn comes.
-    fn call(&self, serving: u64) {
-        let waiting = self.board.shared.peek(TICKET).wrapping_sub(serving);
+    fn call(&self, at_turn: u64) {
+        let waiting = self.board.shared.peek(TICKET).wrapping_sub(at_turn);
         if waiting > 0 {
-            self.bells.ring(serving);
+            self.bells.ring(at_turn);
         }
         if waiting > 1 {
-            self.bells.ring(serving.wrapping_add(1));
+            self.bells.ring(at_turn.wrapping_add(1));
         }
     }
 
@@ -242,7 +242,7 @@ impl<S: HoldsHistory + Drop> Turn<S> {
     {
         let Held { mut seat, value } = held;
         self.board.shared.exchange(&mut seat, 0, Some(value));
-        let mine = self.board.shared.fetch_add::<PassOn>(&mut seat, SERVING, 1);
+        let mine = self.board.shared.fetch_add::<PassOn>(&mut seat, AT_TURN, 1);
         self.call(mine.wrapping_add(1));
         Pass::of(seat)
     }

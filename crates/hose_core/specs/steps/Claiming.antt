@@ -1,5 +1,5 @@
--- Claims: all the memory that the entry of a take, a release or an order of the operator needs.
-use Rattle.std.specs.Prelude.{◌≡◌, ℕ, Bool, List, Some}
+-- Claims: all the memory that a take, a release or an order of the operator needs.
+use Rattle.std.specs.Prelude.{◌≡◌, ℕ, Bool, List}
 use Rattle.hose_graph.specs.Amounts.{ReservedLink}
 use Rattle.hose_graph.specs.Hose.{Endpoint}
 use Rattle.hose_graph.specs.declared.entry.Entry.{Entry}
@@ -10,6 +10,8 @@ use Rattle.hose_book.specs.Ledger.{Ledger}
 use Rattle.hose_graph.specs.declared.entry.Entry.TheVariants.{Admit, Release}
 use Rattle.hose_book.specs.declared.books.Books.{Ghosts}
 use Rattle.hose_core.specs.declared.claim.Claim.{Claim}
+use Rattle.hose_core.specs.declared.claim.ReleaseClaim.{ReleaseClaim}
+use Rattle.hose_core.specs.declared.claim.ServiceClaim.{ServiceClaim}
 use Rattle.hose_core.specs.declared.quotes.Quote.{Quote}
 
 -- the claim is for a customer to take this quote
@@ -17,19 +19,21 @@ pub record IsClaimOf {K R : Type 0} (books : Ghosts K R) (claim : Claim K R) (cu
     (quote : Quote) : Type 0 where
   pub entry : claim.entry ≡ Admit customer quote.hose quote.amounts
   pub ready : books.fits claim.ready claim.entry
-  pub told : claim.told ≡ Some quote.amounts
+  pub told : claim.told ≡ quote.amounts
 
 -- the claim is for a customer to release the VPN of this number
-pub record IsReleaseClaim {K R : Type 0} (books : Ghosts K R) (claim : Claim K R)
+pub record IsReleaseClaim {K R : Type 0} (books : Ghosts K R) (claim : ReleaseClaim K R)
     (customer : List ℕ) (id : ℕ) : Type 0 where
-  pub entry : claim.entry ≡ Release customer id
-  pub ready : books.fits claim.ready claim.entry
+  pub named : claim.customer ≡ customer
+  pub numbered : claim.id ≡ id
+  pub ready : books.fits claim.ready (Release customer id)
 
 -- the claim is to take this link out of service, where `down` is true, or to put it back
-pub record IsServiceClaim {K R : Type 0} (books : Ghosts K R) (claim : Claim K R) (down : Bool)
-    (link : ℕ) : Type 0 where
-  pub entry : claim.entry ≡ service_entry down link
-  pub ready : books.fits claim.ready claim.entry
+pub record IsServiceClaim {K R : Type 0} (books : Ghosts K R) (claim : ServiceClaim K R)
+    (down : Bool) (link : ℕ) : Type 0 where
+  pub kind : claim.down ≡ down
+  pub of : claim.link ≡ link
+  pub ready : books.fits claim.ready (service_entry down link)
 
 -- the entry admits a customer's hose with the plan that it has at a ledger, which can be reserved
 pub record IsPlannedEntry (ledger : Ledger) (customer : List ℕ) (hose : List Endpoint)

@@ -1,24 +1,22 @@
 -- Exchanges: a line of a session and its reply, one after another.
-use Rattle.std.specs.Prelude.{◌≡◌, ℕ, ◌+◌, ◌≤◌, All, Bool, true, List, ◌++◌, length, Option, None, Some}
+use Rattle.std.specs.Prelude.{◌≡◌, ℕ, ◌+◌, ◌≤◌, All, List, ◌++◌, length, Option}
 use Rattle.hose_words.specs.declared.lines.Line.{Line}
 use Rattle.hose_graph.specs.Network.{Network}
 use Rattle.hose_graph.specs.declared.command.Reply.{Reply}
 use Rattle.hose_graph.specs.declared.entry.Entry.{Entry}
-use Rattle.hose_law.specs.Quotes.{Holding}
+use Rattle.hose_law.specs.Quotes.{Holding, none_held}
 use Rattle.hose_law.specs.Script.{disks_in, one_if_disk}
 use Rattle.hose_law.specs.Transcript.{IsSessionStep, IsTranscript, SessionLine, Stage, session_state}
 use Rattle.hose_law.specs.Transcript.Stage.{Left, Refused, Serving, Waiting}
+use Rattle.hose_core.specs.declared.quotes.Quote.{Quote}
 use Rattle.hose_core.specs.steps.Holding.{AreHeld}
 use Rattle.hose_shared.specs.steps.Along.{HasEntryAt}
 use Rattle.hose_shared.specs.steps.Sharing.{IsPassOf, IsSamePass, SharedBook}
 use Rattle.hose_turn.specs.Known.{Known}
-use Rattle.hose_session.specs.steps.Ending.{over_at}
 use Rattle.hose_greeting.specs.SessionLines.{SaysFirst, SaysLater}
 use Rattle.hose_greeting.specs.steps.Shown.{ShownSays}
-use Rattle.hose_session.specs.declared.client.Client.{Client}
-use Rattle.hose_session.specs.declared.client.Phase.{Phase}
-use Rattle.hose_session.specs.declared.client.Phase.TheVariants as phase
-use Rattle.hose_session.specs.declared.client.Progress.{Progress}
+use Rattle.hose_session.specs.declared.phase.Phase.{Phase}
+use Rattle.hose_session.specs.declared.phase.Phase.TheVariants as phase
 
 -- An exchange: a line was answered while a pass went on, from each place that it had seen, at one
 -- that it has seen then.
@@ -32,28 +30,36 @@ pub record IsExchange (network : Network) (old new : Known) (stage : Stage) (sai
   pub own : new.own ≡ old.own ++ added
   pub faults : old.faults + one_if_disk reply ≤ new.faults
 
--- A line of a client who holds this was answered, and the client is served on, with these quotes.
-pub record ServesClientOn (network : Network) (old new : Known) (client client' : Client)
-    (held : Holding) (said : SessionLine) (reply : Reply) : Type 0 where
+-- A line of a customer who holds this was answered, and the customer is served on, with these
+-- quotes.
+pub record ServesOn (network : Network) (old new : Known) (customer : List ℕ) (held : Holding)
+    (said : SessionLine) (reply : Reply) (quotes : List (Option Quote)) : Type 0 where
   pub left : Holding
-  pub exchange : IsExchange network old new (Serving client.name held) said reply
-      (Serving client.name left)
-  pub holds : AreHeld network 0 new.seen left client'.quotes
-  pub name : client'.name ≡ client.name
+  pub exchange : IsExchange network old new (Serving customer held) said reply
+      (Serving customer left)
+  pub holds : AreHeld network 0 new.seen left quotes
 
 -- ---- how far a session is
 
--- a phase is so far at a history: its customer's quotes are those that it holds
-abbrev pub IsPhaseAt : Network → List Entry → Phase → Stage → Type 0
-IsPhaseAt network history phase.Waiting stage = stage ≡ Waiting
-IsPhaseAt network history (phase.Serving client) stage = (held : Holding)
-    × (stage ≡ Serving client.name held) × AreHeld network 0 history held client.quotes
-IsPhaseAt network history phase.Refused stage = stage ≡ Refused
-IsPhaseAt network history phase.Left stage = stage ≡ Left
+-- how far a session is: the pass along which it went, its phase, and its customer's quotes
+pub record Progress : Type 0 where
+  pub pass : Known
+  pub phase : Phase
+  pub quotes : List (Option Quote)
+
+-- A phase is so far at a history: its customer's quotes are those that it holds, and before a
+-- greeting there are none.
+abbrev pub IsPhaseAt : Network → List Entry → Phase → List (Option Quote) → Stage → Type 0
+IsPhaseAt network history phase.Waiting quotes stage = (stage ≡ Waiting) × (quotes ≡ none_held)
+IsPhaseAt network history (phase.Serving customer) quotes stage = (held : Holding)
+    × (stage ≡ Serving customer held) × AreHeld network 0 history held quotes
+IsPhaseAt network history phase.Refused quotes stage = stage ≡ Refused
+IsPhaseAt network history phase.Left quotes stage = stage ≡ Left
 
 -- a session is so far at what its pass has seen
 abbrev pub IsAt : Network → Progress → Stage → Type 0
-IsAt network progress stage = IsPhaseAt network progress.pass.seen progress.phase stage
+IsAt network progress stage =
+    IsPhaseAt network progress.pass.seen progress.phase progress.quotes stage
 
 -- what a line may say at a stage
 abbrev pub SaysAt : Network → Stage → List ℕ → SessionLine → Type 0
@@ -75,11 +81,6 @@ pub record AnswersAt (network : Network) (old : Known) (new : Progress) (stage :
 abbrev pub CanBeServed : SharedBook → Progress → Type 0
 CanBeServed shared progress =
     IsPassOf shared progress.pass × (stage : Stage) × IsAt shared.network progress stage
-
--- no line is answered any more
-abbrev pub is_over : Option Progress → Bool
-is_over (Some progress) = over_at progress.phase
-is_over None = true
 
 -- ---- from the start on
 

@@ -1,5 +1,5 @@
 -- A shared book, as it answers one customer along a pass.
-use Rattle.std.specs.Prelude.{◌≡◌, ◌<◌, ◌≤◌, ℕ, List, Option, Some, length}
+use Rattle.std.specs.Prelude.{◌≡◌, ◌<◌, ◌≤◌, ℕ, List, Option, length}
 use Rattle.hose_graph.specs.steps.Naming.{NamesPlaces}
 use Rattle.hose_graph.specs.Network.{Network}
 use Rattle.hose_graph.specs.declared.command.Command.{Command}
@@ -13,10 +13,9 @@ use Rattle.hose_turn.specs.Known.{Known}
 use Rattle.hose_shared.specs.steps.Along.{StepsHolding}
 use Rattle.hose_shared.specs.steps.Sharing.{IsPassOf, SharedBook}
 
--- a customer of a shared book: the pass along which it is answered, where it is at hand, and the
--- quotes that the customer holds
+-- a customer at a shared book: the pass along which it is answered, and the quotes that it holds
 pub record Customer : Type 0 where
-  pub pass : Option Known
+  pub pass : Known
   pub quotes : List (Option Quote)
 
 -- the pass is one of the shared book, and the quotes were made along it
@@ -25,16 +24,12 @@ CanProvide shared quotes pass =
     IsPassOf shared pass × (held : Holding) × AreHeld shared.network 0 pass.seen held quotes
 
 -- A command was answered by a step along the history, whatever the customer held whose quotes these
--- were, with a reply that names what is there; and the pass is at hand before and after it. Of a
--- stale quote both numbers are of this history, and other entries came after it.
+-- were, with a reply that names what is there. Of a stale quote both numbers are of this history,
+-- and other entries came after it.
 pub record Provides (network : Network) (old new : Customer) (customer : List ℕ)
     (command : Command) (reply : Reply) : Type 0 where
-  pub before : Known
-  pub after : Known
-  pub was : old.pass ≡ Some before
-  pub is : new.pass ≡ Some after
-  pub steps : (held : Holding) → AreHeld network 0 before.seen held old.quotes
-      → StepsHolding network customer held command reply before after new.quotes
+  pub steps : (held : Holding) → AreHeld network 0 old.pass.seen held old.quotes
+      → StepsHolding network customer held command reply old.pass new.pass new.quotes
   pub names : NamesPlaces network reply
   pub stale : (number seen now : ℕ) → command ≡ Take number → reply ≡ Stale seen now
-      → (seen < now) × (now ≤ length after.seen)
+      → (seen < now) × (now ≤ length new.pass.seen)

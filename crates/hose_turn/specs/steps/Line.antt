@@ -30,30 +30,30 @@ bit false = 0
 abbrev pub turning : View → ℕ
 turning view = bit view.has_turn
 
--- A pass that was joined away has no ticket. A ticket is from `serving` on and below `drawn`, and
+-- A pass that was joined away has no ticket. A ticket is from `at_turn` on and below `drawn`, and
 -- was drawn by this seat. Who has the turn has the ticket that is served.
-pub record HasOwnTicket (serving drawn : ℕ) (owner : ℕ → ℕ) (seat : ℕ) (view : View)
+pub record HasOwnTicket (at_turn drawn : ℕ) (owner : ℕ → ℕ) (seat : ℕ) (view : View)
     : Type 0 where
   pub spent : view.share ≡ 0 → view.ticket ≡ None
   pub waits : (ticket : ℕ) → view.ticket ≡ Some ticket
-      → (serving ≤ ticket) × (ticket < drawn) × (owner ticket ≡ seat)
-  pub called : view.has_turn ≡ true → view.ticket ≡ Some serving
+      → (at_turn ≤ ticket) × (ticket < drawn) × (owner ticket ≡ seat)
+  pub called : view.has_turn ≡ true → view.ticket ≡ Some at_turn
 
 -- The shares are no more than there are. As many passes hold tickets as were drawn and not yet
 -- served, and `owner` says which seat drew a ticket, so no two have one ticket and at most one has
 -- the turn. Where none has it, the value is in its slot and is right.
 pub record IsTicketQueue {S : Type 0} (IsRight : S → Type 0) (state : State (Option S) View)
     : Type 0 where
-  pub serving : ℕ
+  pub at_turn : ℕ
   pub drawn : ℕ
   pub owner : ℕ → ℕ
   pub three_words : length state.words ≡ 3
   pub ticket_word : slice_index state.words 1 ≡ drawn % 2 ^ 64
-  pub serving_word : slice_index state.words 2 ≡ serving % 2 ^ 64
+  pub at_turn_word : slice_index state.words 2 ≡ at_turn % 2 ^ 64
   pub shares : sum_by share_of state.views ≤ all_shares
-  pub holders : drawn ≡ serving + sum_by holding state.views
+  pub holders : drawn ≡ at_turn + sum_by holding state.views
   pub each : (seat : ℕ) (view : View) → get_elem? state.views seat ≡ some view
-      → HasOwnTicket serving drawn owner seat view
+      → HasOwnTicket at_turn drawn owner seat view
   pub one_slot : length state.homes ≡ 1
   pub home : sum_by turning state.views ≡ 0
       → (value : S) × (state.homes ≡ some (Some value) ∷ []) × IsRight value

@@ -1,5 +1,5 @@
 -- What a seat at the table knows, and what each step makes of it.
-use Rattle.std.specs.Prelude.{◌≡◌, ℕ, ◌+◌, ◌-◌, ◌<◌, false, true, List, [], ◌∷◌, ◌++◌, length, None, Some}
+use Rattle.std.specs.Prelude.{◌≡◌, ◌⊎◌, ℕ, ◌+◌, ◌-◌, ◌<◌, false, true, List, [], ◌∷◌, ◌++◌, length, None, Some}
 use Rattle.atomic_table.specs.Seated.{TableId}
 use Rattle.hose_graph.specs.declared.entry.Entry.{Entry}
 use Rattle.hose_turn.specs.declared.view.View.{View}
@@ -61,6 +61,23 @@ known_of turn view = record {
   faults = view.faults;
 }
 
+-- no lock
+abbrev pub no_lock : TableId
+no_lock = record {
+  words = 0;
+  slots = 0;
+  views_name = 0;
+  atom = 0;
+  block = 0;
+  offset = 0;
+  slot_names = [];
+}
+
+-- the lock of a pass that is there; one that stands in for another pass is of none
+abbrev pub lock_of : TableId → List View → TableId
+lock_of turn [] = no_lock
+lock_of turn (view ∷ views) = turn
+
 -- The pass is there, has no ticket and not the turn, and has looked at all that it was told. Each
 -- of its own places is one that it has seen, and none stands twice.
 pub record IsAtRest (view : View) : Type 0 where
@@ -74,6 +91,14 @@ pub record IsAtRest (view : View) : Type 0 where
 pub record IsResting (views : List View) : Type 0 where
   pub one : views ≡ view_of views ∷ []
   pub rests : IsAtRest (view_of views)
+
+-- a pass that does nothing just now, or one that stands in for another
+abbrev pub IsIdle : List View → Type 0
+IsIdle views = (views ≡ []) ⊎ IsResting views
+
+-- what is seen of one that stands in for another
+abbrev pub no_pass : Known
+no_pass = known_of no_lock nobody
 
 -- one share less
 abbrev pub cut : View → View

@@ -30,7 +30,7 @@ enter_planned-requires-clause-planned g c =
     let claim = c.requires.claim in
     let is : IsNetwork ledger.network = subst (λ (l : Ledger). IsNetwork l.network) c.book.ensures c.still_holds.ensures.network in
     let holds = holds_there c.book.result.now ledger c.book.ensures quote c.still_holds.result c.still_holds.ensures.holds made.0 made.1 in
-    (claim.0, quote.hose, claim_planned g.K.Books ledger is made.0 quote claim.0 c.args.claim c.in-Some.told claim.1 c.in-Some.is made.1 (holds.0 c.if-not-still_holds.false))
+    (claim.0, quote.hose, claim_planned g.K.Books ledger is made.0 quote claim.0 c.args.claim claim.1 made.1 (holds.0 c.if-not-still_holds.false))
 
 pub returns-clause-step : goal.returns-clause-step
 returns-clause-step g c = λ customer epoch number history held one claim at there is.
@@ -40,7 +40,7 @@ returns-clause-step g c = λ customer epoch number history held one claim at the
     let network : IsNetwork ledger.network = subst (λ (l : Ledger). IsNetwork l.network) c.book.ensures c.still_holds.ensures.network in
     let holds = holds_there c.book.result.now ledger c.book.ensures quote c.still_holds.result c.still_holds.ensures.holds _ is.made in
     let equal = holds.0 c.if-not-still_holds.false in
-    let planned = claim_planned g.K.Books ledger network _ quote customer c.args.claim c.in-Some.told claim c.in-Some.is is.made equal in
+    let planned = claim_planned g.K.Books ledger network _ quote customer c.args.claim claim is.made equal in
     take_step g.K.Books old c.enter_planned.new.books epoch number history customer held one quote at there is equal c.enter_planned.result (c.enter_planned.ensures.answers customer quote.hose planned)
 
 pub returns-clause-takes : goal.returns-clause-takes
@@ -50,7 +50,7 @@ returns-clause-takes g c = λ customer earlier claim made.
     let network : IsNetwork ledger.network = subst (λ (l : Ledger). IsNetwork l.network) c.book.ensures c.still_holds.ensures.network in
     let holds = holds_there c.book.result.now ledger c.book.ensures quote c.still_holds.result c.still_holds.ensures.holds earlier made in
     let equal = holds.0 c.if-not-still_holds.false in
-    let planned = claim_planned g.K.Books ledger network earlier quote customer c.args.claim c.in-Some.told claim c.in-Some.is made equal in
+    let planned = claim_planned g.K.Books ledger network earlier quote customer c.args.claim claim made equal in
     inr (equal, c.enter_planned.ensures.answers customer quote.hose planned)
 
 pub returns-clause-cheapest : goal.returns-clause-cheapest
@@ -62,5 +62,5 @@ returns-clause-cheapest g c =
     let claim = c.requires.claim in
     let is : IsNetwork ledger.network = subst (λ (l : Ledger). IsNetwork l.network) c.book.ensures c.still_holds.ensures.network in
     let holds = holds_there c.book.result.now ledger c.book.ensures quote c.still_holds.result c.still_holds.ensures.holds made.0 made.1 in
-    let planned = claim_planned g.K.Books ledger is made.0 quote claim.0 c.args.claim c.in-Some.told claim.1 c.in-Some.is made.1 (holds.0 c.if-not-still_holds.false) in
+    let planned = claim_planned g.K.Books ledger is made.0 quote claim.0 c.args.claim claim.1 made.1 (holds.0 c.if-not-still_holds.false) in
     admits_cheapest g.K.Books old c.enter_planned.new.books claim.0 quote.hose is c.enter_planned.result (c.enter_planned.ensures.answers claim.0 quote.hose planned)

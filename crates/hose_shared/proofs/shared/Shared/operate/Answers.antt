@@ -3,6 +3,7 @@ use Rattle.std.proofs.lemmas.Bool.{false≢true}
 use Rattle.hose_graph.specs.steps.Naming.{NamesPlaces}
 use Rattle.hose_graph.specs.Network.{Network}
 use Rattle.hose_law.specs.Quotes.{none_held}
+use Rattle.hose_law.specs.steps.Service.{service_entry}
 use Rattle.hose_core.specs.steps.Serving.{service_command}
 use Rattle.hose_shared.proofs.Entries.{order_denied, order_starved, order_turn, stays_along}
 use Rattle.hose_law.proofs.Epochs.{epoch_of}
@@ -33,7 +34,7 @@ end_turn-requires-clause-answers g c =
     let customer = c.args.caller.now.customer.now in
     let called = c.service_now-reply.ensures in
     let mine = c.is_operator-is_operator.ensures.0 c.if-not-is_operator.false in
-    let entered = ap Some (c.of-entry.ensures ∙ c.in-Ok.ensures.entry) in (
+    let entered = ap Some (c.of-entry.ensures ∙ c.entry.ensures ∙ (λ i. service_entry (c.in-Ok.ensures.kind i) (c.in-Ok.ensures.of i))) in (
       customer,
       none_held,
       service_command c.args.down c.args.link,
@@ -48,7 +49,7 @@ returns g c = record {
       let customer = c.args.caller.now.customer.now in
       let called = c.service_now-reply.ensures in
       let mine = c.is_operator-is_operator.ensures.0 c.if-not-is_operator.false in
-      let entered = ap Some (c.of-entry.ensures ∙ c.in-Ok.ensures.entry) in
+      let entered = ap Some (c.of-entry.ensures ∙ c.entry.ensures ∙ (λ i. service_entry (c.in-Ok.ensures.kind i) (c.in-Ok.ensures.of i))) in
       along_of _ customer held _ _ _ _ _ c.begin_turn-held.ensures.more
       (c.end_turn.ensures customer held (service_command c.args.down c.args.link) c.service_now-reply.result
       (order_turn c.begin_turn-held.ensures.begins same called.answered _ customer held c.args.down c.args.link entered mine (called.step c.args.down c.args.link c.in-Ok.ensures)));

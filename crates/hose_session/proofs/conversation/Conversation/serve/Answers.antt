@@ -1,0 +1,74 @@
+use Rattle.std.proofs.Common.{◌≡◌, ◌∙◌, Err, [], ℕ, rules, ap, arith, subst}
+use Rattle.hose_words.specs.Form.{IsChoice}
+use Rattle.hose_words.specs.Grammar.{IsFirst, IsFirstNotAllowed}
+use Rattle.hose_words.specs.steps.Lines.{Shows}
+use Rattle.hose_words.specs.Words.{words_of}
+use Rattle.hose_words.specs.declared.lines.Line.{Line}
+use Rattle.hose_graph.specs.Network.{Network}
+use Rattle.hose_graph.specs.declared.command.Reply.TheVariants.{Long, Memory}
+use Rattle.hose_law.specs.Transcript.SessionLine.{Asks, IsBad, IsLong, Unread}
+use Rattle.hose_law.specs.Transcript.Stage.{Serving}
+use Rattle.hose_proto.specs.Command.{IsCommand, TakesMemory, command_grammar, verb_word}
+use Rattle.hose_shared.proofs.Passes.{more_same}
+use Rattle.hose_greeting.specs.SessionLines.{IsBye}
+use Rattle.hose_session.proofs.Exchanging.{bad_exchange, bye_exchange, in_phase, left_at, long_exchange, memory_exchange, provided_exchange, served_at}
+use Rattle.hose_greeting.proofs.Shown.{text_is}
+use Rattle.hose_session.proofs.conversation.Conversation.serve.Goals as goal
+
+pub returns-in_default-clause-answers : goal.returns-in_default-clause-answers
+returns-in_default-clause-answers g c = λ held are.
+    let seat = c.args.self.now.seat in
+    let network = seat.shared.now.network in
+    let pass = seat.pass in
+    let name = c.args.name.now in
+    in_phase network pass pass seat.quotes (Serving name held) c.args.line Long c.args.self.now.phase name c.requires.phase
+    (served_at network pass pass c.args.line _ seat.quotes name held IsLong (λ bytes shows. subst (λ (l : Line). Shows l bytes) c.in_default.is shows)
+    (long_exchange network pass (more_same pass c.requires.of.places).same name seat.quotes held are))
+
+pub returns-in-Ok-clause-answers : goal.returns-in-Ok-clause-answers
+returns-in-Ok-clause-answers g c = λ held are.
+    let seat = c.args.self.now.seat in
+    let network = seat.shared.now.network in
+    let pass = seat.pass in
+    let name = c.args.name.now in
+    let now = c.dispatch.new.provider in
+    let asks = subst (λ (n : Network). IsCommand n (words_of c.in-Text.text.now) c.in-Ok.command) c.topology.ensures.value c.in-Ok.ensures.ok in
+    in_phase network pass now.pass now.quotes (Serving name held) c.args.line c.dispatch.result c.args.self.now.phase name c.requires.phase
+    (served_at network pass now.pass c.args.line _ now.quotes name held (Asks c.in-Ok.command)
+    (text_is (λ bytes. IsCommand network (words_of bytes) c.in-Ok.command) c.args.line c.in-Text.text c.in-Text.is asks) (provided_exchange c.dispatch.ensures.answers.3 held are))
+
+pub returns-then-is_bye-clause-answers : goal.returns-then-is_bye-clause-answers
+returns-then-is_bye-clause-answers g c = λ held are.
+    let seat = c.args.self.now.seat in
+    let network = seat.shared.now.network in
+    let pass = seat.pass in
+    let name = c.args.name.now in
+    left_at network pass pass c.args.line _ seat.quotes name held (text_is IsBye c.args.line c.in-Text.text c.in-Text.is (c.is_bye.ensures.0 c.if-is_bye.true)) (bye_exchange network pass (more_same pass c.requires.of.places).same name held)
+
+pub returns-else-is_bye-clause-answers : goal.returns-else-is_bye-clause-answers
+returns-else-is_bye-clause-answers g c = λ held are.
+    let seat = c.args.self.now.seat in
+    let network = seat.shared.now.network in
+    let pass = seat.pass in
+    let name = c.args.name.now in
+    let word : ℕ = c.in-Err-Bad.word in
+    let told = c.read_command.ensures.bad word (c.in-Err-Bad.is ∙ ap Err c.in-Err-Bad.field-0-is) in
+    let at : told.0 ≡ word = omega (arith, told.1) in
+    let first = subst (λ (w : ℕ). IsFirstNotAllowed (command_grammar c.topology.result.now) [] (words_of c.in-Text.text.now) w) at told.2 in
+    let wrong = subst (λ (n : Network). IsFirstNotAllowed (command_grammar n) [] (words_of c.in-Text.text.now) word) c.topology.ensures.value first in
+    let says = text_is (λ bytes. (¬ IsBye bytes) × IsFirstNotAllowed (command_grammar network) [] (words_of bytes) word) c.args.line c.in-Text.text c.in-Text.is
+    ((λ bye. cc (c.is_bye.ensures.1 bye, c.if-is_bye.false)), wrong) in
+    in_phase network pass pass seat.quotes (Serving name held) c.args.line _ c.args.self.now.phase name c.requires.phase
+    (served_at network pass pass c.args.line _ seat.quotes name held (IsBad word) (λ bytes shows. let here = says bytes shows in (here.0, here.1.0, here.1.1))
+    (bad_exchange network pass (more_same pass c.requires.of.places).same name seat.quotes held are word _ (search rules)))
+
+pub returns-in-Err-Memory-clause-answers : goal.returns-in-Err-Memory-clause-answers
+returns-in-Err-Memory-clause-answers g c = λ held are.
+    let seat = c.args.self.now.seat in
+    let network = seat.shared.now.network in
+    let pass = seat.pass in
+    let name = c.args.name.now in
+    in_phase network pass pass seat.quotes (Serving name held) c.args.line Memory c.args.self.now.phase name c.requires.phase
+    (served_at network pass pass c.args.line _ seat.quotes name held Unread
+    (text_is (λ bytes. IsFirst (IsChoice TakesMemory verb_word) (words_of bytes)) c.args.line c.in-Text.text c.in-Text.is (c.read_command.ensures.memory (c.in-Err-Memory.is ∙ ap Err c.in-Err-Memory.field-0-is)))
+    (memory_exchange network pass (more_same pass c.requires.of.places).same name seat.quotes held are))
