@@ -1,4 +1,5 @@
 pub mod Becoming
+pub mod Before
 pub mod Begins
 pub mod Commits
 pub mod Histories
@@ -6,4 +7,5 @@ pub mod OneMeaning
 pub mod Openings
 pub mod Readings
 pub mod Replays
+pub mod Spelled
 pub mod Standing

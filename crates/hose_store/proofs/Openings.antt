@@ -61,7 +61,7 @@ clash None bytes P same p not = absurd cc
 clash (Some found) bytes P same p not = not p
 
 -- What is read of a disk after its opening was so before it, where it is so of no journal without an entry.
-kept_from : (was now : Option (List ℕ)) (digest : List ℕ) (P : List ℕ → Type 0) → is_some now ≡ is_some was → KeepsList was now digest → ((bytes : List ℕ) → P bytes → ¬ IsListOf digest [] bytes) → IfSome now P → IfSome was P
+pub kept_from : (was now : Option (List ℕ)) (digest : List ℕ) (P : List ℕ → Type 0) → is_some now ≡ is_some was → KeepsList was now digest → ((bytes : List ℕ) → P bytes → ¬ IsListOf digest [] bytes) → IfSome now P → IfSome was P
 kept_from None now digest P tells keeps not p = tt
 kept_from (Some was) None digest P tells keeps not p = absurd cc
 kept_from (Some was) (Some now) digest P tells (inl same) not p = subst (λ (content : Option (List ℕ)). IfSome content P) same p

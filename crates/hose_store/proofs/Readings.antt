@@ -19,7 +19,7 @@ use Rattle.hose_journal.specs.declared.fault.JournalFault.TheVariants as journal
 use Rattle.hose_journal.specs.declared.reading.Reading.{Reading}
 use Rattle.hose_codec.proofs.Entries.{in_ranges}
 use Rattle.hose_codec.specs.Spelling.{IsEntry}
-use Rattle.hose_journal.specs.Entries.{Item, entered, entries_format, entries_in, front_of}
+use Rattle.hose_journal.specs.Entries.{Item, entered, entries_format, entries_in, front_of, narrow_reader}
 use Rattle.hose_journal.specs.steps.Entries.{AreAllowed, IsListOf, entries_reader}
 use Rattle.hose_journal.specs.Image.{AreItems, IsDamaged, damaged}
 use Rattle.hose_journal.specs.Reading.{HasFailed}
@@ -129,17 +129,23 @@ module _ {D : Type 0} (disk : Ghosts D) where
       subst (IsNotEmpty old.network) same (read_not_empty (disk.content after.disk) (digest_of old.network) entries next.0 after.gate after.end given.reads.size next.1)
 
   -- an entry that is not sound
-  pub stopped_unsound : (old : Ledger) (before after : Reading D) (entries : List Entry) (given : HasGiven disk old before entries) (entry : Entry) (at : ℕ) → disk.content after.disk ≡ disk.content before.disk
-      → HasRead disk before after (digest_of old.network) entries (Ok (Some entry)) → ¬ IsSoundAt old.network old.book entry → at ≡ after.last → IsStopped disk before.disk after.disk old.network (store.Damaged at)
-  stopped_unsound old before after entries given entry at same has unsound is_at =
+  pub damaged_unsound : (old : Ledger) (before after : Reading D) (entries : List Entry) (given : HasGiven disk old before entries) (entry : Entry) (at : ℕ) → HasRead disk before after (digest_of old.network) entries (Ok (Some entry)) → ¬ IsSoundAt old.network old.book entry → at ≡ after.last
+      → IfSome (disk.content after.disk) (IsDamaged (narrow_reader (IsSoundAfter old.network)) (digest_of old.network) at entries)
+  damaged_unsound old before after entries given entry at has unsound is_at =
       let network = old.network in
       let digest = digest_of network in
       let found = has.1 in
       let not_sound : ¬ IsSoundAfter network entries entry = λ sound. unsound (subst (λ (book : Book). IsSoundAt network book entry) (sym given.book) sound) in
-      let after_told = told_each (disk.content after.disk) (IsReadUpTo found.version digest (found.before ++ entered entry ∷ []) after.end) (λ bytes. IsRecoveredAs network bytes (damaged at))
-      (λ bytes upto. subst (λ (place : ℕ). IsRecoveredAs network bytes (damaged place)) (sym is_at)
-      (inr (inr (entries, refused_at (IsSoundAfter network) digest (disk.content after.disk) entries entry after.last after.end given.reads.size given.sound not_sound found bytes upto)))) found.told in
-      subst (λ (content : Option (List ℕ)). IfSome content (λ bytes. IsRecoveredAs network bytes (damaged at))) same after_told
+      told_each (disk.content after.disk) (IsReadUpTo found.version digest (found.before ++ entered entry ∷ []) after.end) (IsDamaged (narrow_reader (IsSoundAfter network)) digest at entries)
+      (λ bytes upto. subst (λ (place : ℕ). IsDamaged (narrow_reader (IsSoundAfter network)) digest place entries bytes) (sym is_at)
+      (refused_at (IsSoundAfter network) digest (disk.content after.disk) entries entry after.last after.end given.reads.size given.sound not_sound found bytes upto)) found.told
+
+  pub stopped_unsound : (old : Ledger) (before after : Reading D) (entries : List Entry) (given : HasGiven disk old before entries) (entry : Entry) (at : ℕ) → disk.content after.disk ≡ disk.content before.disk
+      → HasRead disk before after (digest_of old.network) entries (Ok (Some entry)) → ¬ IsSoundAt old.network old.book entry → at ≡ after.last → IsStopped disk before.disk after.disk old.network (store.Damaged at)
+  stopped_unsound old before after entries given entry at same has unsound is_at =
+      let damage = IsDamaged (narrow_reader (IsSoundAfter old.network)) (digest_of old.network) at entries in
+      subst (λ (content : Option (List ℕ)). IfSome content (λ bytes. IsRecoveredAs old.network bytes (damaged at))) same
+      (told_each (disk.content after.disk) damage (λ bytes. IsRecoveredAs old.network bytes (damaged at)) (λ bytes broken. inr (inr (entries, broken))) (damaged_unsound old before after entries given entry at has unsound is_at))
 
   -- ---- one call after another
 

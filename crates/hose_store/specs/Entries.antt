@@ -3,9 +3,9 @@ use Rattle.std.specs.Prelude.{◌≡◌, ◌⊎◌, ℕ, ◌≤◌, List, [], �
 use Rattle.hose_graph.specs.Network.{Network}
 use Rattle.hose_graph.specs.declared.entry.Entry.{Entry}
 use Rattle.hose_law.specs.History.{IsSound}
-use Rattle.hose_journal.specs.Entries.{Item, entries_format, entries_in, front_of}
-use Rattle.hose_journal.specs.Image.{AreItems, IsVersion}
-use Rattle.hose_store.specs.Recovery.{digest_of}
+use Rattle.hose_journal.specs.Entries.{Item, entries_format, entries_in, front_of, narrow_reader}
+use Rattle.hose_journal.specs.Image.{AreItems, IsDamaged, IsHeadless, IsUnmarked, IsVersion}
+use Rattle.hose_store.specs.Recovery.{IsSoundAfter, digest_of}
 
 -- A journal that begins with the records of these entries, and a gate after them.
 pub record BeginsWith (digest : List ℕ) (entries : List Entry) (bytes : List ℕ) : Type 0 where
@@ -25,3 +25,10 @@ pub record HasEntries (network : Network) (content : Option (List ℕ)) (entries
   pub sound : IsSound network 0 entries
   pub read : IfSome content (λ bytes. (entries ≡ [])
       ⊎ BeginsWith (digest_of network) entries bytes)
+
+-- These entries are all that stand before damage at this place: an open gate follows them that
+-- begins no record of an entry which is sound there; or the head is damaged, and they are none.
+abbrev pub IsDamagedAfter : Network → List Entry → ℕ → List ℕ → Type 0
+IsDamagedAfter network entries at bytes =
+    ((entries ≡ []) × (IsHeadless bytes ⊎ IsUnmarked bytes))
+    ⊎ IsDamaged (narrow_reader (IsSoundAfter network)) (digest_of network) at entries bytes

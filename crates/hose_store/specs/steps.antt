@@ -1,5 +1,6 @@
 -- Steps of proofs: what no clause of the top calls names.
 pub mod Becoming
+pub mod Before
 pub mod Beginning
 pub mod Commit
 pub mod Faults

@@ -1,9 +1,10 @@
 // What is true of every image of a disk, and of every run of commits.
-ghost use Rattle.std.specs.Prelude.{◌≡◌, ◌≤◌, List, ℕ, Result, is_some, ⊤};
+ghost use Rattle.std.specs.Prelude.{◌≡◌, ◌≤◌, All, IfSome, List, ℕ, Option, Result, is_some, ⊤};
 ghost use Rattle.hose_io.specs.declared.Failed.{Failed};
 ghost use Rattle.hose_graph.specs.Network.{Network};
 ghost use Rattle.hose_graph.specs.declared.entry.Entry.{Entry};
 ghost use Rattle.hose_law.specs.Book.{Book};
+ghost use Rattle.hose_codec.specs.Spelling.{IsEntry};
 ghost use Rattle.hose_journal.specs.Image.{Meaning};
 ghost use Rattle.hose_journal.specs.Moments.{LeavesOnly, TellsAsBefore};
 ghost use Rattle.hose_book.specs.steps.GoingOn.{GoesOn};
@@ -13,7 +14,7 @@ ghost use Rattle.hose_store.specs.steps.Commit.{Closes, store_books};
 ghost use Rattle.hose_store.specs.Opening.{IsAtOpening};
 ghost use Rattle.hose_store.specs.steps.Opening.{IsOpenedOn};
 ghost use Rattle.hose_store.specs.Recovery.{IsRecoveredAs};
-ghost use Rattle.hose_store.specs.steps.Store.{KeptStore};
+ghost use Rattle.hose_store.specs.steps.Store.{HasHistory, KeptStore};
 
 use hose_disk::Disk;
 use hose_graph::Topology;
@@ -23,6 +24,13 @@ use hose_graph::Topology;
 pub fn law_one_meaning(top: &Topology)
     ensures { (image : List ℕ) → (one other : Meaning Entry) →
         IsRecoveredAs top.now image one → IsRecoveredAs top.now image other → one ≡ other }
+{}
+
+/// Each entry of the history that a store has, and the one in doubt, is an entry of a journal: its
+/// numbers and names are within their ranges.
+pub fn law_spelled<D: Disk>()
+    ensures { (store : KeptStore D) → (history : List Entry) → (doubt : Option Entry) →
+        HasHistory D.Disk store history doubt → All IsEntry history × IfSome doubt IsEntry }
 {}
 
 /// What is fixed in the laws of runs: what an entry may be at a book of a network, as sound or

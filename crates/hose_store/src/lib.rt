@@ -25,6 +25,6 @@ mod sealing;
 mod store;
 
 pub use fault::StoreFault;
-pub use laws::{Decided, Premises, law_closed, law_one_meaning, law_opened, law_run};
+pub use laws::{Decided, Premises, law_closed, law_one_meaning, law_opened, law_run, law_spelled};
 pub use replay::Replay;
 pub use store::Store;

@@ -9,6 +9,7 @@ ghost use Rattle.hose_journal.specs.Reading.{HasFailed};
 ghost use Rattle.hose_journal.specs.steps.Reading.{OnlyRead};
 ghost use Rattle.hose_store.specs.steps.Becoming.{BeginsAtMost, IsStoreOf};
 ghost use Rattle.hose_store.specs.Entries.{HasEntries};
+ghost use Rattle.hose_store.specs.steps.Before.{AreAllBefore};
 ghost use Rattle.hose_store.specs.Opening.{IsRefusedStore};
 ghost use Rattle.hose_store.specs.steps.Opening.{HasGiven, IsRecovering};
 ghost use Rattle.hose_store.specs.steps.ReadingFurther.{ReadsFurther};
@@ -43,6 +44,8 @@ impl<D: Disk> Replay<D> {
             IsRefusedStore D.Disk disk refused.1 top refused.0
             × IsOnlyOpened D.Disk disk refused.1 top
             × AddsNoRecord (D.content disk) (D.content refused.1) (digest_of top)) }
+        // No entry stands before a head that is damaged.
+        ensures until { IfErr result (λ refused. AreAllBefore top (D.content disk) [] refused.0) }
         // Where a journal was begun before, no image is another one than before.
         ensures begins { MatchResult result
             (λ replay. BeginsAtMost D.Disk disk replay.reading.disk top)
@@ -70,6 +73,10 @@ impl<D: Disk> Replay<D> {
         ensures read { (was : D) → (network : Network) → (entries : List Entry) →
             IsReplaying D.Disk was network self.old entries →
             HasReplayed D.Disk was network self.new entries result }
+        // Where it is damage that ends the reading, all entries before it were given.
+        ensures until { IfErr result (λ fault. (was : D) → (network : Network) →
+            (entries : List Entry) → IsReplaying D.Disk was network self.old entries →
+            AreAllBefore network (D.content was) entries fault) }
         ensures more { IfOk result (λ next. OnSome next
             ((self.new.book.book.epoch ≡ self.old.book.book.epoch + 1)
             × (self.new.book.book.epoch ≤ most_epoch))) }

@@ -1,5 +1,5 @@
 -- What the opening of a store finds, and what it leaves: steps of proofs.
-use Rattle.std.specs.Prelude.{◌≡◌, ℕ, List, [], ◌∷◌, ◌++◌, Option, Some, None, IfSome, IsTrue, Result, Ok, Err, ⊤}
+use Rattle.std.specs.Prelude.{◌≡◌, ℕ, List, [], ◌∷◌, ◌++◌, Option, Some, None, IfSome, IsTrue, Result, Ok, Err}
 use Rattle.hose_graph.specs.Network.{Network}
 use Rattle.hose_graph.specs.declared.entry.Entry.{Entry}
 use Rattle.hose_graph.specs.steps.Ranges.{IsInRanges}
@@ -12,6 +12,7 @@ use Rattle.hose_journal.specs.Moments.{Images}
 use Rattle.hose_journal.specs.Reading.{HasFailed}
 use Rattle.hose_journal.specs.steps.Reading.{Reads}
 use Rattle.hose_journal.specs.declared.reading.Reading.{Reading}
+use Rattle.hose_store.specs.steps.Before.{AreAllBefore}
 use Rattle.hose_store.specs.Recovery.{digest_of, IsHistoryOf, IsRecoveredAs, IsSoundAfter}
 use Rattle.hose_store.specs.steps.Store.{KeptStore, HasHistory}
 use Rattle.hose_store.specs.declared.fault.StoreFault.{StoreFault}
@@ -55,7 +56,8 @@ IsStopped disk old new top Memory = IsNotEmpty top (disk.content old)
 IsStopped disk old new top (Other kept given) = ⊥
 
 -- What a call that reads on gives, where these entries were given before: an entry that can be
--- spelled, with which the disk holds more than a journal without one; or all were given.
+-- spelled, with which the disk holds more than a journal without one; or all were given; or all
+-- that stand before damage.
 abbrev pub HasReadOn : {D : Type 0} → Ghosts D → Ledger → Reading D → List Entry
     → Result (Option Entry) StoreFault → Type 0
 HasReadOn disk ledger reading entries (Ok (Some entry)) = IsInRanges entry
@@ -63,4 +65,5 @@ HasReadOn disk ledger reading entries (Ok (Some entry)) = IsInRanges entry
     × (reading.fault ≡ None) × IsNotEmpty ledger.network (disk.content reading.disk)
 HasReadOn disk ledger reading entries (Ok None) =
     HasGiven disk ledger reading entries × IsTrue reading.closed
-HasReadOn disk ledger reading entries (Err fault) = ⊤
+HasReadOn disk ledger reading entries (Err fault) =
+    AreAllBefore ledger.network (disk.content reading.disk) entries fault

@@ -1,6 +1,6 @@
 -- Reading the entries of a journal one after another, each judged by the book of those before it:
 -- steps of proofs.
-use Rattle.std.specs.Prelude.{◌≡◌, List, [], ◌∷◌, ◌++◌, Option, Some, None, IfSome, IsTrue, Result, Ok, Err, ⊤}
+use Rattle.std.specs.Prelude.{◌≡◌, List, [], ◌∷◌, ◌++◌, Option, Some, None, IfSome, IsTrue, Result, Ok, Err}
 use Rattle.hose_graph.specs.Network.{Network}
 use Rattle.hose_graph.specs.declared.entry.Entry.{Entry}
 use Rattle.hose_book.specs.Ledger.{Ledger}
@@ -12,6 +12,7 @@ use Rattle.hose_journal.specs.steps.Opening.{IsOpened, KeepsList, KeepsOrBegins}
 use Rattle.hose_journal.specs.steps.Reading.{OnlyRead}
 use Rattle.hose_journal.specs.declared.prepared.Ready.{Ready}
 use Rattle.hose_journal.specs.declared.reading.Reading.{Reading}
+use Rattle.hose_store.specs.steps.Before.{AreAllBefore}
 use Rattle.hose_store.specs.Opening.{IsRefusedStore}
 use Rattle.hose_store.specs.steps.Opening.{HasGiven}
 use Rattle.hose_store.specs.Recovery.{IsHistoryOf, digest_of}
@@ -55,4 +56,5 @@ GivesNext disk ledger reading entries (Ok (Some ready)) = (entry : Entry)
     × IsReady entry ready × HasGiven disk ledger reading (entries ++ entry ∷ [])
 GivesNext disk ledger reading entries (Ok None) =
     HasGiven disk ledger reading entries × IsTrue reading.closed
-GivesNext disk ledger reading entries (Err fault) = ⊤
+GivesNext disk ledger reading entries (Err fault) =
+    AreAllBefore ledger.network (disk.content reading.disk) entries fault

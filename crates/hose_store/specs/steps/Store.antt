@@ -5,18 +5,13 @@ use Rattle.hose_graph.specs.declared.entry.Entry.{Entry}
 use Rattle.hose_law.specs.History.{book_of, IsSound}
 use Rattle.hose_law.specs.steps.History.{IsSoundWith}
 use Rattle.hose_law.specs.steps.Tracks.{Tracks}
-use Rattle.hose_book.specs.Ledger.{HasBookOf, Ledger}
+use Rattle.hose_book.specs.Ledger.{HasBookOf}
 use Rattle.hose_disk.specs.declared.disk.Disk.{Ghosts}
 use Rattle.hose_journal.specs.steps.Journal.{Account, Stands}
 use Rattle.hose_journal.specs.Moments.{Images}
-use Rattle.hose_journal.specs.declared.journal.Journal.{Journal}
 use Rattle.hose_store.specs.Recovery.{digest_of, IsHistoryOf}
 use Rattle.hose_store.specs.Store.{IsHistoryWith}
-
--- a network with its book, and the journal on a disk
-pub record KeptStore (D : Type 0) : Type 0 where
-  pub ledger : Ledger
-  pub journal : Journal D
+pub use Rattle.hose_store.specs.Store.{KeptStore}
 
 -- what was told of the journal: these entries, and the one in doubt
 abbrev pub account_of : Network → List Entry → Option Entry → Account

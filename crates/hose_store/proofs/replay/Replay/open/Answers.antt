@@ -3,6 +3,7 @@ use Rattle.hose_journal.specs.Moments.{LeavesOnly}
 use Rattle.hose_journal.specs.Opening.{AddsNoRecord}
 use Rattle.hose_journal.specs.steps.Opening.{IsOpened, KeepsList, KeepsOrBegins}
 use Rattle.hose_journal.specs.steps.Reading.{Reads}
+use Rattle.hose_store.proofs.Before.{opening_before}
 use Rattle.hose_store.proofs.Begins.{nothing_begun}
 use Rattle.hose_store.proofs.Histories.{is_digest}
 use Rattle.hose_store.proofs.Openings.{at_opening, refused_open}
@@ -57,3 +58,8 @@ returns-in-Err-clause-begins g c =
 
 pub returns-in_default-clause-begins : goal.returns-in_default-clause-begins
 returns-in_default-clause-begins g c = nothing_begun g.D.Disk c.args.disk c.args.top (g.met.D.Disk.only_now c.args.disk)
+
+pub returns-in-Err-clause-until : goal.returns-in-Err-clause-until
+returns-in-Err-clause-until g c =
+    let is = is_digest c.args.top c.digest-digest.result c.digest-digest.ensures in
+    opening_before g.D.Disk c.args.disk c.in-Err.refused.1 c.args.top c.digest-digest.result c.in-Err.refused.0 _ is c.from.ensures c.in-Err.ensures.refused
