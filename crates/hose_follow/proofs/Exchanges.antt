@@ -14,7 +14,7 @@ use Rattle.hose_disk.specs.declared.disk.Disk.{Ghosts as DiskGhosts}
 use Rattle.hose_store.specs.steps.Store.{KeptStore}
 use Rattle.hose_follow.specs.Answers.{TellsDiskAnswers, answer_line, offered_texts, disk_answers_in, one_if_disk_failed}
 use Rattle.hose_follow.specs.steps.Arriving.{BeginsPacket}
-use Rattle.hose_follow.specs.Ends.{AllLinesOut, InputEnds, OutputEnds}
+use Rattle.hose_follow.specs.Ends.{AllLinesOut, InputEnds, IsAskedLast, OutputEnds}
 use Rattle.hose_follow.specs.steps.Ends.{FollowsInput}
 use Rattle.hose_follow.specs.Follower.{Faulted}
 use Rattle.hose_follow.specs.steps.Follower.{FollowerTellings}
@@ -118,10 +118,36 @@ module _ {S O D : Type 0} (tells : FollowerTellings S O D) where
     taken = zero;
     limit = omega (arith, zero);
     out = Grows-nil (tells.sink.content first.sink);
+    asked = inl (refl, none);
     source_held = refl;
     sink_held = refl;
     stays = Stays-none (object_frame (tells.disk.frame first.store.journal.disk));
     disks = inl (omega arith);
+  }
+
+  -- ---- when the source was asked last
+
+  nonempty : (pending rest : List ℕ) (packet : Packet) → BeginsPacket pending packet rest → pending ≢ []
+  nonempty pending rest packet begins none =
+      omega (arith, ap length none, ap length begins.is, length-append (packet_bytes packet) rest, length-packet packet begins.is_packet)
+
+  -- before the first packet was there whole it was asked
+  was_asked : (first now : FollowState S O D) (packets : List Packet) (rest : List ℕ) (packet : Packet) → BeginsPacket now.input.pending packet rest → ((packets ≡ []) × (now.input.pending ≡ [])) ⊎ IsAskedLast tells.source first.input.source now.input.source packets
+      → IsAskedLast tells.source first.input.source now.input.source packets
+  was_asked first now packets rest packet begins (inl none) = absurd (nonempty now.input.pending rest packet begins none.1)
+  was_asked first now packets rest packet begins (inr asked) = asked
+
+  -- one packet more was answered since
+  asked_before : (first : FollowState S O D) (now next : S) (packets : List Packet) (packet : Packet) → next ≡ now → IsAskedLast tells.source first.input.source now packets → IsAskedLast tells.source first.input.source next (packets ++ packet ∷ [])
+  asked_before first now next packets packet same asked = record {
+    asked = asked.asked;
+    first = asked.first;
+    since = asked.since ++ packet ∷ [];
+    are = ap (λ (l : List Packet). l ++ packet ∷ []) asked.are ∙ append_assoc asked.first asked.since (packet ∷ []);
+    part = asked.part;
+    gives = asked.gives;
+    is_part = asked.is_part;
+    went = subst (λ (s : S). tells.source.went asked.asked s) (sym same) asked.went;
   }
 
   -- the bytes with a packet more
@@ -148,15 +174,16 @@ module _ {S O D : Type 0} (tells : FollowerTellings S O D) where
         limit = omega (arith, before.limit, exchange.same_taken);
         out = subst (λ (l : List ℕ). Grows (tells.sink.content first.sink) (tells.sink.content next.sink) l) (sym (last_of answer_line before.answers exchange.answer))
             (Grows-append (tells.sink.content first.sink) (tells.sink.content now.sink) (tells.sink.content next.sink) (offered_texts before.answers) (answer_line exchange.answer) before.out exchange.out);
+        asked = inr (asked_before first now.input.source next.input.source before.packets exchange.packet exchange.same_source (was_asked first now before.packets exchange.rest exchange.packet exchange.begins before.asked));
         source_held = ap tells.source.frame exchange.same_source ∙ before.source_held;
         sink_held = held ∙ before.sink_held;
         stays = Stays-next before.stays told.stays;
         disks = told_more tells.disk first.store now.store next.store before.answers exchange.answer before.disks told;
       }
 
-  pub took : (first now next : FollowState S O D) → FollowsOn tells first now → TakesMoreBytes tells.source now.input next.input → TouchesNone tells now next
+  pub took : (first now next : FollowState S O D) → FollowsOn tells first now → IsPartOfPacket now.input.pending → TakesMoreBytes tells.source now.input next.input → TouchesNone tells now next
       → FollowsOn tells first next
-  took first now next before more none = record {
+  took first now next before part more none = record {
     bytes = before.bytes ++ more.bytes;
     gives = gives_then (tells.source.content first.input.source) (tells.source.content now.input.source) (tells.source.content next.input.source) before.bytes more.bytes before.gives more.gives;
     packets = before.packets;
@@ -170,6 +197,16 @@ module _ {S O D : Type 0} (tells : FollowerTellings S O D) where
     taken = omega (arith, more.taken_is, before.taken, length-append before.bytes more.bytes);
     limit = more.limit;
     out = subst (λ (s : O). Grows (tells.sink.content first.sink) (tells.sink.content s) (offered_texts before.answers)) (sym none.same_sink) before.out;
+    asked = inr (record {
+      asked = now.input.source;
+      first = before.packets;
+      since = [];
+      are = sym (append-nil before.packets);
+      part = now.input.pending;
+      gives = subst (Gives (tells.source.content first.input.source) (tells.source.content now.input.source)) before.parts before.gives;
+      is_part = part;
+      went = more.went;
+    });
     source_held = more.frame ∙ before.source_held;
     sink_held = ap tells.sink.frame none.same_sink ∙ before.sink_held;
     stays = subst (λ (s : KeptStore D). Stays (object_frame (tells.disk.frame first.store.journal.disk)) (object_frame (tells.disk.frame s.journal.disk))) (sym none.same_store) before.stays;
@@ -178,7 +215,7 @@ module _ {S O D : Type 0} (tells : FollowerTellings S O D) where
 
   pub exchanged : (first now next : FollowState S O D) (value : ⊤) → FollowsOn tells first now → AdvancesTo tells now next (Ok value) → FollowsOn tells first next
   exchanged first now next value before (inl (exchange, held)) = answered first now next before exchange held
-  exchanged first now next value before (inr (more, none)) = took first now next before more none
+  exchanged first now next value before (inr (part, more, none)) = took first now next before part more none
 
   -- ---- the end
 
@@ -256,7 +293,10 @@ module _ {S O D : Type 0} (tells : FollowerTellings S O D) where
         are = All-push IsPacket before.packets exchange.packet before.are exchange.begins.is_packet;
         answers = before.answers ++ exchange.answer ∷ [];
         offered = packet_more exchange.packet exchange.answer before.offered exchange.offered;
-        input = ap tells.source.frame exchange.same_source ∙ before.source_held;
+        input = (
+          ap tells.source.frame exchange.same_source ∙ before.source_held,
+          (before.packets, exchange.packet, refl, asked_now next.input.source exchange.same_source (was_asked first now before.packets exchange.rest exchange.packet exchange.begins before.asked)),
+        );
         output = (
           (
             before.answers,
@@ -274,3 +314,6 @@ module _ {S O D : Type 0} (tells : FollowerTellings S O D) where
         stays = Stays-next before.stays told.stays;
         disks = told_more tells.disk first.store now.store next.store before.answers exchange.answer before.disks told;
       }
+    where
+      asked_now : (source : S) → source ≡ now.input.source → IsAskedLast tells.source first.input.source now.input.source before.packets → IsAskedLast tells.source first.input.source source before.packets
+      asked_now source same asked = subst (λ (s : S). IsAskedLast tells.source first.input.source s before.packets) (sym same) asked

@@ -21,18 +21,20 @@ use Rattle.hose_codec.specs.Spelling.{IsEntry}
 use Rattle.hose_disk.specs.declared.disk.Disk.{Ghosts}
 use Rattle.hose_journal.specs.Chain.{chain}
 use Rattle.hose_journal.specs.Image.{Meaning, listed}
+use Rattle.hose_store.specs.Opening.{IsAtOpening}
 use Rattle.hose_store.specs.steps.Commit.{Closes, IsLeft}
 use Rattle.hose_store.specs.Recovery.{IsHistoryOf, IsRecoveredAs, digest_of}
 use Rattle.hose_store.specs.Store.{IsHistoryWith}
 use Rattle.hose_store.specs.steps.Store.{HasHistory, IsAmid, KeptStore}
-use Rattle.hose_follow.specs.steps.Event.{Event, accepts, sends, offers, stops, closes, stops_within}
-use Rattle.hose_follow.specs.steps.Offering.{Brings, Enters, IsDue, IsOffered, epoch_of}
+use Rattle.hose_follow.specs.steps.Event.{Event, accepts, asks, offers, reopens, sends}
+use Rattle.hose_follow.specs.steps.Offering.{Brings, BringsNone, Enters, IsDue, IsOffered, epoch_of}
 use Rattle.hose_follow.specs.Packet.{Packet, packet_after}
 use Rattle.hose_follow.specs.Replication.{IsSentOf, packet_at}
-use Rattle.hose_follow.specs.steps.Replication.{Happens, IsBeginning, IsFollowing, IsOfLeader, IsReopened, Lead, Replication, told_after}
+use Rattle.hose_follow.specs.steps.Replication.{Happens, IsBeginning, IsFollowing, IsOfLeader, IsReopened, Lead, MayBeLeft, Replication, at_rest, told_after, within_closing, within_offer, within_opening}
 use Rattle.hose_follow.specs.declared.answers.Offered.{Offered}
 use Rattle.hose_follow.specs.declared.answers.Offered.TheVariants.{Have, Want, Differs, Memory, Unsound, Disk}
 use Rattle.hose_law.proofs.Epochs.{epoch_is}
+use Rattle.hose_follow.proofs.Asking.{asked_same, asked_told}
 use Rattle.hose_follow.proofs.Beginnings.{get_longer, legal_front}
 use Rattle.hose_law.proofs.Entries.{decided_sound}
 use Rattle.hose_follow.proofs.Sent.{IsNext, next_brought, next_sent, next_sound}
@@ -96,7 +98,7 @@ module _ {D : Type 0} (disk : Ghosts D) (network : Network) where
   of_leader leader own doubt writing told image begins doubtful written low (inr (inl stands)) = with_one leader own doubt told image doubtful low stands
   of_leader leader own doubt writing told image begins doubtful written low (inr (inr stands)) = with_one leader own writing told image written low stands
 
-  pub image_of : (state : Replication D) (image : List ℕ) → IsFollowing disk network state → disk.may_leave state.store.journal.disk image → IsOfLeader network state.leader state.told image
+  image_of : (state : Replication D) (image : List ℕ) → IsFollowing disk network state → disk.may_leave state.store.journal.disk image → IsOfLeader network state.leader state.told image
   image_of state image following left =
       let amid = subst (λ (n : Network). IsAmid n following.own following.doubt None image) following.is_network (following.has.images image left) in
       of_leader state.leader following.own following.doubt None state.told image following.begins following.doubtful tt following.told amid
@@ -115,8 +117,8 @@ module _ {D : Type 0} (disk : Ghosts D) (network : Network) where
         let amid = subst (λ (n : Network). IsAmid n following.own following.doubt (Some entry) image) following.is_network (run.each image is) in
         of_leader state.leader following.own following.doubt (Some entry) state.told image following.begins following.doubtful prefix following.told amid
 
-    -- at each moment within an offer
-    pub moment_of : (state : Replication D) (packet : Packet) (answer : Offered) (left : KeptStore D) (image : List ℕ) → IsFollowing disk network state → Contains state.sent packet → IsOffered disk state.store packet answer left
+    -- at each moment within an offer of a packet that was sent
+    moment_of : (state : Replication D) (packet : Packet) (answer : Offered) (left : KeptStore D) (image : List ℕ) → IsFollowing disk network state → Contains state.sent packet → IsOffered disk state.store packet answer left
         → disk.left_since left.journal.disk (disk.moment state.store.journal.disk) image → IsOfLeader network state.leader state.told image
     moment_of state packet (Have n) left image following there (inl past) is = kept_image state left image following past.same is
     moment_of state packet (Have n) left image following there (inr (entry, _, enters)) is = entered_image state packet entry committed.Done left image following there enters is
@@ -127,7 +129,7 @@ module _ {D : Type 0} (disk : Ghosts D) (network : Network) where
     moment_of state packet (Disk at) left image following there (entry, _, enters) is = entered_image state packet entry committed.Disk left image following there enters is
 
   -- at each moment of an orderly closing
-  pub closing_image : (state : Replication D) (left : D) (image : List ℕ) → IsFollowing disk network state → (result : Result ⊤ Failed) → Closes disk state.store left result → disk.left_since left (disk.moment state.store.journal.disk) image → IsOfLeader network state.leader state.told image
+  closing_image : (state : Replication D) (left : D) (image : List ℕ) → IsFollowing disk network state → (result : Result ⊤ Failed) → Closes disk state.store left result → disk.left_since left (disk.moment state.store.journal.disk) image → IsOfLeader network state.leader state.told image
   closing_image state left image following result closed since =
       let run = closed.any_moment following.own following.doubt following.has in
       let amid = subst (λ (n : Network). IsAmid n following.own following.doubt None image) following.is_network (run.each image since) in
@@ -228,18 +230,41 @@ module _ {D : Type 0} (disk : Ghosts D) (network : Network) where
         goes_on state store state.told opened.history None following opened.network opened.has
         (subst (λ (l : List Entry). IsPrefix l state.leader) same of.begins) tt (subst (λ (l : List Entry). state.told ≤ length l) same of.told)
 
+    -- at each moment of an opening: of what was left, or the same list
+    within : (state : Replication D) (was : D) (image more : List ℕ) → disk.content was ≡ Some image → ((other : List ℕ) → disk.may_leave was other → other ≡ image) → IsOfLeader network state.leader state.told image → IsAtOpening disk was network more → IsOfLeader network state.leader state.told more
+    within state was image more holds alone of (inl may) = subst (IsOfLeader network state.leader state.told) (sym (alone more may)) of
+    within state was image more holds alone of (inr (history, read, stands)) =
+        let same = listed_same of.list history (once image (listed of.list) (listed history) of.stands (read_of was image history holds read)) in
+        record {
+          list = history;
+          stands = stands;
+          begins = subst (λ (l : List Entry). IsPrefix l state.leader) same of.begins;
+          told = subst (λ (l : List Entry). state.told ≤ length l) same of.told;
+        }
+
     module _ (only_now : (now : D) (image : List ℕ) → disk.left_since now (disk.moment now) image → disk.may_leave now image) where
-      happens : (old new : Replication D) (event : Event D) → IsFollowing disk network old → Happens disk network old event new → IsFollowing disk network new
+      -- whatever a stop leaves
+      pub left_image : (state : Replication D) (image : List ℕ) → IsFollowing disk network state → MayBeLeft disk network state image → IsOfLeader network state.leader state.told image
+      left_image state image following (at_rest left) = image_of state image following left
+      left_image state image following (within_offer packet answer left (inl there) offered since) = moment_of only_now state packet answer left image following there offered since
+      left_image state image following (within_offer packet answer left (inr none) offered since) = kept_image only_now state left image following (asked_same disk state.store left packet answer none offered) since
+      left_image state image following (within_closing left result closed since) = closing_image state left image following result closed since
+      left_image state more following (within_opening {image} was now before holds alone leaves since) =
+          within state was image more holds alone (left_image state image following before) (leaves.each more since)
+
+      asked : (old : Replication D) (packet : Packet) (answer : Offered) (left : KeptStore D) (following : IsFollowing disk network old) → BringsNone disk old.store packet → IsOffered disk old.store packet answer left → IsFollowing disk network (record old { store = left; told = told_after old.told answer })
+      asked old packet answer left following none offered =
+          still old left (told_after old.told answer) following (asked_same disk old.store left packet answer none offered)
+          (asked_told disk old.store left packet answer old.told (length following.own) none offered following.told (omega (arith, epoch_own old following)))
+
+      happens : (old new : Replication D) (event : Event) → IsFollowing disk network old → Happens disk network old event new → IsFollowing disk network new
       happens old new (accepts entry) following (spelled, decided, is) = subst (IsFollowing disk network) (sym is) (accepted old entry following spelled decided)
       happens old new (sends place) following (entry, there, is) = subst (IsFollowing disk network) (sym is) (sent_one old place entry following there)
       happens old new (offers packet answer) following (there, offered, is) = subst (IsFollowing disk network) (sym is) (answered old packet answer new.store following there offered)
-      happens old new (stops image) following (left, opened, is) = subst (IsFollowing disk network) (sym is) (reopened old image new.store following (image_of old image following left) opened)
-      happens old new (closes left image) following (closed, since, opened, is) =
-          subst (IsFollowing disk network) (sym is) (reopened old image new.store following (closing_image old left image following closed.0 closed.1 since) opened)
-      happens old new (stops_within packet answer left image) following (there, offered, since, opened, is) =
-          subst (IsFollowing disk network) (sym is) (reopened old image new.store following (moment_of only_now old packet answer left image following there offered since) opened)
+      happens old new (asks packet answer) following (none, offered, is) = subst (IsFollowing disk network) (sym is) (asked old packet answer new.store following none offered)
+      happens old new (reopens image) following (left, opened, is) = subst (IsFollowing disk network) (sym is) (reopened old image new.store following (left_image old image following left) opened)
 
-      pub follows : (old new : Replication D) (events : List (Event D)) → IsFollowing disk network old → Lead disk network old events new → IsFollowing disk network new
+      pub follows : (old new : Replication D) (events : List Event) → IsFollowing disk network old → Lead disk network old events new → IsFollowing disk network new
       follows old new [] following is = subst (IsFollowing disk network) (sym is) following
       follows old new (event ∷ events) following (middle, one, more) = follows middle new events (happens old middle event following one) more
 

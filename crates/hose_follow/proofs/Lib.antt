@@ -1,3 +1,4 @@
+pub mod Asking
 mod Beginnings
 mod Buffers
 mod Ending

@@ -23,6 +23,7 @@ use Rattle.hose_journal.specs.Opening.{AddsNoRecord, HasNoRecord}
 use Rattle.hose_journal.specs.declared.prepared.Ready.{Ready}
 use Rattle.hose_journal.proofs.Runs.{started}
 use Rattle.hose_store.specs.Entries.{BeginsWith, HasEntries}
+use Rattle.hose_store.specs.steps.Before.{AreAllBefore}
 use Rattle.hose_store.specs.Recovery.{digest_of}
 use Rattle.hose_store.specs.Replaying.{IsOnlyOpened, KeepsRead}
 use Rattle.hose_store.specs.steps.Replaying.{HasReplayed, IsReplaying}
@@ -30,7 +31,7 @@ use Rattle.hose_store.specs.declared.fault.StoreFault.{StoreFault}
 use Rattle.hose_store.specs.declared.replay.Replay.{Replay}
 use Rattle.hose_follow.specs.Follower.{Faulted}
 use Rattle.hose_follow.specs.Packet.{Packet, packet_after, packet_bytes, packets_after, packets_bytes, packets_from}
-use Rattle.hose_follow.specs.steps.Shipping.{AddsAll, HasAdded, HasAddedAll, HasAddedUpTo, OutgoingPackets, Shipment, Ships, ShipsUpTo, outgoing_packets, shipment, shipped_of}
+use Rattle.hose_follow.specs.steps.Shipping.{AddsAll, HasAdded, HasAddedAll, HasAddedUpTo, OutgoingPackets, Shipment, Ships, ShipsBefore, outgoing_packets, shipment, shipped_of}
 
 drop_none : {X : Type 0} (n : ℕ) (none : List X) → none ≡ [] → drop n none ≡ []
 drop_none zero none is = is
@@ -86,12 +87,15 @@ pub no_entries : (network : Network) (content : Option (List ℕ)) → HasEntrie
 no_entries network content = record { sound = tt; read = none_held network content [] refl }
 
 module _ {S D : Type 0} (sink : SinkGhosts S) (disk : DiskGhosts D) where
-  -- no packet is out
-  pub none_shipped : (output : S) (was : D) (network : Network) (from : ℕ) → ShipsUpTo disk (shipment was network from) (Grows (sink.content output) (sink.content output))
-  none_shipped output was network from = record {
-    entries = [];
-    held = no_entries network (disk.content was);
-    out = subst (λ (packets : List Packet). Grows (sink.content output) (sink.content output) (packets_bytes packets)) (sym (drop_none (from - 1) [] refl)) (Grows-nil (sink.content output));
+  -- no packet is out, and no entry stands before damage
+  pub none_before : (output : S) (was : D) (network : Network) (from : ℕ) (fault : StoreFault) → AreAllBefore network (disk.content was) [] fault → ShipsBefore disk (shipment was network from) (Grows (sink.content output) (sink.content output)) fault
+  none_before output was network from fault all = record {
+    part = record {
+      entries = [];
+      held = no_entries network (disk.content was);
+      out = subst (λ (packets : List Packet). Grows (sink.content output) (sink.content output) (packets_bytes packets)) (sym (drop_none (from - 1) [] refl)) (Grows-nil (sink.content output));
+    };
+    all = all;
   }
 
   -- the disk was not touched
@@ -131,11 +135,12 @@ module _ {S D : Type 0} (sink : SinkGhosts S) (disk : DiskGhosts D) where
       }
 
       -- a fault was met
-      pub added_until : (new : Replay D) (fault : StoreFault) → HasEntries network (disk.content was) has.entries → HasReplayed disk was network new has.entries (Err fault) → HasAddedUpTo sink disk ships start new.reading.disk (outgoing_packets gather output) fault
-      added_until new fault held (refused, opened, kept) = record {
+      pub added_until : (new : Replay D) (fault : StoreFault) → HasEntries network (disk.content was) has.entries → AreAllBefore network (disk.content was) has.entries fault → HasReplayed disk was network new has.entries (Err fault) → HasAddedUpTo sink disk ships start new.reading.disk (outgoing_packets gather output) fault
+      added_until new fault held all (refused, opened, kept) = record {
         entries = has.entries;
         held = held;
         added = has.added;
+        all = all;
         refused = refused;
         opened = opened;
         kept = kept;
@@ -194,7 +199,7 @@ module _ {S D : Type 0} (sink : SinkGhosts S) (disk : DiskGhosts D) where
           )
       shipped (Err fault) (Ok done) count up finished counted =
           let put = IsPut-finished (Ok done) up.added finished in
-          (record { entries = up.entries; held = up.held; out = put.ok }, put.met.ok, up.refused, kept_adds_none was replay.reading.disk network up.kept)
+          (record { part = record { entries = up.entries; held = up.held; out = put.ok }; all = up.all }, put.met.ok, up.refused, kept_adds_none was replay.reading.disk network up.kept)
 
       pub shipped_opened : (added : Result ⊤ StoreFault) → Adds added → IsOnlyOpened disk was replay.reading.disk network
       shipped_opened (Ok value) all = all.opened

@@ -60,7 +60,7 @@ same_packet one other epoch chain body =
     ∙ ap (λ (bytes : List ℕ). packet_of other.epoch other.chain bytes) body
 
 -- packets with which the same bytes begin are equal, and so is what is behind them
-one_packet : (one other : Packet) (more rest : List ℕ) → IsPacket one → IsPacket other → packet_bytes one ++ more ≡ packet_bytes other ++ rest → (one ≡ other) × (more ≡ rest)
+pub one_packet : (one other : Packet) (more rest : List ℕ) → IsPacket one → IsPacket other → packet_bytes one ++ more ≡ packet_bytes other ++ rest → (one ≡ other) × (more ≡ rest)
 one_packet one other more rest is is' same =
     let lengths = same_numbers 2 (length one.body) (length other.body) (behind_length one ++ more) (behind_length other ++ rest) (omega (arith, is.few)) (omega (arith, is'.few))
     (sym (append_assoc (big_bytes 2 (length one.body)) (behind_length one) more) ∙ (same ∙ append_assoc (big_bytes 2 (length other.body)) (behind_length other) rest)) in

@@ -1,6 +1,6 @@
 -- How following an input ends, and what it leaves.
 use Rattle.std.specs.Prelude.{◌≡◌, ◌≢◌, ◌⊎◌, ℕ, List, [], ◌∷◌, ◌++◌, length}
-use Rattle.hose_io.specs.Stream.{Grows, IsAtEnd}
+use Rattle.hose_io.specs.Stream.{Gives, Grows, IsAtEnd}
 use Rattle.hose_io.specs.declared.sink.Sink.{Ghosts as SinkGhosts}
 use Rattle.hose_io.specs.declared.source.Source.{Ghosts as SourceGhosts}
 use Rattle.hose_follow.specs.Answers.{CutsLastAnswer, offered_texts}
@@ -9,6 +9,25 @@ use Rattle.hose_follow.specs.Packet.{BeginsNoPacket, IsPartOfPacket, Packet, pac
 use Rattle.hose_follow.specs.declared.answers.Offered.{Offered}
 use Rattle.hose_follow.specs.declared.following.FollowEnd.{FollowEnd}
 use Rattle.hose_follow.specs.declared.following.FollowEnd.TheVariants.{End, Packet as BadPacket, Read, Write, TooLong, Memory}
+
+-- When the source was asked last, each whole packet that it had given was answered: these are the
+-- first of those that were answered since.
+pub record IsAskedLast {S : Type 0} (source : SourceGhosts S) (old new : S)
+    (answered : List Packet) : Type 0 where
+  pub asked : S
+  pub first : List Packet
+  pub since : List Packet
+  pub are : answered ≡ first ++ since
+  pub part : List ℕ
+  pub gives : Gives (source.content old) (source.content asked) (packets_bytes first ++ part)
+  pub is_part : IsPartOfPacket part
+  pub went : source.went asked new
+
+-- The source was asked last before the last of these packets was there whole: so its line was not
+-- kept back for more of the source.
+abbrev pub IsAskedNoMore : {S : Type 0} → SourceGhosts S → S → S → List Packet → Type 0
+IsAskedNoMore source old new packets = (answered : List Packet) × (last : Packet)
+    × (packets ≡ answered ++ last ∷ []) × IsAskedLast source old new answered
 
 -- How the bytes after the packets that were answered stand to the end, and what was done to the
 -- source. The byte past the limit belongs to no packet.
@@ -22,7 +41,8 @@ InputEnds source old new packets rest (BadPacket at) = (at ≡ length (packets_b
     × (source.frame new ≡ source.frame old)
 InputEnds source old new packets rest Read =
     IsPartOfPacket rest × Faulted (source.frame old) (source.frame new)
-InputEnds source old new packets rest Write = source.frame new ≡ source.frame old
+InputEnds source old new packets rest Write =
+    (source.frame new ≡ source.frame old) × IsAskedNoMore source old new packets
 InputEnds source old new packets rest TooLong =
     ((front : List ℕ) × (byte : ℕ) × (rest ≡ front ++ byte ∷ []) × IsPartOfPacket front)
     × (source.frame new ≡ source.frame old)

@@ -7,6 +7,7 @@ pub mod Ends
 pub mod Event
 pub mod Exchanging
 pub mod Follower
+pub mod Lines
 pub mod Offering
 pub mod Replication
 pub mod Shipping

@@ -1,49 +1,38 @@
 // What is true of every follower.
-ghost use Rattle.std.specs.Prelude.{◌≡◌, ℕ, List, Contains, Option, Result, ⊤};
-ghost use Rattle.hose_io.specs.declared.Failed.{Failed};
+ghost use Rattle.std.specs.Prelude.{◌≡◌, ◌∷◌, ℕ, [], List, Contains, Option};
 ghost use Rattle.hose_graph.specs.declared.entry.Entry.{Entry};
 ghost use Rattle.hose_law.specs.History.{IsDecided};
-ghost use Rattle.hose_store.specs.steps.Commit.{Closes};
+ghost use Rattle.hose_codec.specs.Spelling.{IsSpelling};
 ghost use Rattle.hose_store.specs.steps.Store.{HasHistory, KeptStore};
 ghost use Rattle.hose_follow.specs.steps.Chained.{LeadsOn};
 ghost use Rattle.hose_follow.specs.steps.Event.{Event};
-ghost use Rattle.hose_follow.specs.steps.Offering.{AreOffered, IsOffered};
+ghost use Rattle.hose_follow.specs.steps.Offering.{AreOffered, BringsNone, IsOffered};
 ghost use Rattle.hose_follow.specs.Packet.{Packet};
 ghost use Rattle.hose_follow.specs.steps.Splitting.{IsSplit};
-ghost use Rattle.hose_follow.specs.steps.Replication.{IsBeginning, IsFollowing, IsOfLeader, Lead, Replication};
+ghost use Rattle.hose_follow.specs.steps.Replication.{IsBeginning, IsFollowing, IsOfLeader, Lead, MayBeLeft, Replication};
 ghost use Rattle.hose_follow.specs.declared.answers.Offered.{Offered};
 
 use hose_disk::Disk;
 use hose_graph::Topology;
 use hose_store::Premises;
 
-/// Whatever a leader and its follower do, whenever the follower is stopped or closed, and whatever
-/// becomes of the packets between them and of the follower's disk: the follower has a beginning of
-/// the leader's list, and so has each image of its disk at each moment, with all that a `have`
-/// told; and no packet that was sent is answered as one of another history, or as unsound.
+/// Whatever a leader and its follower do, whoever asks the follower by packets that bring no entry,
+/// whenever it is stopped, closed or opened, and whatever becomes of the packets between them and
+/// of the follower's disk: the follower has a beginning of the leader's list, and so has each image
+/// of its disk at each moment, with all that a `have` told; and no packet that was sent is answered
+/// as one of another history, or as unsound.
 pub fn law_following<D: Disk>(top: &Topology)
     ensures begins { (state : Replication D) →
         IsBeginning D.Disk top.now state → IsFollowing D.Disk top.now state }
-    ensures stays { (old new : Replication D) → (events : List (Event D)) →
+    ensures stays { (old new : Replication D) → (events : List Event) →
         IsFollowing D.Disk top.now old → Lead D.Disk top.now old events new →
         IsFollowing D.Disk top.now new }
     // What the follower has is a legal history.
     ensures legal { (state : Replication D) → (following : IsFollowing D.Disk top.now state) →
         IsDecided top.now 0 0 following.own }
+    // At rest, and at each moment within an offer, an orderly closing and an opening.
     ensures images { (state : Replication D) → (image : List ℕ) →
-        IsFollowing D.Disk top.now state → D.may_leave state.store.journal.disk image →
-        IsOfLeader top.now state.leader state.told image }
-    // At each moment within an offer an image is one of the leader, too.
-    ensures moments { (state : Replication D) → (packet : Packet) → (answer : Offered) →
-        (left : KeptStore D) → (image : List ℕ) → IsFollowing D.Disk top.now state →
-        Contains state.sent packet → IsOffered D.Disk state.store packet answer left →
-        D.left_since left.journal.disk (D.moment state.store.journal.disk) image →
-        IsOfLeader top.now state.leader state.told image }
-    // At each moment within an orderly closing as well.
-    ensures closings { (state : Replication D) → (left : D) → (result : Result ⊤ Failed) →
-        (image : List ℕ) → IsFollowing D.Disk top.now state →
-        Closes D.Disk state.store left result →
-        D.left_since left (D.moment state.store.journal.disk) image →
+        IsFollowing D.Disk top.now state → MayBeLeft D.Disk top.now state image →
         IsOfLeader top.now state.leader state.told image }
     ensures never_differs { (state : Replication D) → (packet : Packet) → (at : ℕ) →
         (own given : List ℕ) → (left : KeptStore D) → IsFollowing D.Disk top.now state →
@@ -52,6 +41,18 @@ pub fn law_following<D: Disk>(top: &Topology)
     ensures never_unsound { (state : Replication D) → (packet : Packet) → (epoch : ℕ) →
         (left : KeptStore D) → IsFollowing D.Disk top.now state → Contains state.sent packet →
         ¬ IsOffered D.Disk state.store packet (Offered.Unsound epoch) left }
+{}
+
+/// Who asks a follower changes nothing of it: a packet whose body spells no entry, as a byte of 0
+/// does, brings none, whatever its epoch and its chain value, and its answer leaves the store as it
+/// was.
+pub fn law_asking<D: Disk>()
+    ensures brings_none { (store : KeptStore D) → (packet : Packet) →
+        ((entry : Entry) → ¬ IsSpelling entry packet.body) → BringsNone D.Disk store packet }
+    ensures zero { (entry : Entry) → ¬ IsSpelling entry (0 ∷ []) }
+    ensures same { (store left : KeptStore D) → (packet : Packet) → (answer : Offered) →
+        BringsNone D.Disk store packet → IsOffered D.Disk store packet answer left →
+        left ≡ store }
 {}
 
 /// What is told of each entry that a follower enters, whoever sent it: it is sound.

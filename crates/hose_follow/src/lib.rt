@@ -24,7 +24,7 @@ mod shipping;
 
 pub use answers::{Offered, put_answer};
 pub use following::{FollowEnd, INPUT_LIMIT, follow, law_limit};
-pub use laws::{Sound, law_following, law_offered, law_one_split};
+pub use laws::{Sound, law_asking, law_following, law_offered, law_one_split};
 pub use offering::offer;
 pub use packet::law_layout;
 pub use shipping::{ShipFault, ship};

@@ -8,6 +8,7 @@ use Rattle.hose_disk.specs.Disk.{object_frame}
 use Rattle.hose_store.specs.steps.Store.{KeptStore}
 use Rattle.hose_follow.specs.Answers.{TellsDiskAnswers, answer_line, offered_texts}
 use Rattle.hose_follow.specs.steps.Arriving.{BeginsPacket}
+use Rattle.hose_follow.specs.Ends.{IsAskedLast}
 use Rattle.hose_follow.specs.Follower.{Faulted}
 use Rattle.hose_follow.specs.steps.Follower.{Follower, FollowerTellings, follower}
 use Rattle.hose_follow.specs.steps.Offering.{AreOffered, IsOffered}
@@ -44,6 +45,7 @@ module _ {S : Type 0} (source : SourceGhosts S) (old new : InputState S) where
     pub some : 0 < length bytes
     pub gives : Gives (source.content old.source) (source.content new.source) bytes
     pub frame : source.frame new.source ≡ source.frame old.source
+    pub went : source.went old.source new.source
     pub pending_is : new.pending ≡ old.pending ++ bytes
     pub taken_is : new.taken ≡ old.taken + length bytes
     pub limit : new.taken ≤ follow_limit
@@ -128,7 +130,8 @@ module _ {S O D : Type 0} (tells : FollowerTellings S O D) where
   AdvancesTo old new (Ok _) =
       (AnswersPending old new (Grows (tells.sink.content old.sink) (tells.sink.content new.sink))
       × (tells.sink.frame new.sink ≡ tells.sink.frame old.sink))
-      ⊎ (TakesMoreBytes tells.source old.input new.input × TouchesNone old new)
+      ⊎ (IsPartOfPacket old.input.pending × TakesMoreBytes tells.source old.input new.input
+      × TouchesNone old new)
   AdvancesTo old new (Err End) = (old.input.pending ≡ [])
       × ReachesEnd tells.source old.input new.input × TouchesNone old new
   AdvancesTo old new (Err (BadPacket at)) =
@@ -147,7 +150,8 @@ module _ {S O D : Type 0} (tells : FollowerTellings S O D) where
       × TakesTooMuch tells.source old.input new.input × TouchesNone old new
   AdvancesTo old new (Err Memory) = ⊥
 
-  -- Exchanges from a first state on: packets were answered, and all lines are out.
+  -- Exchanges from a first state on: packets were answered, and all lines are out. More was taken
+  -- only where each whole packet was answered.
   pub record FollowsOn (first now : FollowState S O D) : Type 0 where
     pub bytes : List ℕ
     pub gives : Gives (tells.source.content first.input.source)
@@ -161,6 +165,8 @@ module _ {S O D : Type 0} (tells : FollowerTellings S O D) where
     pub limit : now.input.taken ≤ follow_limit
     pub out : Grows (tells.sink.content first.sink) (tells.sink.content now.sink)
         (offered_texts answers)
+    pub asked : ((packets ≡ []) × (now.input.pending ≡ []))
+        ⊎ IsAskedLast tells.source first.input.source now.input.source packets
     pub source_held : tells.source.frame now.input.source ≡ tells.source.frame first.input.source
     pub sink_held : tells.sink.frame now.sink ≡ tells.sink.frame first.sink
     pub stays : Stays (object_frame (tells.disk.frame first.store.journal.disk))

@@ -37,6 +37,11 @@ pub record Brings (ledger : Ledger) (packet : Packet) (entry : Entry) : Type 0 w
   pub spells : IsSpelling entry packet.body
   pub sound : IsSoundAt ledger.network ledger.book entry
 
+-- The packet brings no entry: it is not due, or its body spells none.
+abbrev pub BringsNone : {D : Type 0} → Ghosts D → KeptStore D → Packet → Type 0
+BringsNone disk store packet =
+    (entry : Entry) → IsDue disk store packet → ¬ IsSpelling entry packet.body
+
 -- The packet is due and brings this entry, of which a commit came to this.
 pub record Enters {D : Type 0} (disk : Ghosts D) (old : KeptStore D) (packet : Packet)
     (entry : Entry) (result : Committed) (new : KeptStore D) : Type 0 where

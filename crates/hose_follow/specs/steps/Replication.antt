@@ -1,6 +1,6 @@
 -- A leader, the packets that it sent, and a follower that is offered them in whatever order: steps
 -- of proofs.
-use Rattle.std.specs.Prelude.{◌≡◌, ℕ, ◌≤◌, max, List, [], ◌∷◌, ◌++◌, length, All, Contains, Option, Some, None, IfSome, Result, slice_get, ⊤}
+use Rattle.std.specs.Prelude.{◌≡◌, ◌⊎◌, ℕ, ◌≤◌, max, List, [], ◌∷◌, ◌++◌, length, All, Contains, Option, Some, None, IfSome, Result, slice_get, ⊤}
 use mathlib.Core.List.{IsPrefix}
 use Rattle.hose_io.specs.declared.Failed.{Failed}
 use Rattle.hose_graph.specs.Network.{Network}
@@ -8,12 +8,14 @@ use Rattle.hose_graph.specs.declared.entry.Entry.{Entry}
 use Rattle.hose_law.specs.History.{book_of, IsDecidedAt}
 use Rattle.hose_codec.specs.Spelling.{IsEntry}
 use Rattle.hose_disk.specs.declared.disk.Disk.{Ghosts}
+use Rattle.hose_journal.specs.Moments.{LeavesOnly}
+use Rattle.hose_store.specs.Opening.{IsAtOpening}
 use Rattle.hose_store.specs.steps.Commit.{Closes}
 use Rattle.hose_store.specs.steps.Opening.{IsOpenedOn}
 use Rattle.hose_store.specs.Recovery.{IsHistoryOf}
 use Rattle.hose_store.specs.steps.Store.{KeptStore, HasHistory}
-use Rattle.hose_follow.specs.steps.Event.{Event, accepts, sends, offers, stops, closes, stops_within}
-use Rattle.hose_follow.specs.steps.Offering.{IsOffered}
+use Rattle.hose_follow.specs.steps.Event.{Event, accepts, asks, offers, reopens, sends}
+use Rattle.hose_follow.specs.steps.Offering.{BringsNone, IsOffered}
 use Rattle.hose_follow.specs.Packet.{Packet}
 use Rattle.hose_follow.specs.declared.answers.Offered.{Offered}
 use Rattle.hose_follow.specs.declared.answers.Offered.TheVariants.{Have, Want, Differs, Memory, Unsound, Disk}
@@ -50,6 +52,34 @@ pub record IsBeginning {D : Type 0} (disk : Ghosts D) (network : Network) (state
   pub has : HasHistory disk state.store own None
   pub begins : IsPrefix own state.leader
 
+-- ---- stops
+
+-- the packet was sent, or it brings no entry
+abbrev pub MayArrive : {D : Type 0} → Ghosts D → Replication D → Packet → Type 0
+MayArrive disk state packet =
+    Contains state.sent packet ⊎ BringsNone disk state.store packet
+
+-- What the disk of a follower that was stopped may hold: what a stop between two offers leaves, or
+-- at any moment within an offer or an orderly closing; or what a stop at any moment within an
+-- opening of that leaves, and so on. A disk that is opened has what was left, and no other bytes.
+pub data MayBeLeft {D : Type 0} (disk : Ghosts D) (network : Network) (state : Replication D)
+    : List ℕ → Type 0 where
+  at_rest : {image : List ℕ} → disk.may_leave state.store.journal.disk image
+      → MayBeLeft disk network state image
+  within_offer : {image : List ℕ} (packet : Packet) (answer : Offered) (left : KeptStore D)
+      → MayArrive disk state packet → IsOffered disk state.store packet answer left
+      → disk.left_since left.journal.disk (disk.moment state.store.journal.disk) image
+      → MayBeLeft disk network state image
+  within_closing : {image : List ℕ} (left : D) (result : Result ⊤ Failed)
+      → Closes disk state.store left result
+      → disk.left_since left (disk.moment state.store.journal.disk) image
+      → MayBeLeft disk network state image
+  within_opening : {image more : List ℕ} (was now : D) → MayBeLeft disk network state image
+      → disk.content was ≡ Some image
+      → ((other : List ℕ) → disk.may_leave was other → other ≡ image)
+      → LeavesOnly disk was now (IsAtOpening disk was network)
+      → disk.left_since now (disk.moment was) more → MayBeLeft disk network state more
+
 -- ---- what happens
 
 -- a store was opened on a disk that held this image
@@ -58,7 +88,7 @@ IsReopened {D} disk network image store =
     (was : D) × (disk.content was ≡ Some image) × IsOpenedOn disk was network store
 
 -- An event, and what it leaves.
-abbrev pub Happens : {D : Type 0} → Ghosts D → Network → Replication D → Event D → Replication D
+abbrev pub Happens : {D : Type 0} → Ghosts D → Network → Replication D → Event → Replication D
     → Type 0
 Happens disk network old (accepts entry) new =
     IsEntry entry × IsDecidedAt network (book_of 0 old.leader) entry
@@ -69,21 +99,16 @@ Happens disk network old (sends place) new =
 Happens disk network old (offers packet answer) new =
     Contains old.sent packet × IsOffered disk old.store packet answer new.store
     × (new ≡ record old { store = new.store; told = told_after old.told answer })
-Happens disk network old (stops image) new =
-    disk.may_leave old.store.journal.disk image × IsReopened disk network image new.store
+Happens disk network old (asks packet answer) new =
+    BringsNone disk old.store packet × IsOffered disk old.store packet answer new.store
+    × (new ≡ record old { store = new.store; told = told_after old.told answer })
+Happens disk network old (reopens image) new =
+    MayBeLeft disk network old image × IsReopened disk network image new.store
     × (new ≡ record old { store = new.store })
-Happens disk network old (closes left image) new =
-    ((result : Result ⊤ Failed) × Closes disk old.store left result)
-    × disk.left_since left (disk.moment old.store.journal.disk) image
-    × IsReopened disk network image new.store × (new ≡ record old { store = new.store })
-Happens disk network old (stops_within packet answer left image) new =
-    Contains old.sent packet × IsOffered disk old.store packet answer left
-    × disk.left_since left.journal.disk (disk.moment old.store.journal.disk) image
-    × IsReopened disk network image new.store × (new ≡ record old { store = new.store })
 
 -- events, one after another
-abbrev pub Lead : {D : Type 0} → Ghosts D → Network → Replication D → List (Event D)
-    → Replication D → Type 0
+abbrev pub Lead : {D : Type 0} → Ghosts D → Network → Replication D → List Event → Replication D
+    → Type 0
 Lead disk network old [] new = new ≡ old
 Lead {D} disk network old (event ∷ events) new =
     (middle : Replication D) × Happens disk network old event middle

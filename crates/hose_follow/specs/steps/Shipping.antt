@@ -11,6 +11,7 @@ use Rattle.hose_disk.specs.declared.disk.Disk.{Ghosts as DiskGhosts}
 use Rattle.hose_journal.specs.Moments.{KeepsCount}
 use Rattle.hose_journal.specs.Opening.{AddsNoRecord}
 use Rattle.hose_store.specs.Entries.{HasEntries}
+use Rattle.hose_store.specs.steps.Before.{AreAllBefore}
 use Rattle.hose_store.specs.Opening.{IsRefusedStore}
 use Rattle.hose_store.specs.Recovery.{IsHistoryOf, digest_of}
 use Rattle.hose_store.specs.Replaying.{IsOnlyOpened, KeepsRead}
@@ -45,6 +46,12 @@ pub record ShipsUpTo {D : Type 0} (disk : DiskGhosts D) (shipment : Shipment D)
   pub held : HasEntries shipment.network (disk.content shipment.was) entries
   pub out : puts (shipped_bytes shipment entries)
 
+-- The same, and where the journal is damaged they are those of all entries before the damage.
+pub record ShipsBefore {D : Type 0} (disk : DiskGhosts D) (shipment : Shipment D)
+    (puts : List ℕ → Type 0) (fault : StoreFault) : Type 0 where
+  pub part : ShipsUpTo disk shipment puts
+  pub all : AreAllBefore shipment.network (disk.content shipment.was) part.entries fault
+
 -- The packets, from an epoch on, of all entries of the journal are out, and so many they are.
 pub record ShipsAll {D : Type 0} (disk : DiskGhosts D) (shipment : Shipment D)
     (puts : List ℕ → Type 0) (sent : ℕ) : Type 0 where
@@ -54,8 +61,8 @@ pub record ShipsAll {D : Type 0} (disk : DiskGhosts D) (shipment : Shipment D)
   pub out : puts (shipped_bytes shipment history)
 
 module _ {S D : Type 0} (sink : SinkGhosts S) (disk : DiskGhosts D) (before after : S) where
-  -- What shipping comes to. At a fault packets of entries with which the journal begins are out, or
-  -- a part of such packets where the sink failed. What is read of the disk is as before, or a
+  -- What shipping comes to. At a fault packets of entries with which the journal begins are out, of
+  -- all before damage, or a part of such where the sink failed. What is read is as before, or a
   -- journal without a record was begun there; where a call on the disk failed, it may be begun in
   -- part. So no seal was written.
   abbrev pub Ships : Shipment D → D → Result ℕ ShipFault → Type 0
@@ -64,7 +71,7 @@ module _ {S D : Type 0} (sink : SinkGhosts S) (disk : DiskGhosts D) (before afte
       × (sink.frame after ≡ sink.frame before) × KeepsCount disk shipment.was left
       × KeepsRead disk shipment.was left shipment.network
   Ships shipment left (Err (Store fault)) =
-      ShipsUpTo disk shipment (Grows (sink.content before) (sink.content after))
+      ShipsBefore disk shipment (Grows (sink.content before) (sink.content after)) fault
       × (sink.frame after ≡ sink.frame before)
       × IsRefusedStore disk shipment.was left shipment.network fault
       × AddsNoRecord (disk.content shipment.was) (disk.content left) (digest_of shipment.network)
@@ -114,6 +121,7 @@ module _ {S D : Type 0} (sink : SinkGhosts S) (disk : DiskGhosts D) (shipment : 
     pub held : HasEntries shipment.network (disk.content shipment.was) entries
     pub added : IsAdded sink start.gather start.sink out.gather out.sink
         (shipped_bytes shipment entries)
+    pub all : AreAllBefore shipment.network (disk.content shipment.was) entries fault
     pub refused : IsRefusedStore disk shipment.was left shipment.network fault
     pub opened : IsOnlyOpened disk shipment.was left shipment.network
     pub kept : KeepsRead disk shipment.was left shipment.network

@@ -1,5 +1,5 @@
 use Rattle.hose_store.proofs.OneMeaning.{recovered_once}
-use Rattle.hose_follow.proofs.Follows.{begun, closing_image, follows, image_of, legal, moment_of, never_differs, never_unsound}
+use Rattle.hose_follow.proofs.Follows.{begun, follows, left_image, legal, never_differs, never_unsound}
 use Rattle.hose_follow.proofs.laws.law_following.Goals as goal
 
 pub returns-clause-begins : goal.returns-clause-begins
@@ -13,14 +13,8 @@ pub returns-clause-legal : goal.returns-clause-legal
 returns-clause-legal g c = λ state following. legal g.D.Disk c.args.top.now state following
 
 pub returns-clause-images : goal.returns-clause-images
-returns-clause-images g c = λ state image following left. image_of g.D.Disk c.args.top.now state image following left
-
-pub returns-clause-moments : goal.returns-clause-moments
-returns-clause-moments g c = λ state packet answer left image following there offered since.
-    moment_of g.D.Disk c.args.top.now g.met.D.Disk.only_now state packet answer left image following there offered since
-
-pub returns-clause-closings : goal.returns-clause-closings
-returns-clause-closings g c = λ state left result image following closed since. closing_image g.D.Disk c.args.top.now state left image following result closed since
+returns-clause-images g c = λ state image following left.
+    left_image g.D.Disk c.args.top.now (recovered_once c.args.top.now) g.met.D.Disk.only_now state image following left
 
 pub returns-clause-never_differs : goal.returns-clause-never_differs
 returns-clause-never_differs g c = λ state packet at own given left following there. never_differs g.D.Disk c.args.top.now state packet at own given left following there

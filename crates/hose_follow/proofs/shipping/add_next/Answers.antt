@@ -8,8 +8,9 @@ pub returns-in_err-ready-clause-adds : goal.returns-in_err-ready-clause-adds
 returns-in_err-ready-clause-adds g c = λ was network start has.
     let held = c.chain-value.ensures.held was network has.entries has.replaying in
     let read = c.in_err-ready.ensures.read was network has.entries has.replaying in
+    let all = c.in_err-ready.ensures.until was network has.entries has.replaying in
     let told = err_from_is_err_and c.from_residual.result c.from_residual.ensures.1 in
-    rw (told.1, told.2) (added_until g.S.Sink g.D.Disk was network c.args.from start c.args.replay.now c.args.gather.now c.args.sink.now has c.next.new.self _ held read)
+    rw (told.1, told.2) (added_until g.S.Sink g.D.Disk was network c.args.from start c.args.replay.now c.args.gather.now c.args.sink.now has c.next.new.self _ held all read)
 
 pub returns-in_default-clause-adds : goal.returns-in_default-clause-adds
 returns-in_default-clause-adds g c = λ was network start has.
