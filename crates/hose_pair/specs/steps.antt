@@ -1,0 +1,3 @@
+-- Steps of proofs: what no clause of the top calls names.
+pub mod Orders
+pub mod Written
