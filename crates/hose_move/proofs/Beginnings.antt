@@ -1,5 +1,5 @@
 -- What a reading tells of a disk that was only read before.
-use Rattle.std.proofs.Common.{◌≡◌, ◌∙◌, ℕ, List, Option, None, Some, IfSome, All, IfOk, false, is_some, refl, sym, ap, subst, ⊎_elim}
+use Rattle.std.proofs.Common.{◌≡◌, ◌∙◌, ℕ, List, Option, None, Some, IfSome, All, IfOk, is_some, refl, sym, ap, subst, ⊎_elim}
 use Rattle.std.specs.Prelude.{Result, Ok, Err}
 use Rattle.hose_io.proofs.Frames.{Rose-later, Stays-next}
 use Rattle.hose_graph.specs.Network.{Network}
@@ -18,15 +18,12 @@ use Rattle.hose_store.specs.Opening.{IsRefusedStore, IsUnchanged}
 use Rattle.hose_store.specs.Recovery.{IsHistoryOf, IsRecoveredAs, digest_of}
 use Rattle.hose_store.specs.declared.fault.StoreFault.{StoreFault}
 use Rattle.hose_store.specs.declared.fault.StoreFault.TheVariants as store
-use Rattle.hose_move.specs.steps.Collecting.{IsReadNoFurther}
+use Rattle.hose_move.specs.steps.Collecting.{IsReadNoFurther, KeepsContent}
 use Rattle.hose_move.specs.Stating.{ReadsJournal, StatesHistory}
 use Rattle.hose_move.specs.steps.Stating.{StatesAll}
 use Rattle.hose_move.specs.declared.stating.Scope.{Scope}
 use Rattle.hose_move.specs.declared.stating.Stated.{Stated}
-
-none_of : (content : Option (List ℕ)) → is_some content ≡ false → content ≡ None
-none_of None same = refl
-none_of (Some bytes) same = absurd (cc same)
+use Rattle.hose_move.proofs.Kept.{none_of}
 
 clash : (content : Option (List ℕ)) (bytes : List ℕ) → content ≡ Some bytes → IfSome content IsUnbegun → IfSome content (λ found. ¬ IsUnbegun found) → ⊥
 clash None bytes same is not = absurd (cc same)
@@ -101,6 +98,10 @@ module _ {D : Type 0} (disk : Ghosts D) where
     begins_of now network scope (Ok stated) all = all.2
     begins_of now network scope (Err fault) stopped = stopped.begins
 
+    kept_of : (now : D) (network : Network) (scope : Scope) (result : Result Stated StoreFault) → StatesAll disk mid now network scope result → KeepsContent disk mid now
+    kept_of now network scope (Ok stated) all = all.3
+    kept_of now network scope (Err fault) stopped = stopped.kept
+
     pub ranges_of : (now : D) (network : Network) (scope : Scope) (result : Result Stated StoreFault) → StatesAll disk mid now network scope result → IfOk result (λ stated. All IsInRanges stated.entries.items)
     ranges_of now network scope (Ok stated) all = all.1
     ranges_of now network scope (Err fault) stopped = tt
@@ -112,6 +113,9 @@ module _ {D : Type 0} (disk : Ghosts D) where
       pub unchanged_begun : Untold now → IfSome (disk.content was) (λ bytes. ¬ IsUnbegun bytes) → IsUnchanged disk was now
       unchanged_begun untold not =
           unchanged_later now (unchanged mid now network (begins_of now network scope result all) untold (subst (λ (content : Option (List ℕ)). IfSome content (λ bytes. ¬ IsUnbegun bytes)) (sym only.same) not))
+
+      pub kept_begun : IfSome (disk.content was) (λ bytes. ¬ IsUnbegun bytes) → disk.content now ≡ disk.content was
+      kept_begun not = kept_of now network scope result all (subst (λ (content : Option (List ℕ)). IfSome content (λ bytes. ¬ IsUnbegun bytes)) (sym only.same) not) ∙ only.same
 
     pub reads_begun : (now : D) (network : Network) (scope : Scope) (result : Result Stated StoreFault) → KeepsCount disk was mid → Untold now → IfSome (disk.content was) (λ bytes. ¬ IsUnbegun bytes) → StatesAll disk mid now network scope result
         → ReadsJournal disk was now network scope result

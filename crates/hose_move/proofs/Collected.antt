@@ -17,6 +17,7 @@ use Rattle.hose_store.specs.declared.fault.StoreFault.TheVariants as store
 use Rattle.hose_store.specs.declared.replay.Replay.{Replay}
 use Rattle.hose_store.proofs.Begins.{begun_at_most, begun_then}
 use Rattle.hose_move.specs.steps.Collecting.{HasPassed, HasPassedAll, IsReadNoFurther}
+use Rattle.hose_move.proofs.Kept.{kept_reading, kept_then}
 
 -- what the format has is in its ranges
 pub all_in_ranges : (entries : List Entry) → All IsEntry entries → All IsInRanges entries
@@ -44,6 +45,7 @@ module _ {D : Type 0} (disk : Ghosts D) (was : D) (network : Network) where
       read = next.1;
       count = next.2;
       begins = begun_at_most disk was network new entries next.0 (counts next.0.opened);
+      kept = kept_reading disk was network new entries next.0;
     }
 
     -- a fault was met
@@ -51,6 +53,7 @@ module _ {D : Type 0} (disk : Ghosts D) (was : D) (network : Network) where
     passed_until fault next only = record {
       refused = λ not. next.0;
       begins = begun_then disk was new.reading.disk network old entries passed.replaying (counts passed.replaying.opened) only;
+      kept = kept_then disk was network old entries passed.replaying new.reading.disk only;
     }
 
   -- there was too little memory
@@ -58,4 +61,5 @@ module _ {D : Type 0} (disk : Ghosts D) (was : D) (network : Network) where
   wanting counts replay entries passed = record {
     refused = λ not. absurd (not refl);
     begins = begun_at_most disk was network replay entries passed.replaying (counts passed.replaying.opened);
+    kept = kept_reading disk was network replay entries passed.replaying;
   }

@@ -4,6 +4,8 @@ mod Collected
 mod Committed
 mod Compared
 pub mod Complete
+mod Kept
+mod LiveSound
 mod Parts
 mod Readings
 mod Renumbered

@@ -1,5 +1,6 @@
--- What a journal states for one that it is moved into: all of its entries, or what is live.
-use Rattle.std.specs.Prelude.{◌≡◌, ℕ, List, [], ◌++◌, map, filter, length, IfSome, Result, Ok, Err}
+-- What a journal states for one that it is moved into: all of its entries, the first of them, or
+-- what is live.
+use Rattle.std.specs.Prelude.{◌≡◌, ℕ, ◌≤◌, List, [], ◌++◌, map, filter, length, take, IfSome, Result, Ok, Err, ⊤}
 use Rattle.std.specs.List.{range_with_len}
 use Rattle.hose_graph.specs.Network.{Network}
 use Rattle.hose_graph.specs.declared.entry.Entry.{Entry}
@@ -14,7 +15,7 @@ use Rattle.hose_store.specs.Opening.{IsRefusedStore}
 use Rattle.hose_store.specs.Recovery.{IsHistoryOf}
 use Rattle.hose_store.specs.declared.fault.StoreFault.{StoreFault}
 use Rattle.hose_move.specs.declared.stating.Scope.{Scope}
-use Rattle.hose_move.specs.declared.stating.Scope.TheVariants.{All as AllEntries, Live}
+use Rattle.hose_move.specs.declared.stating.Scope.TheVariants.{All as AllEntries, First, Live}
 use Rattle.hose_move.specs.declared.stating.Stated.{Stated}
 
 -- the entry that admits a VPN again: its hose with the amounts that are reserved for it
@@ -41,11 +42,19 @@ live_entries network book = map admission_entry book.live
 -- the entries that a journal of this history states
 abbrev pub stated_entries : Scope → Network → List Entry → List Entry
 stated_entries AllEntries network history = history
+stated_entries (First count) network history = take count history
 stated_entries Live network history = live_entries network (book_of 0 history)
+
+-- so many entries are as many as are asked for
+abbrev pub Suffice : Scope → ℕ → Type 0
+Suffice AllEntries found = ⊤
+Suffice (First count) found = count ≤ found
+Suffice Live found = ⊤
 
 -- the old numbers of the VPNs that have new ones, in order
 abbrev pub stated_numbers : Scope → List Entry → List ℕ
 stated_numbers AllEntries history = []
+stated_numbers (First count) history = []
 stated_numbers Live history = map number_of (book_of 0 history).live
 
 -- what is stated of a history

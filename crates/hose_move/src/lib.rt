@@ -1,7 +1,7 @@
-//! A journal that is moved to another network: its entries, or what is live of it, are committed to
-//! a journal of the other network as they stand, so that each VPN keeps its tree and what is
-//! reserved for it. For the program's command, which reads the old journal, puts it back and moves
-//! what it states into the new one.
+//! A journal that is moved to another network: its entries, the first of them, or what is live of
+//! it, are committed to a journal of the other network as they stand, so that each VPN keeps its
+//! tree and what is reserved for it. For the program's commands, which read the old journal, put it
+//! back and move what it states into the new one.
 //!
 //! ```
 //! if let Some(change) = first_change(&old, &new) {
@@ -26,6 +26,6 @@ mod stating;
 
 pub use changing::{NetworkChange, first_change};
 pub use fault::MoveFault;
-pub use laws::{law_complete, law_renumbered};
+pub use laws::{law_complete, law_live_sound, law_renumbered};
 pub use moving::move_into;
 pub use stating::{Scope, Stated, read_journal};

@@ -1,5 +1,5 @@
 // What an old journal states for a new one, read from its disk.
-ghost use Rattle.std.specs.Prelude.{◌≡◌, [], All, IfOk};
+ghost use Rattle.std.specs.Prelude.{◌≡◌, [], All, IfOk, take};
 ghost use Rattle.hose_graph.specs.Network.{Network};
 ghost use Rattle.hose_graph.specs.steps.Ranges.{IsInRanges};
 ghost use Rattle.hose_journal.specs.Opening.{KeepsDisk};
@@ -22,6 +22,8 @@ use std::alloc::{AllocError, Global};
 pub enum Scope {
     /// All that the old one has, in order.
     All,
+    /// The first of these, so many of them; all where there are fewer.
+    First(u64),
     /// An admission of each VPN that is live, in the order of their admission, and then the links
     /// that are out of service.
     Live,
@@ -38,7 +40,8 @@ pub struct Stated {
 }
 
 /// What the journal on a disk, of a network, states for one that it is moved into: all of its
-/// entries, or what is live. The disk is only read. A journal that was not begun states nothing.
+/// entries, the first of them, or what is live. The disk is only read. A journal that was not begun
+/// states nothing.
 pub fn read_journal<D: Disk>(
     alloc: Global,
     disk: D,
@@ -49,6 +52,7 @@ pub fn read_journal<D: Disk>(
     ensures ranges { IfOk result.0 (λ stated. All IsInRanges stated.entries.items) }
     // At every moment an image is one that the disk had before.
     ensures unchanged { IsUnchanged D.Disk disk result.1 }
+    ensures kept { D.content result.1 ≡ D.content disk }
     ensures keeps { KeepsDisk D.Disk disk result.1 }
 {
     let mut disk = disk;
@@ -102,6 +106,7 @@ fn state_all<D: Disk>(
 {
     match scope {
         Scope::All => state_entries(alloc, replay),
+        Scope::First(count) => state_first(alloc, replay, count),
         Scope::Live => state_book(alloc, replay),
     }
 }
@@ -118,6 +123,33 @@ fn state_entries<D: Disk>(alloc: Global, replay: &mut Replay<D>) -> Result<State
         entries,
         numbers: Vec::new(alloc),
     })
+}
+
+// The first entries, so many of them, of a journal of which nothing was read.
+fn state_first<D: Disk>(
+    alloc: Global,
+    replay: &mut Replay<D>,
+    count: u64,
+) -> Result<Stated, StoreFault>
+    requires { (was : D) × (network : Network) × IsReplaying D.Disk was network replay.old [] }
+    ensures { (was : D) → (network : Network) → IsReplaying D.Disk was network replay.old [] →
+        StatesAll D.Disk was replay.new.reading.disk network (Scope.First count) result }
+{
+    let all = state_entries(alloc, replay)?;
+    Ok(front_of(all, count))
+}
+
+// The first entries of what is stated, so many of them.
+fn front_of(all: Stated, count: u64) -> Stated
+    ensures entries { result.entries.items ≡ take count all.entries.items }
+    ensures numbers { result.numbers.items ≡ all.numbers.items }
+{
+    let mut entries = all.entries;
+    entries.truncate(count as usize);
+    Stated {
+        entries,
+        numbers: all.numbers,
+    }
 }
 
 // What is live once all entries of a journal were read, of which nothing was read.

@@ -6,7 +6,7 @@ use Rattle.hose_graph.specs.steps.Ranges.{IsInRanges}
 use Rattle.hose_disk.specs.declared.disk.Disk.{Ghosts}
 use Rattle.hose_store.specs.steps.Becoming.{BeginsAtMost}
 use Rattle.hose_store.specs.declared.fault.StoreFault.{StoreFault}
-use Rattle.hose_move.specs.steps.Collecting.{IsReadNoFurther}
+use Rattle.hose_move.specs.steps.Collecting.{IsReadNoFurther, KeepsContent}
 use Rattle.hose_move.specs.declared.stating.Scope.{Scope}
 use Rattle.hose_move.specs.declared.stating.Stated.{Stated}
 use Rattle.hose_move.specs.Stating.{StatesHistory}
@@ -16,4 +16,5 @@ module _ {D : Type 0} (disk : Ghosts D) (was : D) where
   abbrev pub StatesAll : D → Network → Scope → Result Stated StoreFault → Type 0
   StatesAll left network scope (Ok stated) = StatesHistory disk was left network scope stated
       × All IsInRanges stated.entries.items × BeginsAtMost disk was left network
+      × KeepsContent disk was left
   StatesAll left network scope (Err fault) = IsReadNoFurther disk was network left fault

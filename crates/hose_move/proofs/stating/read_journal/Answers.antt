@@ -1,5 +1,5 @@
 use Rattle.std.proofs.Common.{rules}
-use Rattle.hose_move.proofs.Beginnings.{keeps_begun, ranges_of, reads_begun, unchanged_begun}
+use Rattle.hose_move.proofs.Beginnings.{kept_begun, keeps_begun, ranges_of, reads_begun, unchanged_begun}
 use Rattle.hose_move.proofs.Readings.{no_ranges, states_nothing}
 use Rattle.hose_move.proofs.stating.read_journal.Goals as goal
 
@@ -16,6 +16,10 @@ pub returns-in-Ok-true-clause-unchanged : goal.returns-in-Ok-true-clause-unchang
 returns-in-Ok-true-clause-unchanged g c =
     unchanged_begun g.D.Disk c.args.disk c.is_begun.new.disk c.in-Ok-true.ensures.only c.read_begun.result.1 c.args.old.now c.args.scope c.read_begun.result.0 c.read_begun.ensures (g.met.D.Disk.untold c.read_begun.result.1)
     (c.in-Ok-true.ensures.begun (search rules))
+
+pub returns-in-Ok-true-clause-kept : goal.returns-in-Ok-true-clause-kept
+returns-in-Ok-true-clause-kept g c =
+    kept_begun g.D.Disk c.args.disk c.is_begun.new.disk c.in-Ok-true.ensures.only c.read_begun.result.1 c.args.old.now c.args.scope c.read_begun.result.0 c.read_begun.ensures (c.in-Ok-true.ensures.begun (search rules))
 
 pub returns-in-Ok-true-clause-keeps : goal.returns-in-Ok-true-clause-keeps
 returns-in-Ok-true-clause-keeps g c =

@@ -10,7 +10,7 @@ returns-in-Ok g c = λ was network replaying.
 pub returns-in-Err : goal.returns-in-Err
 returns-in-Err g c = λ was network replaying.
     let all = c.in_ok-pass.ensures was network replaying in
-    no_further g.D.Disk was network c.pass.new.replay.reading.disk all.1.begins
+    no_further g.D.Disk was network c.pass.new.replay.reading.disk all.1.begins all.1.kept
 
 pub returns-in_err-pass : goal.returns-in_err-pass
 returns-in_err-pass g c = λ was network replaying.
