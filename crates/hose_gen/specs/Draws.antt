@@ -1,10 +1,17 @@
--- Draws: numbers that follow one from another, from a seed on.
-use Rattle.std.specs.Prelude.{ℕ, ◌+◌, ◌*◌, ◌/◌, ◌%◌, ◌^◌}
+-- Draws: numbers that follow one from another, from a seed on. What is drawn is told with the state
+-- after it, at which the next draw begins.
+use Rattle.std.specs.Prelude.{ℕ, zero, suc, ◌+◌, ◌*◌, ◌/◌, ◌%◌, ◌^◌, List, [], ◌∷◌, ◌++◌}
 
--- the state after a draw
-abbrev pub next_state : ℕ → ℕ
-next_state state = (state * 6364136223846793005 + 1442695040888963407) % 2 ^ 64
+-- a number below a limit that is drawn at a state
+abbrev pub draw : ℕ → ℕ → ℕ × ℕ
+draw limit state =
+    let next = (state * 6364136223846793005 + 1442695040888963407) % 2 ^ 64 in
+    (next / 2 ^ 33 % limit, next)
 
--- the number below a limit that is drawn at a state: it is taken of the state after the draw
-abbrev pub drawn : ℕ → ℕ → ℕ
-drawn state limit = next_state state / 2 ^ 33 % limit
+-- so many things, one after the other from a state on, each by its place and those before it
+abbrev pub drawn : {A : Type 0} → (ℕ → List A → ℕ → A × ℕ) → ℕ → ℕ → List A × ℕ
+drawn next state zero = ([], state)
+drawn next state (suc place) =
+    let before = drawn next state place in
+    let one = next place before.0 before.1 in
+    (before.0 ++ one.0 ∷ [], one.1)

@@ -1,13 +1,13 @@
 -- The network and the script that four numbers make: a seed, and how many nodes, links and hoses
 -- there are. What is drawn for one thing begins at the state that the thing before it left.
 use Rattle.std.specs.Prelude.{ℕ, zero, suc, ◌+◌, ◌-◌, ◌%◌, nat_lt, nat_le, ◌==◌, Bool, List, [], ◌∷◌, ◌++◌, codes, decimal, if◌then◌else◌}
-use Rattle.std.specs.List.{list_any}
+use Rattle.std.specs.List.{flat_map, list_any}
 use Rattle.hose_graph.specs.Hose.{Endpoint, node_of}
 use Rattle.hose_graph.specs.Network.{Network}
 use Rattle.hose_graph.specs.declared.command.Command.{Command}
 use Rattle.hose_graph.specs.declared.command.Command.TheVariants.{Admit, Release}
 use Rattle.hose_graph.specs.declared.topology.Link.{Link}
-use Rattle.hose_gen.specs.Draws.{drawn, next_state}
+use Rattle.hose_gen.specs.Draws.{draw, drawn}
 
 -- ---- nodes
 
@@ -27,56 +27,43 @@ abbrev pub joins_next : ℕ → ℕ → Bool
 joins_next nodes link = nat_lt link (nodes - 1)
 
 -- a link between two nodes: its capacity is drawn, and then its length, which is its cost
-abbrev pub link_of_two : ℕ → ℕ → ℕ → Link
-link_of_two state a b =
-    let distance = 1 + drawn (next_state state) 100 in
-    record { a = a; b = b; capacity = 1000 + drawn state 9001; length = distance; cost = distance }
-
--- the state after a link between two nodes was drawn
-abbrev pub after_link_of_two : ℕ → ℕ
-after_link_of_two state = next_state (next_state state)
+abbrev pub link_between : ℕ → ℕ → ℕ → Link × ℕ
+link_between a b state =
+    let room = draw 9001 state in
+    let way = draw 100 room.1 in
+    let long = 1 + way.0 in
+    (record { a = a; b = b; capacity = 1000 + room.0; length = long; cost = long }, way.1)
 
 -- a number that leaves out another one, of which one less could be drawn
 abbrev pub passing : ℕ → ℕ → ℕ
 passing out number = if nat_le out number then number + 1 else number
 
 -- the link that joins the next node: its other end is drawn
-abbrev pub joining_link : ℕ → ℕ → Link
-joining_link state link = link_of_two (next_state state) (link + 1) (drawn state (link + 1))
+abbrev pub joining_link : ℕ → ℕ → Link × ℕ
+joining_link link state =
+    let b = draw (link + 1) state in link_between (link + 1) b.0 b.1
 
 -- a link between any two nodes: both ends are drawn
-abbrev pub further_link : ℕ → ℕ → Link
+abbrev pub further_link : ℕ → ℕ → Link × ℕ
 further_link nodes state =
-    let a = drawn state nodes in
-    let b = drawn (next_state state) (nodes - 1) in
-    link_of_two (next_state (next_state state)) a (passing a b)
+    let a = draw nodes state in
+    let b = draw (nodes - 1) a.1 in
+    link_between a.0 (passing a.0 b.0) b.1
 
 -- a link that is drawn at a state
-abbrev pub link_at : ℕ → ℕ → ℕ → Link
-link_at nodes state link =
-    if joins_next nodes link then joining_link state link else further_link nodes state
-
--- the state after a link was drawn
-abbrev pub after_link : ℕ → ℕ → ℕ → ℕ
-after_link nodes state link = after_link_of_two
-    (if joins_next nodes link then next_state state else next_state (next_state state))
-
--- the state after the first links
-abbrev pub after_links : ℕ → ℕ → ℕ → ℕ
-after_links nodes seed zero = seed
-after_links nodes seed (suc link) = after_link nodes (after_links nodes seed link) link
+abbrev pub link_at : ℕ → ℕ → ℕ → Link × ℕ
+link_at nodes link state =
+    if joins_next nodes link then joining_link link state else further_link nodes state
 
 -- the first links
-abbrev pub links_below : ℕ → ℕ → ℕ → List Link
-links_below nodes seed zero = []
-links_below nodes seed (suc link) =
-    links_below nodes seed link ++ link_at nodes (after_links nodes seed link) link ∷ []
+abbrev pub first_links : ℕ → ℕ → ℕ → List Link × ℕ
+first_links nodes seed links = drawn (λ link before. link_at nodes link) seed links
 
 -- the network of a seed, with so many nodes and links
 abbrev pub generated_network : ℕ → ℕ → ℕ → Network
 generated_network seed nodes links = record {
   nodes = node_names nodes;
-  links = links_below nodes seed links;
+  links = (first_links nodes seed links).0;
 }
 
 -- ---- hoses
@@ -93,21 +80,15 @@ free_node nodes ends node (suc more) =
     if has_node ends node then free_node nodes ends ((node + 1) % nodes) more else node
 
 -- an endpoint that is drawn at a state: its node, which none of those before it is at, and its rate
-abbrev pub endpoint_at : ℕ → List Endpoint → ℕ → Endpoint
+abbrev pub endpoint_at : ℕ → List Endpoint → ℕ → Endpoint × ℕ
 endpoint_at nodes ends state =
-    (free_node nodes ends (drawn state nodes) nodes, 1 + drawn (next_state state) 20)
-
--- the state after the first endpoints
-abbrev pub after_ends : ℕ → ℕ → ℕ
-after_ends state zero = state
-after_ends state (suc end) = next_state (next_state (after_ends state end))
+    let node = draw nodes state in
+    let rate = draw 20 node.1 in
+    ((free_node nodes ends node.0 nodes, 1 + rate.0), rate.1)
 
 -- the first endpoints, in the order in which they are drawn
-abbrev pub first_ends : ℕ → ℕ → ℕ → List Endpoint
-first_ends nodes state zero = []
-first_ends nodes state (suc end) =
-    let before = first_ends nodes state end in
-    before ++ endpoint_at nodes before (after_ends state end) ∷ []
+abbrev pub first_ends : ℕ → ℕ → ℕ → List Endpoint × ℕ
+first_ends nodes state count = drawn (λ end before. endpoint_at nodes before) state count
 
 -- an endpoint among others, which are in order of nodes
 abbrev pub placed : Endpoint → List Endpoint → List Endpoint
@@ -126,57 +107,43 @@ in_order (end ∷ more) = placed end (in_order more)
 abbrev pub Order : Type 0
 Order = List ℕ × Command
 
--- the customer that is drawn at a state
-abbrev pub customer_at : ℕ → List ℕ
-customer_at state = codes "c" ++ decimal (drawn state 8)
+-- the name of a customer
+abbrev pub customer_name : ℕ → List ℕ
+customer_name customer = codes "c" ++ decimal customer
 
--- how many endpoints the hose of an admission has: that is drawn after the customer
-abbrev pub ends_at : ℕ → ℕ
-ends_at state = 2 + drawn (next_state state) 4
-
--- the admission that is drawn at a state
-abbrev pub admission_at : ℕ → ℕ → Order
-admission_at nodes state = (
-  customer_at state,
-  Admit (in_order (first_ends nodes (next_state (next_state state)) (ends_at state))),
-)
-
--- the state after an admission was drawn
-abbrev pub after_admission : ℕ → ℕ
-after_admission state = after_ends (next_state (next_state state)) (ends_at state)
+-- the admission that is drawn at a state: its customer, how many endpoints there are, and these
+abbrev pub admission_at : ℕ → ℕ → Order × ℕ
+admission_at nodes state =
+    let customer = draw 8 state in
+    let count = draw 4 customer.1 in
+    let ends = first_ends nodes count.1 (2 + count.0) in
+    ((customer_name customer.0, Admit (in_order ends.0)), ends.1)
 
 -- the release that is drawn at a state, after a hose
-abbrev pub release_at : ℕ → ℕ → Order
-release_at state hose = (customer_at state, Release (1 + drawn (next_state state) (hose + 1)))
+abbrev pub release_at : ℕ → ℕ → Order × ℕ
+release_at hose state =
+    let customer = draw 8 state in
+    let id = draw (hose + 1) customer.1 in
+    ((customer_name customer.0, Release (1 + id.0)), id.1)
 
 -- a release follows each fifth hose
 abbrev pub is_followed : ℕ → Bool
 is_followed hose = hose % 5 == 4
 
 -- what is ordered for a hose from a state on
-abbrev pub orders_at : ℕ → ℕ → ℕ → List Order
-orders_at nodes state hose = admission_at nodes state
-    ∷ (if is_followed hose then release_at (after_admission state) hose ∷ [] else [])
+abbrev pub orders_at : ℕ → ℕ → ℕ → List Order × ℕ
+orders_at nodes hose state =
+    let admission = admission_at nodes state in
+    let release = release_at hose admission.1 in
+    if is_followed hose then (admission.0 ∷ release.0 ∷ [], release.1)
+    else (admission.0 ∷ [], admission.1)
 
--- the state after what is ordered for a hose was drawn
-abbrev pub after_orders : ℕ → ℕ → ℕ
-after_orders state hose =
-    let after = after_admission state in
-    if is_followed hose then next_state (next_state after) else after
-
--- the state after the first hoses
-abbrev pub after_hoses : ℕ → ℕ → ℕ
-after_hoses state zero = state
-after_hoses state (suc hose) = after_orders (after_hoses state hose) hose
-
--- what is ordered for the first hoses
-abbrev pub first_orders : ℕ → ℕ → ℕ → List Order
-first_orders nodes state zero = []
-first_orders nodes state (suc hose) =
-    first_orders nodes state hose ++ orders_at nodes (after_hoses state hose) hose
+-- what is ordered for each of the first hoses
+abbrev pub first_orders : ℕ → ℕ → ℕ → List (List Order) × ℕ
+first_orders nodes state hoses = drawn (λ hose before. orders_at nodes hose) state hoses
 
 -- the script of a seed, for a network of so many nodes and links, with so many hoses; it is drawn
 -- after the links
 abbrev pub generated_script : ℕ → ℕ → ℕ → ℕ → List Order
 generated_script seed nodes links hoses =
-    first_orders nodes (after_links nodes seed links) hoses
+    flat_map (λ orders. orders) (first_orders nodes (first_links nodes seed links).1 hoses).0

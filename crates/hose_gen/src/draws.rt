@@ -2,7 +2,7 @@
 // names that are a letter and a number.
 ghost use Rattle.std.specs.Prelude.{◌≡◌, ◌<◌, ◌∷◌, IsTrue, decimal};
 ghost use Rattle.std.specs.Char.{is_ascii_lowercase};
-ghost use Rattle.hose_gen.specs.Draws.{drawn, next_state};
+ghost use Rattle.hose_gen.specs.Draws.{draw};
 
 use hose_graph::{MOST_NAME_BYTES, Name};
 use itoa::Buffer;
@@ -22,8 +22,8 @@ impl Draws {
     /// The next number below a limit, of the upper 31 bits of the next state.
     pub fn draw(&mut self, limit: u32) -> u32
         requires { 0 < limit }
-        ensures number { result ≡ drawn self.old.state limit }
-        ensures state { self.new.state ≡ next_state self.old.state }
+        ensures number { result ≡ (draw limit self.old.state).0 }
+        ensures state { self.new.state ≡ (draw limit self.old.state).1 }
         ensures below { result < limit }
     {
         self.state = self.state.wrapping_mul(MULTIPLIER).wrapping_add(INCREMENT);

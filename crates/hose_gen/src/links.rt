@@ -1,8 +1,7 @@
 // The nodes and links of a network.
 ghost use Rattle.std.specs.Prelude.{◌≡◌, ◌≢◌, ◌+◌, ◌≤◌, ◌<◌, [], length};
 ghost use Rattle.hose_graph.specs.Network.{IsLink, Network};
-ghost use Rattle.hose_gen.specs.Draws.{next_state};
-ghost use Rattle.hose_gen.specs.Generated.{after_link, after_link_of_two, after_links, links_below, link_at, node_names, link_of_two, joining_link, further_link};
+ghost use Rattle.hose_gen.specs.Generated.{first_links, further_link, joining_link, link_at, link_between, node_names};
 
 use crate::draws::{Draws, numbered};
 use crate::orders::LEAST_NODES;
@@ -27,9 +26,9 @@ pub fn add_links(top: &mut Topology, draws: &mut Draws, nodes: u32, links: u32)
     requires few_links { links ≤ MOST_LINKS }
     ensures added { top.new ≡ record {
       nodes = node_names nodes;
-      links = links_below nodes draws.old.state links;
+      links = (first_links nodes draws.old.state links).0;
     } }
-    ensures state { draws.new.state ≡ after_links nodes draws.old.state links }
+    ensures state { draws.new.state ≡ (first_links nodes draws.old.state links).1 }
 {
     for number in 0..links {
         let link = draw_link(draws, nodes, number);
@@ -41,8 +40,8 @@ pub fn add_links(top: &mut Topology, draws: &mut Draws, nodes: u32, links: u32)
 fn draw_link(draws: &mut Draws, nodes: u32, number: u32) -> Link
     requires enough { LEAST_NODES ≤ nodes }
     requires few { nodes ≤ MOST_NODES }
-    ensures link { result ≡ link_at nodes draws.old.state number }
-    ensures state { draws.new.state ≡ after_link nodes draws.old.state number }
+    ensures link { result ≡ (link_at nodes number draws.old.state).0 }
+    ensures state { draws.new.state ≡ (link_at nodes number draws.old.state).1 }
     ensures is_link { (network : Network) → length network.nodes ≡ nodes
         → IsLink network result }
 {
@@ -56,8 +55,8 @@ fn draw_link(draws: &mut Draws, nodes: u32, number: u32) -> Link
 // The link that joins the next node to one before it.
 fn next_link(draws: &mut Draws, number: u32) -> Link
     requires { number + 1 < MOST_NODES }
-    ensures link { result ≡ joining_link draws.old.state number }
-    ensures state { draws.new.state ≡ after_link_of_two (next_state draws.old.state) }
+    ensures link { result ≡ (joining_link number draws.old.state).0 }
+    ensures state { draws.new.state ≡ (joining_link number draws.old.state).1 }
     ensures is_link { (network : Network) → number + 1 < length network.nodes
         → IsLink network result }
 {
@@ -69,9 +68,8 @@ fn next_link(draws: &mut Draws, number: u32) -> Link
 // A link between any two nodes.
 fn other_link(draws: &mut Draws, nodes: u32) -> Link
     requires { LEAST_NODES ≤ nodes }
-    ensures link { result ≡ further_link nodes draws.old.state }
-    ensures state { draws.new.state
-        ≡ after_link_of_two (next_state (next_state draws.old.state)) }
+    ensures link { result ≡ (further_link nodes draws.old.state).0 }
+    ensures state { draws.new.state ≡ (further_link nodes draws.old.state).1 }
     ensures is_link { (network : Network) → length network.nodes ≡ nodes
         → IsLink network result }
 {
@@ -83,8 +81,8 @@ fn other_link(draws: &mut Draws, nodes: u32) -> Link
 
 // A link between two nodes, which costs as much as it is long.
 fn link_between(draws: &mut Draws, a: u32, b: u32) -> Link
-    ensures link { result ≡ link_of_two draws.old.state a b }
-    ensures state { draws.new.state ≡ after_link_of_two draws.old.state }
+    ensures link { result ≡ (link_between a b draws.old.state).0 }
+    ensures state { draws.new.state ≡ (link_between a b draws.old.state).1 }
     ensures is_link { (network : Network) → a < length network.nodes → b < length network.nodes
         → a ≢ b → IsLink network result }
 {

@@ -1,12 +1,12 @@
 // The orders of customers, and their limits beside those of all networks.
 ghost use Rattle.std.specs.Prelude.{◌≡◌, ◌++◌, ◌≤◌, ◌<◌, IfOk, OnOk, false, length};
-ghost use Rattle.std.specs.List.{All};
+ghost use Rattle.std.specs.List.{All, flat_map};
 ghost use Rattle.hose_graph.specs.Hose.{IsEnd, node_of};
 ghost use Rattle.hose_graph.specs.steps.Hose.{MakesHose};
 ghost use Rattle.hose_graph.specs.steps.Naming.{AsksOf};
 ghost use Rattle.hose_graph.specs.Network.{Network};
-ghost use Rattle.hose_gen.specs.Draws.{next_state};
-ghost use Rattle.hose_gen.specs.Generated.{admission_at, after_admission, after_ends, after_orders, after_hoses, customer_at, endpoint_at, first_ends, first_orders, free_node, has_node, orders_at, release_at};
+ghost use Rattle.hose_gen.specs.Draws.{draw};
+ghost use Rattle.hose_gen.specs.Generated.{admission_at, customer_name, endpoint_at, first_ends, first_orders, free_node, has_node, orders_at, release_at};
 ghost use Rattle.hose_gen.specs.Limits.{least_nodes, most_hoses};
 
 use crate::draws::{Draws, numbered};
@@ -36,7 +36,8 @@ pub fn orders(
     requires few { nodes ≤ MOST_NODES }
     requires hoses { hoses ≤ MOST_HOSES }
     ensures orders { IfOk result
-        (λ orders. orders.items ≡ first_orders nodes draws.old.state hoses) }
+        (λ orders. orders.items
+        ≡ flat_map (λ made. made) (first_orders nodes draws.old.state hoses).0) }
     ensures asks { IfOk result (λ orders. (network : Network) → length network.nodes ≡ nodes
         → All (λ order. AsksOf network order.1) orders.items) }
 {
@@ -59,8 +60,10 @@ fn add_orders(
     requires few { nodes ≤ MOST_NODES }
     requires hoses { hose < MOST_HOSES }
     ensures orders { OnOk result
-        (orders.new.items ≡ orders.old.items ++ orders_at nodes draws.old.state hose) }
-    ensures state { OnOk result (draws.new.state ≡ after_orders draws.old.state hose) }
+        (orders.new.items
+        ≡ orders.old.items ++ (orders_at nodes hose draws.old.state).0) }
+    ensures state { OnOk result
+        (draws.new.state ≡ (orders_at nodes hose draws.old.state).1) }
     ensures asks { OnOk result ((network : Network) → length network.nodes ≡ nodes
         → All (λ order. AsksOf network order.1) orders.old.items
         → All (λ order. AsksOf network order.1) orders.new.items) }
@@ -78,8 +81,9 @@ fn add_orders(
 fn admission(alloc: Global, draws: &mut Draws, nodes: u32) -> Result<(Name, Command), AllocError>
     requires enough { LEAST_NODES ≤ nodes }
     requires few { nodes ≤ MOST_NODES }
-    ensures order { IfOk result (λ order. order ≡ admission_at nodes draws.old.state) }
-    ensures state { OnOk result (draws.new.state ≡ after_admission draws.old.state) }
+    ensures order { IfOk result (λ order. order ≡ (admission_at nodes draws.old.state).0) }
+    ensures state { OnOk result
+        (draws.new.state ≡ (admission_at nodes draws.old.state).1) }
     ensures asks { IfOk result (λ order. (network : Network) → length network.nodes ≡ nodes
         → AsksOf network order.1) }
 {
@@ -93,8 +97,8 @@ fn admission(alloc: Global, draws: &mut Draws, nodes: u32) -> Result<(Name, Comm
 // A customer's command to release what an earlier one may have made, after a hose.
 fn release(draws: &mut Draws, hose: u32) -> (Name, Command)
     requires { hose < MOST_HOSES }
-    ensures order { result ≡ release_at draws.old.state hose }
-    ensures state { draws.new.state ≡ next_state (next_state draws.old.state) }
+    ensures order { result ≡ (release_at hose draws.old.state).0 }
+    ensures state { draws.new.state ≡ (release_at hose draws.old.state).1 }
     ensures asks { (network : Network) → AsksOf network result.1 }
 {
     let customer = draw_customer(draws);
@@ -104,8 +108,8 @@ fn release(draws: &mut Draws, hose: u32) -> (Name, Command)
 
 // One of the customers.
 fn draw_customer(draws: &mut Draws) -> Name
-    ensures name { result ≡ customer_at draws.old.state }
-    ensures state { draws.new.state ≡ next_state draws.old.state }
+    ensures name { result ≡ customer_name (draw 8 draws.old.state).0 }
+    ensures state { draws.new.state ≡ (draw 8 draws.old.state).1 }
 {
     numbered(b'c', draws.draw(8))
 }
@@ -120,8 +124,10 @@ fn draw_ends(
     requires enough { LEAST_NODES ≤ nodes }
     requires few { nodes ≤ MOST_NODES }
     requires counted { (LEAST_ENDS ≤ count) × (count < nodes) × (count ≤ 5) }
-    ensures ends { IfOk result (λ ends. ends.items ≡ first_ends nodes draws.old.state count) }
-    ensures state { OnOk result (draws.new.state ≡ after_ends draws.old.state count) }
+    ensures ends { IfOk result (λ ends. ends.items
+        ≡ (first_ends nodes draws.old.state count).0) }
+    ensures state { OnOk result
+        (draws.new.state ≡ (first_ends nodes draws.old.state count).1) }
     ensures makes { IfOk result (λ ends. MakesHose ends.items) }
     ensures nodes { IfOk result (λ ends. All (λ end. node_of end < nodes) ends.items) }
 {
@@ -137,8 +143,8 @@ fn draw_ends(
 fn draw_end(draws: &mut Draws, nodes: u32, ends: &[Endpoint]) -> Endpoint
     requires enough { LEAST_NODES ≤ nodes }
     requires few { nodes ≤ MOST_NODES }
-    ensures end { result ≡ endpoint_at nodes ends.now draws.old.state }
-    ensures state { draws.new.state ≡ next_state (next_state draws.old.state) }
+    ensures end { result ≡ (endpoint_at nodes ends.now draws.old.state).0 }
+    ensures state { draws.new.state ≡ (endpoint_at nodes ends.now draws.old.state).1 }
     ensures fits { IsEnd result }
     ensures within { node_of result < nodes }
     ensures free { length ends.now < nodes → has_node ends.now (node_of result) ≡ false }
