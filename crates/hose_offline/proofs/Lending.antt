@@ -1,4 +1,5 @@
--- A disk that is lent by a cabinet and comes back, and a name that is looked for among texts.
+-- A disk that is lent by a cabinet and comes back, a name that is looked for among texts, and two
+-- names that are told apart.
 use Rattle.std.proofs.Common.{◌≡◌, ◌∙◌, ℕ, List, Option, None, Some, IfSome, IsSome, IsTrue, Ok, Err, refl, ap, subst}
 use Rattle.hose_io.specs.declared.Failed.{Failed}
 use Rattle.hose_disk.specs.Cabinet.{CabinetFrame, IsDiskCall}
@@ -8,7 +9,7 @@ use Rattle.hose_disk.specs.declared.disk.Disk.{Ghosts as DiskGhosts}
 use Rattle.hose_offline.specs.Journal.{IsPutIn, IsTakenOut}
 use Rattle.hose_offline.specs.OnDisk.{OthersStay}
 use Rattle.hose_offline.specs.steps.Journal.{TouchesOnly}
-use Rattle.hose_offline.specs.Moving.{IsLent, IsLookedFor, IsNotFound, IsNotLent}
+use Rattle.hose_offline.specs.Moving.{AreApart, IsLent, IsLookedFor, IsNotFound, IsNotLent}
 
 module _ {C E : Type 0} (cabinet : CabinetGhosts C E) where
   -- where a disk was taken out and one was put back, the disks of other names are as they were
@@ -21,7 +22,7 @@ module _ {C E : Type 0} (cabinet : CabinetGhosts C E) where
   pub is_not_lent : (old new : C) → cabinet.held new ≡ cabinet.held old → {name : List ℕ} {failed : Failed} → IsDiskCall {T = E} name (cabinet.frame old) (cabinet.frame new) (Err failed) → IsNotLent cabinet old new
   is_not_lent old new same call = record { same = same; tells = call.tells; failed = call.met.failed refl }
 
-  pub is_not_found : (old new : C) → cabinet.text new ≡ cabinet.text old → cabinet.held new ≡ cabinet.held old → {failed : Failed} → IsTextCall {T = ℕ} (cabinet.frame old) (cabinet.frame new) (Err failed) → IsNotFound cabinet old new
+  pub is_not_found : (old new : C) → cabinet.text new ≡ cabinet.text old → cabinet.held new ≡ cabinet.held old → {T : Type 0} {failed : Failed} → IsTextCall {T = T} (cabinet.frame old) (cabinet.frame new) (Err failed) → IsNotFound cabinet old new
   is_not_found old new texts disks call = record {
     only_texts = record { texts = texts; disks = disks; stays = call.met.stays; returned = call.returned; out = call.out; tells = call.tells };
     failed = call.met.failed refl;
@@ -38,6 +39,14 @@ module _ {C E : Type 0} (cabinet : CabinetGhosts C E) where
       some : (found : Option (List ℕ)) → (found ≡ None → ⊥) → IsSome found
       some None never = absurd (never refl)
       some (Some bytes) never = refl
+
+  pub are_apart : (one other : List ℕ) (old new : C) → cabinet.text new ≡ cabinet.text old → cabinet.held new ≡ cabinet.held old → {T : Type 0} {done : T} → IsTextCall (cabinet.frame old) (cabinet.frame new) (Ok done) → cabinet.apart new one other → (one ≡ other → ⊥) → AreApart cabinet one other old new
+  are_apart one other old new texts disks call apart differ = record {
+    only_texts = record { texts = texts; disks = disks; stays = call.met.stays; returned = call.returned; out = call.out; tells = call.tells };
+    worked = call.met.ok;
+    apart = apart;
+    differ = differ;
+  }
 
   module _ (disk : DiskGhosts E) where
     pub is_lent : (name : List ℕ) (old mid new : C) (opened left : E) (Done : E → E → Type 0) → IsTakenOut cabinet disk name old mid opened

@@ -3,6 +3,7 @@ pub mod Audited
 pub mod Audits
 mod BookTalks
 mod Borrowed
+mod CutWhole
 mod EndsFound
 pub mod Exchanges
 mod FollowEnds

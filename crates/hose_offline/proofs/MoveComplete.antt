@@ -14,14 +14,13 @@ use Rattle.hose_disk.specs.declared.disk.Disk.{Ghosts as DiskGhosts}
 use Rattle.hose_journal.specs.Image.{Meaning, damaged, listed, other}
 use Rattle.hose_move.specs.Changing.{GoesOnFrom, IsFirstChange}
 use Rattle.hose_move.specs.Moving.{Moves, OnlyMoves, StandsForPart}
-use Rattle.hose_move.specs.Stating.{ReadsJournal, stated_entries}
+use Rattle.hose_move.specs.Stating.{Suffice, stated_entries}
 use Rattle.hose_move.specs.declared.changing.NetworkChange.{NetworkChange}
 use Rattle.hose_move.specs.declared.changing.NetworkChange.TheVariants as change
 use Rattle.hose_move.specs.declared.fault.MoveFault.{MoveFault}
 use Rattle.hose_move.specs.declared.fault.MoveFault.TheVariants as moving
 use Rattle.hose_move.specs.declared.stating.Scope.{Scope}
 use Rattle.hose_move.specs.declared.stating.Stated.{Stated}
-use Rattle.hose_store.specs.Opening.{IsUnchanged}
 use Rattle.hose_store.specs.Recovery.{IsHistoryOf, IsRecoveredAs}
 use Rattle.hose_store.specs.declared.fault.StoreFault.{StoreFault}
 use Rattle.hose_store.specs.declared.fault.StoreFault.TheVariants as store
@@ -31,7 +30,7 @@ use Rattle.hose_offline.specs.Ending.{IsOut, OutputWorked}
 use Rattle.hose_offline.specs.Fault.{status_of}
 use Rattle.hose_offline.specs.MoveEnd.{EndsMoved, moved_done, stop_status}
 use Rattle.hose_offline.specs.MoveOutcome.{CanTake, EachNamed, FitsMoved, IsMovable}
-use Rattle.hose_offline.specs.Moving.{EntersStated, IsComplete, IsLent, LendsDisk, LendsOld, MoveNames, MovesFrom, read_done, to_move, to_read}
+use Rattle.hose_offline.specs.Moving.{AreApart, EntersEnough, IsComplete, IsLent, LendsDisk, LendsOld, MoveNames, MovedJournals, MovesApart, MovesFrom, read_done, to_move, to_read}
 use Rattle.hose_offline.specs.OnDisk.{CabinetFailed, JournalIsTold}
 use Rattle.hose_offline.specs.Parts.{Parts, Tellings}
 use Rattle.hose_offline.specs.Run.{IsFor, IsServable}
@@ -57,7 +56,7 @@ Rose-out sink was mid now text (inr part) rose = Rose-again _ _ _ rose part.0
 -- ---- how a move ends
 
 -- a move came to its end, and this holds then; or memory was wanting
-abbrev Ends : Type 0 → Result Moved MoveStop → Type 0
+abbrev pub Ends : Type 0 → Result Moved MoveStop → Type 0
 Ends Holds (Ok moved) = Holds
 Ends Holds (Err why) = stop_status why ≡ 7
 
@@ -83,7 +82,7 @@ module _ {C E : Type 0} (cabinet : CabinetGhosts C E) (disk : DiskGhosts E) wher
   told_later : (name : List ℕ) (one two : C) (Is : List ℕ → Type 0) → cabinet.held two name ≡ cabinet.held one name → (cabinet.frame two).tells ≡ (cabinet.frame one).tells → JournalIsTold cabinet disk one (Some name) Is → JournalIsTold cabinet disk two (Some name) Is
   told_later name one two Is same tells told = (tells ∙ told.0, told.1, same ∙ told.2, told.3, told.4, told.5)
 
-  after_texts : (name : List ℕ) (one two : C) (Is : List ℕ → Type 0) → OnlyTextsRead cabinet one two → JournalIsTold cabinet disk one (Some name) Is → JournalIsTold cabinet disk two (Some name) Is
+  pub after_texts : (name : List ℕ) (one two : C) (Is : List ℕ → Type 0) → OnlyTextsRead cabinet one two → JournalIsTold cabinet disk one (Some name) Is → JournalIsTold cabinet disk two (Some name) Is
   after_texts name one two Is only = told_later name one two Is (ap (λ (held : List ℕ → Option E). held name) only.disks) only.tells
 
   module _ (name : List ℕ) (old new : C) (Done : E → E → Type 0) (lent : IsLent cabinet disk name old new Done) where
@@ -128,7 +127,7 @@ module _ {C E : Type 0} (cabinet : CabinetGhosts C E) (disk : DiskGhosts E) wher
     module _ (name : List ℕ) (which : Scope) (old new : C) (Is : List Entry → Type 0) (told : JournalIsTold cabinet disk old (Some name) (λ bytes. (history : List Entry) × IsHistoryOf network history bytes × Is history)) where
       -- a journal that stands for a history is not read for want of memory alone
       read_refused : (why : Fault) (read : Result Stated StoreFault) → Err why ≡ read_done read → Stays (object_of (cabinet.frame first)) (object_of (cabinet.frame old)) → ¬ CabinetFailed cabinet first new
-          → IsLent cabinet disk name old new (λ opened left. ReadsJournal disk opened left network which read × IsUnchanged disk opened left) → status_of why ≡ 7
+          → IsLent cabinet disk name old new ((to_read disk network which).IsDone read) → status_of why ≡ 7
       read_refused why (Ok stated) same stays none lent = absurd (cc same)
       read_refused why (Err store.Disk) same stays none lent = absurd (none (Rose-later _ _ _ stays (lent_failed name old new _ lent lent.done.0.told)))
       read_refused why (Err (store.Other kept given)) same stays none lent =
@@ -142,7 +141,7 @@ module _ {C E : Type 0} (cabinet : CabinetGhosts C E) (disk : DiskGhosts E) wher
           ap status_of is
 
       -- what is stated is of the history that was told
-      read_stated : (stated : Stated) (read : Result Stated StoreFault) → Ok stated ≡ read_done read → IsLent cabinet disk name old new (λ opened left. ReadsJournal disk opened left network which read × IsUnchanged disk opened left)
+      read_stated : (stated : Stated) (read : Result Stated StoreFault) → Ok stated ≡ read_done read → IsLent cabinet disk name old new ((to_read disk network which).IsDone read)
           → (history : List Entry) × (stated.entries.items ≡ stated_entries which network history) × Is history
       read_stated stated (Ok found) same lent =
           let is = told_read name old new _ lent _ told in
@@ -186,7 +185,55 @@ module _ {C E : Type 0} (cabinet : CabinetGhosts C E) (disk : DiskGhosts E) wher
     new_ends result (inl (same, not)) = absurd (none (Rose-later _ _ _ stays not.failed))
     new_ends result (inr (moved, same, lent)) = subst (Ends Holds) (sym same) (moved_ends moved lent)
 
--- ---- step by step
+-- ---- from one journal to the other
+
+module _ {I O C E : Type 0} (tells : Tellings I O C E) (journals : MovedJournals) (first : C) (before after : Parts I O C) (old new : Network)
+    (one : (image : List ℕ) (one two : Meaning Entry) → IsRecoveredAs old image one → IsRecoveredAs old image two → one ≡ two) (apart : journals.new ≢ journals.old)
+    (stays : Stays (object_of (tells.cabinet.frame first)) (object_of (tells.cabinet.frame before.cabinet)))
+    (still : (name : List ℕ) (Is : List ℕ → Type 0) → JournalIsTold tells.cabinet tells.disk first (Some name) Is → JournalIsTold tells.cabinet tells.disk before.cabinet (Some name) Is)
+    (not_put : ¬ Rose (tells.sink.frame before.output) (tells.sink.frame after.output)) (none : ¬ CabinetFailed tells.cabinet first after.cabinet) (can : CanTake tells.cabinet tells.disk journals first old new) where
+  abbrev Worked : Type 0
+  Worked = OutputWorked tells.sink before.output after.output
+
+  -- what is told of the history of the old journal
+  abbrev TakesIt : List Entry → Type 0
+  TakesIt = FitsMoved tells.cabinet tells.disk journals first old new
+
+  module _ (c1 : C) (seen : AreApart tells.cabinet journals.old journals.new before.cabinet c1) where
+    stays_1 : Stays (object_of (tells.cabinet.frame first)) (object_of (tells.cabinet.frame c1))
+    stays_1 = Stays-next stays seen.only_texts.stays
+
+    told_1 : JournalIsTold tells.cabinet tells.disk c1 (Some journals.old) (λ bytes. (history : List Entry) × IsHistoryOf old history bytes × TakesIt history)
+    told_1 = after_texts tells.cabinet tells.disk journals.old before.cabinet c1 _ seen.only_texts (still journals.old _ can)
+
+    module _ (stated : Stated) (c3 c4 : C) (looked : OnlyTextsRead tells.cabinet c1 c3) (read : Result Stated StoreFault) (same : Ok stated ≡ read_done read)
+        (lent : IsLent tells.cabinet tells.disk journals.old c3 c4 ((to_read tells.disk old journals.scope).IsDone read)) where
+      stays_4 : Stays (object_of (tells.cabinet.frame first)) (object_of (tells.cabinet.frame c4))
+      stays_4 = Stays-next (Stays-next stays_1 looked.stays) (lent_stays tells.cabinet tells.disk journals.old c3 c4 _ lent)
+
+      was : (history : List Entry) × (stated.entries.items ≡ stated_entries journals.scope old history) × TakesIt history
+      was = read_stated tells.cabinet tells.disk first old one journals.old journals.scope c3 c4 TakesIt (after_texts tells.cabinet tells.disk journals.old c1 c3 _ looked told_1) stated read same lent
+
+      to_new : (Is : List ℕ → Type 0) → JournalIsTold tells.cabinet tells.disk first (Some journals.new) Is → JournalIsTold tells.cabinet tells.disk c4 (Some journals.new) Is
+      to_new Is told = lent_later tells.cabinet tells.disk journals.old c3 c4 _ lent journals.new Is apart (after_texts tells.cabinet tells.disk journals.new c1 c3 Is looked
+          (after_texts tells.cabinet tells.disk journals.new before.cabinet c1 Is seen.only_texts (still journals.new Is told)))
+
+      entered : (result : Result Moved MoveStop) → EntersEnough tells journals (record before { cabinet = c4 }) after new stated result → Ends Worked result
+      entered result (inl (few, is, out, held)) = absurd (few (subst (λ (es : List Entry). Suffice journals.scope (length es)) (sym was.1) was.2.2))
+      entered result (inr (enough, inl (is, rose, part, held))) = absurd (not_put rose)
+      entered result (inr (enough, inr (out, worked, moves))) = new_ends tells.cabinet tells.disk journals.new first c4 after.cabinet new stated.entries.items Worked worked stays_4 none
+          (subst (IsSound new 0) (sym was.1) was.2.0)
+          (subst (λ (es : List Entry). JournalIsTold tells.cabinet tells.disk c4 (Some journals.new) (StandsForPart new es)) (sym was.1) (to_new _ was.2.1)) result moves
+
+  pub apart_ends : (result : Result Moved MoveStop) → MovesApart tells journals before after old new result → Ends Worked result
+  apart_ends result (inl (same, not, out)) = absurd (none (Rose-later _ _ _ stays not.failed))
+  apart_ends result (inr (c1, seen, inl (why, same, not, out))) =
+      subst (Ends Worked) (sym same) (old_journal tells.cabinet tells.disk first old one journals.old journals.scope c1 after.cabinet TakesIt why (told_1 c1 seen) (stays_1 c1 seen) none not)
+  apart_ends result (inr (c1, seen, inr (stated, c4, inl (same, not), enters))) = absurd (cc same)
+  apart_ends result (inr (c1, seen, inr (stated, c4, inr (c3, looked, inl (same, not)), enters))) = absurd (cc same)
+  apart_ends result (inr (c1, seen, inr (stated, c4, inr (c3, looked, inr (read, same, lent)), enters))) = entered c1 seen stated c3 c4 looked.only_texts read same lent result enters
+
+-- ---- a move, step by step
 
 -- a network that goes on has no first change
 no_change : (old new : Network) (first : NetworkChange) → GoesOnFrom old new → IsFirstChange old new (Some first) → ⊥
@@ -196,16 +243,16 @@ no_change old new (change.Link link) goes_on is = is.1.changed (goes_on.links li
 module _ {I O C E : Type 0} (tells : Tellings I O C E) (names : MoveNames) (before after : Parts I O C) (old : Network) (c1 : C)
     (one : (image : List ℕ) (one two : Meaning Entry) → IsRecoveredAs old image one → IsRecoveredAs old image two → one ≡ two) (movable : IsMovable tells.cabinet tells.disk names before.cabinet)
     (not_put : ¬ Rose (tells.sink.frame before.output) (tells.sink.frame after.output)) (none : ¬ CabinetFailed tells.cabinet before.cabinet after.cabinet) where
-  abbrev Worked : Type 0
-  Worked = OutputWorked tells.sink before.output after.output
+  abbrev MoveWorked : Type 0
+  MoveWorked = OutputWorked tells.sink before.output after.output
 
   -- what is told of the old network and of a new one
   abbrev Taken : Network → Type 0
-  Taken new = GoesOnFrom old new × CanTake tells.cabinet tells.disk names before.cabinet old new
+  Taken new = GoesOnFrom old new × CanTake tells.cabinet tells.disk names.journals before.cabinet old new
 
   module _ (reads : ReadsTopology tells.cabinet before.cabinet c1 names.prices names.topology (Ok old)) where
     each_new : IsFor (notation_of names.new_topology) names.prices (whole_text tells.cabinet before.cabinet names.new_topology) Taken
-    each_new = of_read (notation_of names.topology) names.prices _ _ reads.taken old (λ old'. EachNamed tells.cabinet tells.disk names before.cabinet names.new_topology (λ new. GoesOnFrom old' new × CanTake tells.cabinet tells.disk names before.cabinet old' new)) reads.gives reads.text.2 movable.moves
+    each_new = of_read (notation_of names.topology) names.prices _ _ reads.taken old (λ old'. EachNamed tells.cabinet tells.disk names before.cabinet names.new_topology (λ new. GoesOnFrom old' new × CanTake tells.cabinet tells.disk names.journals before.cabinet old' new)) reads.gives reads.text.2 movable.moves
 
     same_new : whole_text tells.cabinet c1 names.new_topology ≡ whole_text tells.cabinet before.cabinet names.new_topology
     same_new = same_stream tells.cabinet before.cabinet c1 names.new_topology 0 reads.only_texts
@@ -214,58 +261,29 @@ module _ {I O C E : Type 0} (tells : Tellings I O C E) (names : MoveNames) (befo
     taken new c2 reads' = of_read (notation_of names.new_topology) names.prices _ _ reads'.taken new Taken reads'.gives reads'.text.2
         (subst (λ (text : Option _). IsFor (notation_of names.new_topology) names.prices text Taken) (sym same_new) each_new)
 
-    module _ (new : Network) (c2 : C) (reads' : ReadsTopology tells.cabinet c1 c2 names.prices names.new_topology (Ok new)) where
-      stays_2 : Stays (object_of (tells.cabinet.frame before.cabinet)) (object_of (tells.cabinet.frame c2))
-      stays_2 = Stays-next reads.only_texts.stays reads'.only_texts.stays
+    still_on : (new : Network) (c2 : C) → ReadsTopology tells.cabinet c1 c2 names.prices names.new_topology (Ok new) → (name : List ℕ) (Is : List ℕ → Type 0) → JournalIsTold tells.cabinet tells.disk before.cabinet (Some name) Is → JournalIsTold tells.cabinet tells.disk c2 (Some name) Is
+    still_on new c2 reads' name Is told = after_texts tells.cabinet tells.disk name c1 c2 Is reads'.only_texts (after_texts tells.cabinet tells.disk name before.cabinet c1 Is reads.only_texts told)
 
-      -- what is told of the history of the old journal
-      abbrev TakesIt : List Entry → Type 0
-      TakesIt = FitsMoved tells.cabinet tells.disk names before.cabinet old new
-
-      told_2 : JournalIsTold tells.cabinet tells.disk c2 (Some names.journals.old) (λ bytes. (history : List Entry) × IsHistoryOf old history bytes × TakesIt history)
-      told_2 = after_texts tells.cabinet tells.disk names.journals.old c1 c2 _ reads'.only_texts (after_texts tells.cabinet tells.disk names.journals.old before.cabinet c1 _ reads.only_texts (taken new c2 reads').1)
-
-      module _ (stated : Stated) (c3 c4 : C) (looked : OnlyTextsRead tells.cabinet c2 c3) (read : Result Stated StoreFault) (same : Ok stated ≡ read_done read)
-          (lent : IsLent tells.cabinet tells.disk names.journals.old c3 c4 (λ opened left. ReadsJournal tells.disk opened left old names.journals.scope read × IsUnchanged tells.disk opened left)) where
-        stays_4 : Stays (object_of (tells.cabinet.frame before.cabinet)) (object_of (tells.cabinet.frame c4))
-        stays_4 = Stays-next (Stays-next stays_2 looked.stays) (lent_stays tells.cabinet tells.disk names.journals.old c3 c4 _ lent)
-
-        was : (history : List Entry) × (stated.entries.items ≡ stated_entries names.journals.scope old history) × TakesIt history
-        was = read_stated tells.cabinet tells.disk before.cabinet old one names.journals.old names.journals.scope c3 c4 TakesIt (after_texts tells.cabinet tells.disk names.journals.old c2 c3 _ looked told_2) stated read same lent
-
-        to_new : (Is : List ℕ → Type 0) → JournalIsTold tells.cabinet tells.disk before.cabinet (Some names.journals.new) Is → JournalIsTold tells.cabinet tells.disk c4 (Some names.journals.new) Is
-        to_new Is told = lent_later tells.cabinet tells.disk names.journals.old c3 c4 _ lent names.journals.new Is movable.apart (after_texts tells.cabinet tells.disk names.journals.new c2 c3 Is looked
-            (after_texts tells.cabinet tells.disk names.journals.new c1 c2 Is reads'.only_texts (after_texts tells.cabinet tells.disk names.journals.new before.cabinet c1 Is reads.only_texts told)))
-
-        entered : (result : Result Moved MoveStop) → EntersStated tells names.journals.new (record before { cabinet = c4 }) after new stated result → Ends Worked result
-        entered result (inl (is, rose, part, held)) = absurd (not_put rose)
-        entered result (inr (out, worked, moves)) = new_ends tells.cabinet tells.disk names.journals.new before.cabinet c4 after.cabinet new stated.entries.items Worked worked stays_4 none
-            (subst (IsSound new 0) (sym was.1) was.2.0)
-            (subst (λ (es : List Entry). JournalIsTold tells.cabinet tells.disk c4 (Some names.journals.new) (StandsForPart new es)) (sym was.1) (to_new _ was.2.1)) result moves
-
-    from_ends : (result : Result Moved MoveStop) → MovesFrom tells names (record before { cabinet = c1 }) after old result → Ends Worked result
-    from_ends result (inl (why, same, reads', out)) = subst (Ends Worked) (sym same) (text_refused tells.cabinet before.cabinet c1 after.cabinet names.prices names.new_topology why reads.only_texts.stays reads' (subst (IsServable (notation_of names.new_topology)) (sym same_new) movable.new_servable) none)
+    from_ends : (result : Result Moved MoveStop) → MovesFrom tells names (record before { cabinet = c1 }) after old result → Ends MoveWorked result
+    from_ends result (inl (why, same, reads', out)) = subst (Ends MoveWorked) (sym same) (text_refused tells.cabinet before.cabinet c1 after.cabinet names.prices names.new_topology why reads.only_texts.stays reads' (subst (IsServable (notation_of names.new_topology)) (sym same_new) movable.new_servable) none)
     from_ends result (inr (new, c2, reads', inl (first, same, is, out, held))) = absurd (no_change old new first (taken new c2 reads').0 is)
-    from_ends result (inr (new, c2, reads', inr (goes_on, inl (why, same, not, out)))) =
-        subst (Ends Worked) (sym same) (old_journal tells.cabinet tells.disk before.cabinet old one names.journals.old names.journals.scope c2 after.cabinet (TakesIt new c2 reads') why (told_2 new c2 reads') (stays_2 new c2 reads') none not)
-    from_ends result (inr (new, c2, reads', inr (goes_on, inr (stated, c4, inl (same, not), enters)))) = absurd (cc same)
-    from_ends result (inr (new, c2, reads', inr (goes_on, inr (stated, c4, inr (c3, looked, inl (same, not)), enters)))) = absurd (cc same)
-    from_ends result (inr (new, c2, reads', inr (goes_on, inr (stated, c4, inr (c3, looked, inr (read, same, lent)), enters)))) = entered new c2 reads' stated c3 c4 looked.only_texts read same lent result enters
+    from_ends result (inr (new, c2, reads', inr (goes_on, moves))) =
+        apart_ends tells names.journals before.cabinet (record before { cabinet = c2 }) after old new one movable.apart (Stays-next reads.only_texts.stays reads'.only_texts.stays) (still_on new c2 reads') not_put none (taken new c2 reads').1 result moves
 
 -- ---- the outcome
 
-module _ {I O C E : Type 0} (tells : Tellings I O C E) (names : MoveNames) (before after : Parts I O C) (now : O) where
-  rose_out : (done : Result Moved MoveStop) (status : ℕ) → EndsMoved tells.sink after.output now status done → Rose (tells.sink.frame before.output) (tells.sink.frame after.output) → Rose (tells.sink.frame before.output) (tells.sink.frame now)
+module _ {I O C E : Type 0} (tells : Tellings I O C E) (before after : Parts I O C) (now : O) where
+  pub rose_out : (done : Result Moved MoveStop) (status : ℕ) → EndsMoved tells.sink after.output now status done → Rose (tells.sink.frame before.output) (tells.sink.frame after.output) → Rose (tells.sink.frame before.output) (tells.sink.frame now)
   rose_out (Ok moved) status (inl whole) rose = subst (Rose (tells.sink.frame before.output)) (sym whole.2) rose
   rose_out (Ok moved) status (inr part) rose = Rose-again _ _ _ rose part.1
   rose_out (Err why) status ends rose = Rose-out tells.sink before.output after.output now _ ends.1 rose
 
-  ends_so : (done : Result Moved MoveStop) (status : ℕ) → EndsMoved tells.sink after.output now status done → Ends (OutputWorked tells.sink before.output after.output) done → ¬ Rose (tells.sink.frame before.output) (tells.sink.frame now) → (status ≡ 0) ⊎ (status ≡ 7)
+  pub ends_so : (done : Result Moved MoveStop) (status : ℕ) → EndsMoved tells.sink after.output now status done → Ends (OutputWorked tells.sink before.output after.output) done → ¬ Rose (tells.sink.frame before.output) (tells.sink.frame now) → (status ≡ 0) ⊎ (status ≡ 7)
   ends_so (Ok moved) status (inl whole) worked not_put = inl whole.0
   ends_so (Ok moved) status (inr part) worked not_put = absurd (not_put (subst (λ (f : Frame). Rose f (tells.sink.frame now)) worked part.1))
   ends_so (Err why) status ends is not_put = inr (ends.0 ∙ is)
 
-  pub completes : (old : Network) (c1 : C) (done : Result Moved MoveStop) (status : ℕ) → ((image : List ℕ) (one two : Meaning Entry) → IsRecoveredAs old image one → IsRecoveredAs old image two → one ≡ two) → ReadsTopology tells.cabinet before.cabinet c1 names.prices names.topology (Ok old)
+  pub completes : (names : MoveNames) (old : Network) (c1 : C) (done : Result Moved MoveStop) (status : ℕ) → ((image : List ℕ) (one two : Meaning Entry) → IsRecoveredAs old image one → IsRecoveredAs old image two → one ≡ two) → ReadsTopology tells.cabinet before.cabinet c1 names.prices names.topology (Ok old)
       → MovesFrom tells names (record before { cabinet = c1 }) after old done → EndsMoved tells.sink after.output now status done → IsMovable tells.cabinet tells.disk names before.cabinet → ¬ Rose (tells.sink.frame before.output) (tells.sink.frame now) → ¬ CabinetFailed tells.cabinet before.cabinet after.cabinet → (status ≡ 0) ⊎ (status ≡ 7)
-  completes old c1 done status one reads moves ends movable not_put none =
+  completes names old c1 done status one reads moves ends movable not_put none =
       ends_so done status ends (from_ends tells names before after old c1 one movable (λ rose. not_put (rose_out done status ends rose)) none reads done moves) not_put

@@ -14,7 +14,7 @@ use Rattle.hose_store.specs.declared.fault.StoreFault.TheVariants as store
 use Rattle.hose_offline.specs.Fault.{of_store, status_of}
 use Rattle.hose_offline.specs.MoveEnd.{EndsMoved, moved_done, stop_status}
 use Rattle.hose_offline.specs.MoveOutcome.{MoveOutcome}
-use Rattle.hose_offline.specs.Moving.{EntersStated, LendsDisk, LendsOld, MoveNames, MovedJournals, MovesFrom, MovesNamed, MovesBetween, MovesStated, read_done, to_move, to_read}
+use Rattle.hose_offline.specs.Moving.{EntersEnough, EntersStated, LendsDisk, LendsOld, MoveNames, MovedJournals, MovesApart, MovesBetween, MovesFrom, MovesNamed, MovesStated, read_done, to_move, to_read}
 use Rattle.hose_offline.specs.Parts.{Parts, Tellings}
 use Rattle.hose_offline.specs.declared.fault.Fault.{Fault}
 use Rattle.hose_offline.specs.declared.move_end.MoveStop.{MoveStop}
@@ -22,7 +22,7 @@ use Rattle.hose_offline.specs.declared.move_end.Moved.{Moved}
 use Rattle.hose_offline.proofs.MoveTexts.{topology_not_1}
 
 -- the status of what a move came to, before its last line
-abbrev done_status : Result Moved MoveStop → ℕ
+abbrev pub done_status : Result Moved MoveStop → ℕ
 done_status (Ok moved) = 0
 done_status (Err stop) = stop_status stop
 
@@ -67,13 +67,21 @@ module _ {I O C E : Type 0} (tells : Tellings I O C E) where
   enters_not_1 name before after network stated result (inl (same, rose, part, cabinet)) one = omega (arith, sym (ap done_status same) ∙ one)
   enters_not_1 name before after network stated result (inr (out, worked, moves)) one = new_not_1 tells.cabinet tells.disk name before.cabinet after.cabinet network stated.entries.items result moves one
 
+  enough_not_1 : (journals : MovedJournals) (before after : Parts I O C) (network : Network) (stated : Stated) (result : Result Moved MoveStop) → EntersEnough tells journals before after network stated result → done_status result ≡ 1 → ⊥
+  enough_not_1 journals before after network stated result (inl (few, same, out, cabinet)) one = omega (arith, sym (ap done_status same) ∙ one)
+  enough_not_1 journals before after network stated result (inr (enough, enters)) one = enters_not_1 journals.new before after network stated result enters one
+
   stated_not_1 : (journals : MovedJournals) (before after : Parts I O C) (old new : Network) (result : Result Moved MoveStop) → MovesStated tells journals before after old new result → done_status result ≡ 1 → ⊥
   stated_not_1 journals before after old new result (inl (why, same, reads, out)) one = old_not_1 tells.cabinet tells.disk journals.old journals.scope before.cabinet after.cabinet old (Err why) reads (sym (ap done_status same) ∙ one)
-  stated_not_1 journals before after old new result (inr (stated, read, reads, enters)) one = enters_not_1 journals.new (record before { cabinet = read }) after new stated result enters one
+  stated_not_1 journals before after old new result (inr (stated, read, reads, enters)) one = enough_not_1 journals (record before { cabinet = read }) after new stated result enters one
+
+  pub apart_not_1 : (journals : MovedJournals) (before after : Parts I O C) (old new : Network) (result : Result Moved MoveStop) → MovesApart tells journals before after old new result → done_status result ≡ 1 → ⊥
+  apart_not_1 journals before after old new result (inl (same, none, out)) one = omega (arith, sym (ap done_status same) ∙ one)
+  apart_not_1 journals before after old new result (inr (seen, apart, moves)) one = stated_not_1 journals (record before { cabinet = seen }) after old new result moves one
 
   on_not_1 : (journals : MovedJournals) (before after : Parts I O C) (old new : Network) (result : Result Moved MoveStop) → MovesBetween tells journals before after old new result → done_status result ≡ 1 → ⊥
   on_not_1 journals before after old new result (inl (change, same, first, out, cabinet)) one = omega (arith, sym (ap done_status same) ∙ one)
-  on_not_1 journals before after old new result (inr (goes_on, moves)) one = stated_not_1 journals before after old new result moves one
+  on_not_1 journals before after old new result (inr (goes_on, moves)) one = apart_not_1 journals before after old new result moves one
 
   from_not_1 : (names : MoveNames) (before after : Parts I O C) (old : Network) (result : Result Moved MoveStop) → MovesFrom tells names before after old result → done_status result ≡ 1 → ⊥
   from_not_1 names before after old result (inl (why, same, reads, out)) one = topology_not_1 tells.cabinet before.cabinet after.cabinet names.prices names.new_topology why reads (sym (ap done_status same) ∙ one)
@@ -84,7 +92,7 @@ module _ {I O C E : Type 0} (tells : Tellings I O C E) where
   named_not_1 names before after result (inr (old, read, reads, moves)) one = from_not_1 names (record before { cabinet = read }) after old result moves one
 
 -- the status of a move, by its last line
-ends_not_1 : {O : Type 0} (sink : SinkGhosts O) (was now : O) (status : ℕ) (result : Result Moved MoveStop) → EndsMoved sink was now status result → (done_status result ≡ 1 → ⊥) → status ≡ 1 → ⊥
+pub ends_not_1 : {O : Type 0} (sink : SinkGhosts O) (was now : O) (status : ℕ) (result : Result Moved MoveStop) → EndsMoved sink was now status result → (done_status result ≡ 1 → ⊥) → status ≡ 1 → ⊥
 ends_not_1 sink was now status (Ok moved) (inl whole) never one = omega (arith, sym whole.0 ∙ one)
 ends_not_1 sink was now status (Ok moved) (inr part) never one = omega (arith, sym part.0 ∙ one)
 ends_not_1 sink was now status (Err stop) ends never one = never (sym ends.0 ∙ one)

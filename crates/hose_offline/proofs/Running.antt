@@ -26,7 +26,7 @@ use Rattle.hose_io.specs.declared.sink.Sink.{Ghosts as SinkGhosts}
 use Rattle.hose_offline.specs.RunOutcome.{RunLeaves}
 use Rattle.hose_offline.specs.Parts.{Tellings, parts}
 use Rattle.hose_offline.specs.Run.{HasRun, IsCutOff, IsRun, IsRunUpTo, Keeping, TellsNoNetwork}
-use Rattle.hose_words.specs.Saying.{IsAllTaken, IsLeftOver, SayLines}
+use Rattle.hose_words.specs.Saying.{IsAllTaken, SayLines}
 use Rattle.hose_proto.specs.ReplyText.{line_of, reply_text}
 use Rattle.hose_proto.specs.Replies.{CutsLast, texts_of}
 use Rattle.hose_offline.specs.TopologyTold.{TellsPriced}
@@ -37,7 +37,7 @@ use Rattle.hose_offline.specs.steps.Fault.{of_topology}
 use Rattle.hose_talk.specs.Talk.{talk}
 use Rattle.hose_offline.specs.Talking.{IsAskedBy, Says, TellsDisks}
 use Rattle.hose_offline.specs.steps.Talking.{Talks, talk_tellings, book_terms}
-use Rattle.hose_talk.specs.Talk.{AllOut, LastCut, TalksTo, TalksUpTo}
+use Rattle.hose_talk.specs.Talk.{AllOut, IsLeftNear, LastCut, TalksTo, TalksUpTo}
 use Rattle.hose_talk.specs.steps.Talk.{KeepsFault}
 use Rattle.hose_talk.specs.declared.talking.TalkEnd.{TalkEnd}
 use Rattle.hose_talk.specs.declared.talking.TalkEnd.TheVariants as talk_end
@@ -230,5 +230,5 @@ module _ (prices : Network → Network → Type 0) {S O : Type 0} (source : Ghos
         at (Ok talk_end.Over) kept talks = absurd (cc talks.0.1)
         at (Err talk_fault.Read) kept talks = at_read (run_until line.Read kept.1 talks.0.0) talks.2 (rw held_before at talks.1)
         at (Err talk_fault.TooLong) kept talks = at_too_long (run_until line.TooLong kept.1 talks.0.0) talks.2 (held_over (λ read. absurd (cc (kept.0, read))))
-        at (Err talk_fault.Write) kept talks = at_write (record { run = has_run IsLeftOver _ (whatever_before (IsLeftOver [])) talks.0; out = cut talks.0.replies talks.0.out })
+        at (Err talk_fault.Write) kept talks = at_write (record { run = has_run IsLeftNear _ (whatever_before (IsLeftNear [])) talks.0; out = cut talks.0.replies talks.0.out })
             (held_over (λ read. absurd (cc (kept, read)))) talks.2

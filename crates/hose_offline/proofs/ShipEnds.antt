@@ -15,14 +15,14 @@ use Rattle.hose_journal.specs.Image.{IsClosed, IsUnbegun, Meaning}
 use Rattle.hose_journal.specs.Layout.{chained_version}
 use Rattle.hose_journal.specs.Moments.{LeavesOnly}
 use Rattle.hose_journal.specs.Opening.{AddsNoRecord}
-use Rattle.hose_store.specs.Entries.{BeginsWith}
+use Rattle.hose_store.specs.Entries.{BeginsWith, IsDamagedAfter}
 use Rattle.hose_store.specs.Opening.{IsAtOpening}
 use Rattle.hose_store.specs.Recovery.{IsHistoryOf, IsRecoveredAs, digest_of}
 use Rattle.hose_store.specs.Replaying.{KeepsRead}
 use Rattle.hose_store.specs.declared.fault.StoreFault.{StoreFault}
 use Rattle.hose_store.specs.declared.fault.StoreFault.TheVariants as store
 use Rattle.hose_follow.specs.Packet.{Packet, packets_bytes, packets_from}
-use Rattle.hose_follow.specs.steps.Shipping.{Ships, ShipsUpTo, shipment}
+use Rattle.hose_follow.specs.steps.Shipping.{Ships, ShipsBefore as ShipsUpToDamage, ShipsUpTo, shipment}
 use Rattle.hose_follow.specs.declared.shipping.ShipFault.{ShipFault}
 use Rattle.hose_follow.specs.declared.shipping.ShipFault.TheVariants.{Store, Write}
 use Rattle.hose_offline.specs.Auditing.{PricedNames, ReadsTopology}
@@ -32,7 +32,7 @@ use Rattle.hose_offline.specs.steps.Journal.{TouchesOnly}
 use Rattle.hose_offline.specs.OnDisk.{CabinetFailed, HadContent, IsUnopened, JournalIsTold}
 use Rattle.hose_offline.specs.Parts.{Parts, Tellings}
 use Rattle.hose_offline.specs.ServingOnDisk.{IsNotServed}
-use Rattle.hose_offline.specs.ShipOutcome.{IsLeftWithoutRecord, IsReadAsBefore, ShipOutcome, ShipsJournal, ShipsPart, to_ship}
+use Rattle.hose_offline.specs.ShipOutcome.{AreAllBeforeDamage, IsLeftWithoutRecord, IsReadAsBefore, ShipOutcome, ShipsBefore, ShipsJournal, ShipsPart, to_ship}
 use Rattle.hose_offline.specs.steps.ShipOutcome.{shipping_done}
 use Rattle.hose_offline.specs.declared.fault.Fault.{Fault}
 use Rattle.hose_offline.specs.declared.fault.Fault.TheVariants as fault
@@ -57,7 +57,10 @@ module _ {I O C E : Type 0} (tells : Tellings I O C E) (name : List ℕ) (from :
   pub none_shipped : tells.cabinet.held after.cabinet ≡ tells.cabinet.held before.cabinet → CabinetFailed tells.cabinet before.cabinet after.cabinet → after.output ≡ before.output → ShipsJournal tells name from before after network (Err fault.Cabinet)
   none_shipped same failed no_output = (
     (inl same, failed),
-    record { entries = []; sound = tt; held = inl refl; out = subst (λ (o : O). Grows (tells.sink.content before.output) (tells.sink.content o) (packets_bytes (packets_from network from []))) (sym no_output) (none_out network from (tells.sink.content before.output)) },
+    record {
+      part = record { entries = []; sound = tt; held = inl refl; out = subst (λ (o : O). Grows (tells.sink.content before.output) (tells.sink.content o) (packets_bytes (packets_from network from []))) (sym no_output) (none_out network from (tells.sink.content before.output)) };
+      all = tt;
+    },
     ap tells.sink.frame no_output,
     inl same,
   )
@@ -74,6 +77,13 @@ module _ {I O C E : Type 0} (tells : Tellings I O C E) (name : List ℕ) (from :
         at : (up.entries ≡ []) ⊎ IfSome (tells.disk.content opened) (BeginsWith (digest_of network) up.entries) → (up.entries ≡ []) ⊎ HadContent tells.cabinet tells.disk before.cabinet name (BeginsWith (digest_of network) up.entries)
         at (inl none) = inl none
         at (inr begins) = inr (held_as tells.cabinet tells.disk name before.cabinet mid after.cabinet network opened left back (BeginsWith (digest_of network) up.entries) begins)
+
+    all_before : (at : ℕ) → ShipsUpToDamage tells.disk (shipment opened network from) (Grows (tells.sink.content before.output) (tells.sink.content after.output)) (store.Damaged at) → ShipsBefore tells name from before after network (fault.Damaged at)
+    unfolding part
+    all_before at up = record {
+      part = part _ up.part;
+      all = held_as tells.cabinet tells.disk name before.cabinet mid after.cabinet network opened left back (IsDamagedAfter network up.part.entries at) up.all;
+    }
 
     as_before : KeepsRead tells.disk opened left network → IsReadAsBefore tells name from before after network
     as_before keeps = left_as tells.cabinet tells.disk name before.cabinet mid after.cabinet network opened left back (λ was now. KeepsRead tells.disk was now network)
@@ -98,10 +108,10 @@ module _ {I O C E : Type 0} (tells : Tellings I O C E) (name : List ℕ) (from :
         read = as_before ships.3;
       }
       ships_in (Err Write) ships = (part _ ships.0, ships.1.rose, as_before ships.2)
-      ships_in (Err (Store store.Disk)) ships = (not_shipped store.Disk ships, part _ ships.0, ships.1, without_record ships.3)
-      ships_in (Err (Store (store.Other kept given))) ships = (not_shipped (store.Other kept given) ships, part _ ships.0, ships.1, without_record ships.3)
-      ships_in (Err (Store (store.Damaged at))) ships = (not_shipped (store.Damaged at) ships, part _ ships.0, ships.1, without_record ships.3)
-      ships_in (Err (Store store.Memory)) ships = (not_shipped store.Memory ships, part _ ships.0, ships.1, without_record ships.3)
+      ships_in (Err (Store store.Disk)) ships = (not_shipped store.Disk ships, record { part = part _ ships.0.part; all = tt }, ships.1, without_record ships.3)
+      ships_in (Err (Store (store.Other kept given))) ships = (not_shipped (store.Other kept given) ships, record { part = part _ ships.0.part; all = tt }, ships.1, without_record ships.3)
+      ships_in (Err (Store (store.Damaged at))) ships = (not_shipped (store.Damaged at) ships, all_before at ships.0, ships.1, without_record ships.3)
+      ships_in (Err (Store store.Memory)) ships = (not_shipped store.Memory ships, record { part = part _ ships.0.part; all = tt }, ships.1, without_record ships.3)
 
 -- ---- the outcome
 
@@ -124,6 +134,11 @@ module _ {I O C E : Type 0} (tells : Tellings I O C E) (from : ℕ) where
           at (inl none) = inl none
           at (inr held) = inr (held_before tells.cabinet tells.disk before.cabinet read after.cabinet reads.only_texts names.journal _ held)
 
+      all_too : (why : Fault) → ((entries : List Entry) → AreAllBeforeDamage tells names.journal from (record before { cabinet = read }) after network entries why → AreAllBeforeDamage tells names.journal from before after network entries why)
+          → ShipsBefore tells names.journal from (record before { cabinet = read }) after network why → ShipsBefore tells names.journal from before after network why
+      unfolding part_before
+      all_too why all is = record { part = part_before _ is.part; all = all is.part.entries is.all }
+
       not_before : (why : Fault) → IsNotServed tells.cabinet tells.disk names.journal read after.cabinet network (Err why) → IsNotServed tells.cabinet tells.disk names.journal before.cabinet after.cabinet network (Err why)
       not_before why not = not_served_before tells.cabinet tells.disk before.cabinet read after.cabinet reads.only_texts reads.text.1 names.journal network why not
 
@@ -141,10 +156,10 @@ module _ {I O C E : Type 0} (tells : Tellings I O C E) (from : ℕ) where
         read = has_before tells.cabinet tells.disk before.cabinet read after.cabinet reads.only_texts names.journal _ ships.read;
       }
       ships_before (Err fault.Write) ships = (part_before _ ships.0, ships.1, has_before tells.cabinet tells.disk before.cabinet read after.cabinet reads.only_texts names.journal _ ships.2)
-      ships_before (Err (fault.Other kept given)) ships = (not_before (fault.Other kept given) ships.0, part_before _ ships.1, ships.2, without_before ships.3)
-      ships_before (Err (fault.Damaged at)) ships = (not_before (fault.Damaged at) ships.0, part_before _ ships.1, ships.2, without_before ships.3)
-      ships_before (Err fault.Cabinet) ships = (not_before fault.Cabinet ships.0, part_before _ ships.1, ships.2, without_before ships.3)
-      ships_before (Err fault.Memory) ships = (not_before fault.Memory ships.0, part_before _ ships.1, ships.2, without_before ships.3)
+      ships_before (Err (fault.Other kept given)) ships = (not_before (fault.Other kept given) ships.0, all_too (fault.Other kept given) (λ entries all. all) ships.1, ships.2, without_before ships.3)
+      ships_before (Err (fault.Damaged at)) ships = (not_before (fault.Damaged at) ships.0, all_too (fault.Damaged at) (λ entries all. held_before tells.cabinet tells.disk before.cabinet read after.cabinet reads.only_texts names.journal _ all) ships.1, ships.2, without_before ships.3)
+      ships_before (Err fault.Cabinet) ships = (not_before fault.Cabinet ships.0, all_too fault.Cabinet (λ entries all. all) ships.1, ships.2, without_before ships.3)
+      ships_before (Err fault.Memory) ships = (not_before fault.Memory ships.0, all_too fault.Memory (λ entries all. all) ships.1, ships.2, without_before ships.3)
       ships_before (Err another) ships = absurd ships.0
 
     module _ (left : O) (after : Parts I O C) (network : Network) (stays : Stays (tells.sink.frame left) (tells.sink.frame after.output)) where

@@ -20,7 +20,7 @@ module _ {S : Type 0} (source : SourceGhosts S) (old new : S) (packets : List Pa
   input_stays end.End ends = Stays-same ends.2
   input_stays (end.Packet at) ends = Stays-same ends.2
   input_stays end.Read ends = ends.1.stays
-  input_stays end.Write ends = Stays-same ends
+  input_stays end.Write ends = Stays-same ends.0
   input_stays end.TooLong ends = Stays-same ends.1
   input_stays end.Memory ends = Stays-same (ap source.frame ends)
 

@@ -92,12 +92,27 @@ IsNoRefusal (Differs at own given) = ⊥
 IsNoRefusal (Unsound epoch) = ⊥
 IsNoRefusal another = ⊤
 
--- For each list of a leader of which the follower had a beginning and whose packets these are: the
--- follower has a beginning of it afterwards, and no packet is refused.
+-- the packet is one of a leader's list, or its body spells no entry, whoever made it
+abbrev pub IsSentOrAsks : Network → List Entry → Packet → Type 0
+IsSentOrAsks network leader packet =
+    IsSentOf network leader packet ⊎ ((entry : Entry) → ¬ IsSpelling entry packet.body)
+
+-- no packet of a leader's list is refused by its answer
+pub data AreNotRefused (network : Network) (leader : List Entry) : List Packet → List Offered
+    → Type 0 where
+  no_refusal : AreNotRefused network leader [] []
+  no_refusal_more : {packets : List Packet} {answers : List Offered} (packet : Packet)
+      (answer : Offered) → AreNotRefused network leader packets answers
+      → (IsSentOf network leader packet → IsNoRefusal answer)
+      → AreNotRefused network leader (packets ++ packet ∷ []) (answers ++ answer ∷ [])
+
+-- For each list of a leader of which the follower had a beginning, and whose packets these are, or
+-- packets that spell no entry: the follower has a beginning of it afterwards, and no packet of the
+-- list is refused.
 abbrev pub FollowsLeaders : Network → List Packet → List Offered → List Entry → List Entry → Type 0
 FollowsLeaders network packets answers since history = (leader : List Entry)
-    → IsLeader network leader → IsPrefix since leader → All (IsSentOf network leader) packets
-    → IsPrefix history leader × All IsNoRefusal answers
+    → IsLeader network leader → IsPrefix since leader → All (IsSentOrAsks network leader) packets
+    → IsPrefix history leader × AreNotRefused network leader packets answers
 
 -- ---- an input
 

@@ -2,6 +2,7 @@ pub mod AuditOutcome
 pub mod Auditing
 pub mod CabinetText
 pub mod CheckOutcome
+pub mod CutOutcome
 pub mod Ending
 pub mod Fault
 pub mod FollowOutcome

@@ -11,7 +11,7 @@ use Rattle.hose_offline.specs.Ending.{EndsTold, IsOut}
 use Rattle.hose_offline.specs.Fault.{last_line, of_store, status_of}
 use Rattle.hose_offline.specs.declared.fault.Fault.TheVariants.{Cabinet, Memory}
 use Rattle.hose_offline.specs.declared.move_end.MoveStop.{MoveStop}
-use Rattle.hose_offline.specs.declared.move_end.MoveStop.TheVariants.{Old, New, Network, Unsound, Differs}
+use Rattle.hose_offline.specs.declared.move_end.MoveStop.TheVariants.{Old, New, Network, Unsound, Differs, Less}
 use Rattle.hose_offline.specs.declared.move_end.Moved.{Moved}
 
 -- the status of a move that ended early
@@ -21,6 +21,7 @@ stop_status (New why) = status_of why
 stop_status (Network change) = 12
 stop_status (Unsound epoch) = 13
 stop_status (Differs epoch) = 14
+stop_status (Less entries) = 15
 
 -- the line of the first change of a network
 abbrev pub change_line : NetworkChange → List ℕ
@@ -35,6 +36,7 @@ stop_line (New why) = codes "new " ++ last_line why
 stop_line (Network change) = change_line change
 stop_line (Unsound epoch) = line_of (codes "unsound " ++ decimal epoch)
 stop_line (Differs epoch) = line_of (codes "differs at " ++ decimal epoch)
+stop_line (Less entries) = line_of (codes "less " ++ decimal entries)
 
 -- the last line of a move that came to its end: how many entries the new journal has, and how many
 -- VPNs are live

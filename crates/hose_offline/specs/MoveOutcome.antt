@@ -1,5 +1,5 @@
 -- What stands after `move`, by what ended it.
-use Rattle.std.specs.Prelude.{◌≡◌, ◌≢◌, ◌⊎◌, ℕ, List, take, IfSome, Some, Result, ⊤}
+use Rattle.std.specs.Prelude.{◌≡◌, ◌≢◌, ◌⊎◌, ℕ, List, length, take, IfSome, Some, Result, ⊤}
 use Rattle.hose_graph.specs.Network.{Network}
 use Rattle.hose_graph.specs.declared.entry.Entry.{Entry}
 use Rattle.hose_law.specs.Book.{IsOversold}
@@ -11,12 +11,12 @@ use Rattle.hose_disk.specs.declared.disk.Disk.{Ghosts as DiskGhosts}
 use Rattle.hose_journal.specs.Moments.{Images}
 use Rattle.hose_move.specs.Changing.{GoesOnFrom}
 use Rattle.hose_move.specs.Moving.{StandsForPart}
-use Rattle.hose_move.specs.Stating.{stated_entries}
+use Rattle.hose_move.specs.Stating.{Suffice, stated_entries}
 use Rattle.hose_store.specs.Recovery.{IsHistoryOf}
 use Rattle.hose_offline.specs.Ending.{NoneFailed}
 use Rattle.hose_offline.specs.CabinetText.{whole_text}
 use Rattle.hose_offline.specs.MoveEnd.{EndsMoved}
-use Rattle.hose_offline.specs.Moving.{MoveNames, MovesNamed}
+use Rattle.hose_offline.specs.Moving.{MoveNames, MovedJournals, MovesNamed}
 use Rattle.hose_offline.specs.OnDisk.{HadContent, JournalIsTold, OfHeld}
 use Rattle.hose_offline.specs.Parts.{Parts, Tellings}
 use Rattle.hose_offline.specs.Run.{IsFor, IsServable}
@@ -24,13 +24,14 @@ use Rattle.hose_offline.specs.TopologyTold.{TellsPriced, notation_of}
 use Rattle.hose_offline.specs.declared.move_end.MoveStop.{MoveStop}
 use Rattle.hose_offline.specs.declared.move_end.Moved.{Moved}
 
--- The disk of a name was only read: it is held as it was, or at each moment since its opening each
--- image is one that it had.
+-- The disk of a name was only read: it is held as it was, or what is read of it is as before, and
+-- at each moment since its opening each image is one that it had.
 abbrev pub IsOnlyRead : {C E : Type 0} → CabinetGhosts C E → DiskGhosts E → List ℕ → C → C
     → Type 0
 IsOnlyRead cabinet disk name before after = (cabinet.held after name ≡ cabinet.held before name)
-    ⊎ OfHeld cabinet name before after (λ was left. (image : List ℕ) →
-    disk.left_since left (disk.moment was) image → disk.may_leave was image)
+    ⊎ OfHeld cabinet name before after (λ was left. (disk.content left ≡ disk.content was)
+    × ((image : List ℕ) →
+    disk.left_since left (disk.moment was) image → disk.may_leave was image))
 
 module _ {C E : Type 0} (cabinet : CabinetGhosts C E) (disk : DiskGhosts E) (names : MoveNames)
     (before after : C) where
@@ -59,20 +60,23 @@ module _ {C E : Type 0} (cabinet : CabinetGhosts C E) (disk : DiskGhosts E) (nam
         (book_of 0 (take place (stated_entries names.journals.scope old history))) l
     pub carried : AreCarried new 0 (stated_entries names.journals.scope old history)
 
-module _ {C E : Type 0} (cabinet : CabinetGhosts C E) (disk : DiskGhosts E) (names : MoveNames)
-    (before : C) where
-  -- What is moved of a history is sound on the new network, and the new journal stands for a part
-  -- of it, from the first entry on.
+module _ {C E : Type 0} (cabinet : CabinetGhosts C E) (disk : DiskGhosts E)
+    (journals : MovedJournals) (before : C) where
+  -- What is moved of a history is as much as is asked for, and sound on the new network, and the
+  -- new journal stands for a part of it, from the first entry on.
   abbrev pub FitsMoved : Network → Network → List Entry → Type 0
-  FitsMoved old new history = IsSound new 0 (stated_entries names.journals.scope old history)
-      × JournalIsTold cabinet disk before (Some names.journals.new)
-      (StandsForPart new (stated_entries names.journals.scope old history))
+  FitsMoved old new history = IsSound new 0 (stated_entries journals.scope old history)
+      × JournalIsTold cabinet disk before (Some journals.new)
+      (StandsForPart new (stated_entries journals.scope old history))
+      × Suffice journals.scope (length (stated_entries journals.scope old history))
 
   -- the old journal stands for a history of the old network, and what is moved of it fits
   abbrev pub CanTake : Network → Network → Type 0
-  CanTake old new = JournalIsTold cabinet disk before (Some names.journals.old) (λ bytes.
+  CanTake old new = JournalIsTold cabinet disk before (Some journals.old) (λ bytes.
       (history : List Entry) × IsHistoryOf old history bytes × FitsMoved old new history)
 
+module _ {C E : Type 0} (cabinet : CabinetGhosts C E) (disk : DiskGhosts E) (names : MoveNames)
+    (before : C) where
   -- the text of a name is told, and this holds of each network that it tells, at the prices
   abbrev pub EachNamed : List ℕ → (Network → Type 0) → Type 0
   EachNamed name Is = IsFor (notation_of name) names.prices (whole_text cabinet before name) Is
@@ -87,7 +91,7 @@ module _ {C E : Type 0} (cabinet : CabinetGhosts C E) (disk : DiskGhosts E) (nam
         (whole_text cabinet before names.new_topology)
     pub apart : names.journals.new ≢ names.journals.old
     pub moves : EachNamed names.topology (λ old. EachNamed names.new_topology (λ new.
-        GoesOnFrom old new × CanTake old new))
+        GoesOnFrom old new × CanTake cabinet disk names.journals before old new))
 
 module _ {I O C E : Type 0} (tells : Tellings I O C E) (names : MoveNames)
     (before after : Parts I O C) where
@@ -100,8 +104,8 @@ module _ {I O C E : Type 0} (tells : Tellings I O C E) (names : MoveNames)
     pub ends : EndsMoved tells.sink left after.output status done
     pub whole : status ≡ 0
         → IsMoved tells.cabinet tells.disk names before.cabinet after.cabinet
-    pub old_kept : names.journals.new ≢ names.journals.old
-        → IsOnlyRead tells.cabinet tells.disk names.journals.old before.cabinet after.cabinet
+    pub old_kept :
+        IsOnlyRead tells.cabinet tells.disk names.journals.old before.cabinet after.cabinet
     -- the disks of all other names are as they were, whatever ended the move
     pub others : (other : List ℕ) → other ≢ names.journals.old → other ≢ names.journals.new
         → tells.cabinet.held after.cabinet other ≡ tells.cabinet.held before.cabinet other

@@ -1,4 +1,5 @@
--- What moving a journal to another network comes to, step by step.
+-- What moving a journal to another network, or to the same one up to an epoch, comes to, step by
+-- step.
 use Rattle.std.specs.Prelude.{◌≡◌, ◌≢◌, ◌⊎◌, ℕ, List, length, Bool, true, false, Some, IsSome, IsTrue, Result, IsOk, Ok, Err}
 use Rattle.hose_io.specs.Frame.{Rose}
 use Rattle.hose_io.specs.Stream.{Grows}
@@ -10,7 +11,7 @@ use Rattle.hose_disk.specs.declared.disk.Disk.{Ghosts as DiskGhosts}
 use Rattle.hose_move.specs.Changing.{GoesOnFrom, IsFirstChange}
 use Rattle.hose_law.specs.History.{IsSound}
 use Rattle.hose_move.specs.Moving.{HasEnough, Moves, OnlyMoves, StandsForPart}
-use Rattle.hose_move.specs.Stating.{ReadsJournal}
+use Rattle.hose_move.specs.Stating.{ReadsJournal, Suffice}
 use Rattle.hose_move.specs.declared.changing.NetworkChange.{NetworkChange}
 use Rattle.hose_move.specs.declared.fault.MoveFault.{MoveFault}
 use Rattle.hose_move.specs.declared.stating.Scope.{Scope}
@@ -29,7 +30,7 @@ use Rattle.hose_offline.specs.Parts.{Parts, Tellings}
 use Rattle.hose_offline.specs.declared.fault.Fault.{Fault}
 use Rattle.hose_offline.specs.declared.fault.Fault.TheVariants.{Cabinet, Write}
 use Rattle.hose_offline.specs.declared.move_end.MoveStop.{MoveStop}
-use Rattle.hose_offline.specs.declared.move_end.MoveStop.TheVariants.{Old, New, Network as Changed}
+use Rattle.hose_offline.specs.declared.move_end.MoveStop.TheVariants.{Old, New, Less, Network as Changed}
 use Rattle.hose_offline.specs.declared.move_end.Moved.{Moved}
 
 -- ---- what is moved
@@ -39,7 +40,7 @@ abbrev pub scope_of : Bool → Scope
 scope_of true = scope.Live
 scope_of false = scope.All
 
--- the journals that a move names, and whether all entries are moved or what is live
+-- the journals that a move names, and which entries are moved
 pub record MovedJournals : Type 0 where
   pub scope : Scope
   pub old : List ℕ
@@ -52,13 +53,13 @@ pub record MoveNames : Type 1 where
   pub topology : List ℕ
   pub new_topology : List ℕ
 
--- what a move names, at such prices: whether the live VPNs alone are moved, a topology and a
--- journal of it, and a new topology and a new journal
-abbrev pub move_names : (Network → Network → Type 0) → Bool → List ℕ → List ℕ → List ℕ → List ℕ
+-- what a move names, at such prices: which entries are moved, a topology and a journal of it, and a
+-- new topology and a new journal
+abbrev pub move_names : (Network → Network → Type 0) → Scope → List ℕ → List ℕ → List ℕ → List ℕ
     → MoveNames
-move_names prices live topology journal new_topology new_journal = record {
+move_names prices which topology journal new_topology new_journal = record {
   prices = prices;
-  journals = record { scope = scope_of live; old = journal; new = new_journal };
+  journals = record { scope = which; old = journal; new = new_journal };
   topology = topology;
   new_topology = new_topology;
 }
@@ -98,10 +99,17 @@ module _ {C E : Type 0} (cabinet : CabinetGhosts C E) where
     pub worked : CabinetWorked cabinet old new
     pub there : IsTrue (cabinet.frame old).tells → IsSome (cabinet.text old name)
 
-  -- a name was not found among the texts, or to look for it failed
+  -- a name was not found among the texts, two names are of one disk, or to look for that failed
   pub record IsNotFound (old new : C) : Type 0 where
     pub only_texts : OnlyTextsRead cabinet old new
     pub failed : CabinetFailed cabinet old new
+
+  -- It was looked whether two names are of two disks, and they are.
+  pub record AreApart (one other : List ℕ) (old new : C) : Type 0 where
+    pub only_texts : OnlyTextsRead cabinet old new
+    pub worked : CabinetWorked cabinet old new
+    pub apart : cabinet.apart new one other
+    pub differ : one ≢ other
 
 module _ {C E : Type 0} (cabinet : CabinetGhosts C E) (disk : DiskGhosts E) where
   -- The disk of a name was taken out of the cabinet, as it was held there, and put back, with this
@@ -132,14 +140,15 @@ module _ {C E : Type 0} (cabinet : CabinetGhosts C E) (disk : DiskGhosts E) wher
       × LendsDisk name found new lending result)
 
 module _ {E : Type 0} (disk : DiskGhosts E) (network : Network) where
-  -- A journal is read: its disk's images are as before at each moment, and it states entries or is
-  -- refused.
+  -- A journal is read: its disk's images are as before at each moment, what is read of it is as
+  -- before, and it states entries or is refused.
   abbrev pub to_read : Scope → Lending E (Result Stated Fault) (Result Stated StoreFault)
   to_read which = record {
     refused = Err Cabinet;
     told = read_done;
     IsDone = λ read opened left.
-        ReadsJournal disk opened left network which read × IsUnchanged disk opened left;
+        ReadsJournal disk opened left network which read × IsUnchanged disk opened left
+        × (disk.content left ≡ disk.content opened);
   }
 
   -- Entries are moved into a journal: its disk's images at each moment are of the move, and all
@@ -169,6 +178,17 @@ module _ {I O C E : Type 0} (tells : Tellings I O C E) where
       × LendsDisk tells.cabinet tells.disk name before.cabinet after.cabinet
       (to_move tells.disk network stated.entries.items) result)
 
+  -- What was stated is as much as was asked for, and was entered; or it is less, which is told, and
+  -- nothing else was done.
+  abbrev pub EntersEnough : MovedJournals → Parts I O C → Parts I O C → Network → Stated
+      → Result Moved MoveStop → Type 0
+  EntersEnough journals before after network stated result =
+      ((¬ Suffice journals.scope (length stated.entries.items))
+      × (result ≡ Err (Less (length stated.entries.items)))
+      × (after.output ≡ before.output) × (after.cabinet ≡ before.cabinet))
+      ⊎ (Suffice journals.scope (length stated.entries.items)
+      × EntersStated journals.new before after network stated result)
+
   -- The old journal was read, and what it states was entered in the new one; or it was not read,
   -- and nothing is out.
   abbrev pub MovesStated : MovedJournals → Parts I O C → Parts I O C → Network → Network
@@ -180,7 +200,16 @@ module _ {I O C E : Type 0} (tells : Tellings I O C E) where
       ⊎ ((stated : Stated) × (read : C)
       × LendsOld tells.cabinet tells.disk journals.old before.cabinet read
       (to_read tells.disk old journals.scope) (Ok stated)
-      × EntersStated journals.new (record before { cabinet = read }) after new stated result)
+      × EntersEnough journals (record before { cabinet = read }) after new stated result)
+
+  -- The journals are of two disks, and the old one was moved; or they are not, and nothing was
+  -- opened.
+  abbrev pub MovesApart : MovedJournals → Parts I O C → Parts I O C → Network → Network
+      → Result Moved MoveStop → Type 0
+  MovesApart journals before after old new result = ((result ≡ Err (New Cabinet))
+      × IsNotFound tells.cabinet before.cabinet after.cabinet × (after.output ≡ before.output))
+      ⊎ ((seen : C) × AreApart tells.cabinet journals.old journals.new before.cabinet seen
+      × MovesStated journals (record before { cabinet = seen }) after old new result)
 
   -- The new network goes on from the old one, and the journal was moved; or it does not, the first
   -- change is told, and nothing else was done.
@@ -189,7 +218,7 @@ module _ {I O C E : Type 0} (tells : Tellings I O C E) where
   MovesBetween journals before after old new result = ((change : NetworkChange)
       × (result ≡ Err (Changed change)) × IsFirstChange old new (Some change)
       × (after.output ≡ before.output) × (after.cabinet ≡ before.cabinet))
-      ⊎ (GoesOnFrom old new × MovesStated journals before after old new result)
+      ⊎ (GoesOnFrom old new × MovesApart journals before after old new result)
 
   -- The new topology was read, and the journal was moved on to its network; or it was not read, and
   -- nothing is out.

@@ -16,7 +16,8 @@ use Rattle.hose_law.specs.Script.{ReadLine, IsScript, WithoutDisk, WithoutMemory
 use Rattle.hose_topo.specs.TopologyText.{IsTopologyText}
 use Rattle.hose_words.specs.Reading.{WhereTold}
 use Rattle.hose_proto.specs.Replies.{CutsLast, texts_of}
-use Rattle.hose_words.specs.Saying.{IsAllTaken, IsLeftOver, SayLines}
+use Rattle.hose_words.specs.Saying.{IsAllTaken, SayLines}
+use Rattle.hose_talk.specs.Talk.{IsLeftNear}
 use Rattle.hose_offline.specs.Talking.{Says}
 use Rattle.hose_offline.specs.TopologyTold.{IsRefusedAs, Tells, TellsPriced, limit_of}
 use Rattle.hose_offline.specs.declared.notation.Notation.{Notation}
@@ -120,10 +121,10 @@ pub record IsRunUpTo (prices : Network → Network → Type 0) (keeping : Keepin
   pub out : Grows before after (texts_of run.network run.replies)
 
 -- The output was cut off in a reply: it has the replies before, and a part of this one. Bytes after
--- the lines may have been taken.
+-- the lines may have been taken, as far as one look at the input gives them.
 pub record IsCutOff (prices : Network → Network → Type 0) (keeping : Keeping)
     (old new : Option Stream) (before after : Option (List ℕ)) : Type 0 where
-  pub run : HasRun prices keeping old new IsLeftOver
+  pub run : HasRun prices keeping old new IsLeftNear
   pub out : CutsLast run.network before after run.replies
 
 -- the text tells no network, and is refused so

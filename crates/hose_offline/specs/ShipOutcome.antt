@@ -7,7 +7,7 @@ use Rattle.hose_graph.specs.Network.{Network}
 use Rattle.hose_graph.specs.declared.entry.Entry.{Entry}
 use Rattle.hose_law.specs.History.{IsSound}
 use Rattle.hose_journal.specs.Opening.{AddsNoRecord}
-use Rattle.hose_store.specs.Entries.{BeginsWith}
+use Rattle.hose_store.specs.Entries.{BeginsWith, IsDamagedAfter}
 use Rattle.hose_store.specs.Recovery.{IsHistoryOf, digest_of}
 use Rattle.hose_store.specs.Replaying.{KeepsRead}
 use Rattle.hose_follow.specs.Packet.{packets_bytes, packets_from}
@@ -18,7 +18,7 @@ use Rattle.hose_offline.specs.OnDisk.{HadContent, IsUnopened, OfHeld}
 use Rattle.hose_offline.specs.Parts.{Parts, Tellings}
 use Rattle.hose_offline.specs.ServingOnDisk.{IsNotServed}
 use Rattle.hose_offline.specs.declared.fault.Fault.{Fault}
-use Rattle.hose_offline.specs.declared.fault.Fault.TheVariants.{Write}
+use Rattle.hose_offline.specs.declared.fault.Fault.TheVariants.{Damaged, Write}
 
 module _ {I O C E : Type 0} (tells : Tellings I O C E) (journal : List ℕ) (from : ℕ)
     (before after : Parts I O C) where
@@ -58,6 +58,19 @@ module _ {I O C E : Type 0} (tells : Tellings I O C E) (journal : List ℕ) (fro
         journal (BeginsWith (digest_of network) entries)
     pub out : Puts (packets_bytes (packets_from network from entries))
 
+  -- where the journal is damaged, as it was read at its opening, these are all entries before it
+  abbrev pub AreAllBeforeDamage : Network → List Entry → Fault → Type 0
+  AreAllBeforeDamage network entries (Damaged at) = HadContent tells.cabinet tells.disk
+      before.cabinet journal (IsDamagedAfter network entries at)
+  AreAllBeforeDamage network entries _ = ⊤
+
+  -- The packets of entries with which the journal begins are out: of all before damage, if that is
+  -- the fault.
+  pub record ShipsBefore (network : Network) (why : Fault) : Type 0 where
+    pub part : ShipsPart network
+        (Grows (tells.sink.content before.output) (tells.sink.content after.output))
+    pub all : AreAllBeforeDamage network part.entries why
+
   -- What shipping comes to, before its last line. At a fault of the journal packets of entries with
   -- which it begins are out; where the output failed, a part of such packets is. No record and no
   -- seal was written.
@@ -69,9 +82,7 @@ module _ {I O C E : Type 0} (tells : Tellings I O C E) (journal : List ℕ) (fro
       × IsReadAsBefore network
   ShipsJournal network (Err why) = IsNotServed tells.cabinet tells.disk journal
       before.cabinet after.cabinet network (Err why)
-      × ShipsPart network
-      (Grows (tells.sink.content before.output) (tells.sink.content after.output))
-      × OutputWorked tells.sink before.output after.output
+      × ShipsBefore network why × OutputWorked tells.sink before.output after.output
       × IsLeftWithoutRecord network
 
 module _ {I O C E : Type 0} (tells : Tellings I O C E) (journal : List ℕ) (from : ℕ)

@@ -3,9 +3,9 @@
 //! sums up the script of a seed, `prove` writes a certificate of least cost, `check` judges one,
 //! and `price` prices hoses under all tariffs; `ship` writes the entries of a journal as packets,
 //! and `follow` takes packets into a journal that follows it; `move_journal` writes what a journal
-//! of one network holds into a journal of another one. `hosed` chooses between them by the
-//! program's words; where it serves customers it reads topologies, opens journals and tells books
-//! as they do:
+//! of one network holds into a journal of another one, and `cut_journal` its first entries into
+//! another journal. `hosed` chooses between them by the program's words; where it serves customers
+//! it reads topologies, opens journals and tells books as they do:
 //!
 //! ```
 //! let outside = &mut Outside::of(input, output, cabinet);
@@ -20,6 +20,7 @@
 //! let why = ship(alloc, &OwnCosts, names, 1, outside);
 //! let why = follow(alloc, &OwnCosts, names, outside);
 //! let why = move_journal(alloc, &OwnCosts, Move { from, to, live: false }, outside);
+//! let why = cut_journal(alloc, &OwnCosts, Cut { from, count: 7, to: "first.journal" }, outside);
 //! ```
 #![tactic(auto)]
 
@@ -53,7 +54,7 @@ pub use generating::{Sizes, run_generated};
 pub use journal::{close_journal, first_fault, open_journal, open_store};
 pub use json_text::JSON_LIMIT;
 pub use move_end::MoveStop;
-pub use moving::{Move, move_journal};
+pub use moving::{Cut, Move, cut_journal, move_journal};
 pub use notation::{Notation, Refusal};
 pub use outside::Outside;
 pub use pricing::price;

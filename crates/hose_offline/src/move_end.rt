@@ -34,6 +34,8 @@ pub enum MoveStop {
     Unsound { epoch: u64 },
     /// The new journal has another entry of this epoch than it should have, or one too many.
     Differs { epoch: u64 },
+    /// The old journal has fewer entries than the new one is to have: so many.
+    Less { entries: u64 },
 }
 
 impl From<Failed> for MoveStop {
@@ -55,6 +57,7 @@ impl MoveStop {
             MoveStop::Network(_) => 12,
             MoveStop::Unsound { .. } => 13,
             MoveStop::Differs { .. } => 14,
+            MoveStop::Less { .. } => 15,
         }
     }
 
@@ -68,6 +71,7 @@ impl MoveStop {
             MoveStop::Network(change) => put_change(output, change),
             MoveStop::Unsound { epoch } => put_numbered(output, b"unsound ", epoch),
             MoveStop::Differs { epoch } => put_numbered(output, b"differs at ", epoch),
+            MoveStop::Less { entries } => put_numbered(output, b"less ", entries),
         }
     }
 }

@@ -1,10 +1,13 @@
-// Moving: what a journal of one network holds, written into a journal of another one.
-ghost use Rattle.std.specs.Prelude.{◌≡◌, All, IfOk, None};
+// Moving: what a journal of one network holds, written into a journal of another one; and cutting:
+// the first entries of a journal, written into another one.
+ghost use Rattle.std.specs.Prelude.{◌≡◌, ◌↔◌, All, IfOk, IsTrue, None};
 ghost use Rattle.hose_graph.specs.steps.Ranges.{IsInRanges};
+ghost use Rattle.hose_move.specs.Stating.{Suffice};
+ghost use Rattle.hose_offline.specs.CutOutcome.{CutOutcome};
 ghost use Rattle.hose_offline.specs.steps.Journal.{IsBack};
 ghost use Rattle.hose_offline.specs.MoveOutcome.{MoveOutcome};
-ghost use Rattle.hose_offline.specs.Moving.{EntersStated, LendsDisk, LendsOld, MovesFrom, MovesBetween, read_done, scope_of, to_move, to_read};
-ghost use Rattle.hose_offline.specs.steps.Moving.{journals_of, names_of};
+ghost use Rattle.hose_offline.specs.Moving.{EntersEnough, EntersStated, LendsDisk, LendsOld, MovesApart, MovesFrom, MovesBetween, MovesStated, read_done, scope_of, to_move, to_read};
+ghost use Rattle.hose_offline.specs.steps.Moving.{cut_of, journals_at, journals_of, names_of};
 ghost use Rattle.hose_offline.specs.Parts.{tellings};
 ghost use Rattle.hose_offline.specs.steps.Parts.{ComesTo, KeepsAll, held};
 
@@ -30,6 +33,23 @@ pub struct Move<'a> {
     pub live: bool,
 }
 
+/// What is cut: the names of the topology and of the journal that are left as they are, how many
+/// entries the new journal is to have, and its name.
+#[derive(Clone, Copy)]
+pub struct Cut<'a> {
+    pub from: Names<'a>,
+    pub count: u64,
+    pub to: &'a str,
+}
+
+/// The journals of which one is moved into the other, and which entries.
+#[derive(Clone, Copy)]
+struct Journals<'a> {
+    scope: Scope,
+    old: &'a str,
+    new: &'a str,
+}
+
 /// Reads two topologies and the journal of the first, writes what that holds into a journal of the
 /// second, and says why it ended. Both networks have these costs. The old journal is read and
 /// never changed.
@@ -46,6 +66,32 @@ pub fn move_journal<P: Prices, I: Source, O: Sink, C: Cabinet>(
     match read_topology(alloc, costs, of.from.topology, outside.cabinet) {
         Ok(old) => {
             let moved = move_from(alloc, costs, of, &old, outside);
+            end_move(moved, outside.output)
+        }
+        Err(why) => end_move(Err(MoveStop::Old(why)), outside.output),
+    }
+}
+
+/// Reads a topology and a journal of it, writes its first entries into another journal of it, so
+/// many of them, and says why it ended. The old journal is read and never changed.
+pub fn cut_journal<P: Prices, I: Source, O: Sink, C: Cabinet>(
+    alloc: Global,
+    costs: &P,
+    of: Cut<'_>,
+    outside: &mut Outside<'_, I, O, C>,
+) -> Why
+    requires none_out { (C.frame (held outside.old).cabinet).out ≡ None }
+    ensures { ComesTo (tellings I.Source O.Sink C.Cabinet C.Disk.Disk) (λ tells. CutOutcome tells
+        (cut_of (P.prices costs.now) of.entry)) outside.old outside.new result }
+{
+    match read_topology(alloc, costs, of.from.topology, outside.cabinet) {
+        Ok(network) => {
+            let journals = Journals {
+                scope: Scope::First(of.count),
+                old: of.from.journal,
+                new: of.to,
+            };
+            let moved = move_apart(alloc, journals, &network, &network, outside);
             end_move(moved, outside.output)
         }
         Err(why) => end_move(Err(MoveStop::Old(why)), outside.output),
@@ -94,10 +140,92 @@ fn move_on<I: Source, O: Sink, C: Cabinet>(
 {
     match first_change(old, new) {
         Some(change) => Err(MoveStop::Network(change)),
-        None => match read_old(alloc, of.from.journal, old, of.live, outside.cabinet) {
-            Ok(stated) => enter(alloc, of.to.journal, new, &stated, outside),
-            Err(why) => Err(MoveStop::Old(why)),
-        },
+        None => {
+            let journals = Journals {
+                scope: scope_of(of.live),
+                old: of.from.journal,
+                new: of.to.journal,
+            };
+            move_apart(alloc, journals, old, new, outside)
+        }
+    }
+}
+
+// Moves what a journal holds into another one, where they are of two disks. Else nothing is opened.
+fn move_apart<I: Source, O: Sink, C: Cabinet>(
+    alloc: Global,
+    of: Journals<'_>,
+    old: &Topology,
+    new: &Topology,
+    outside: &mut Outside<'_, I, O, C>,
+) -> Result<Moved, MoveStop>
+    requires { (C.frame (held outside.old).cabinet).out ≡ None }
+    ensures moves { MovesApart (tellings I.Source O.Sink C.Cabinet C.Disk.Disk)
+        (journals_at of.entry) (held outside.old) (held outside.new) old.now new.now result }
+    ensures input { (held outside.new).input ≡ (held outside.old).input }
+    ensures back { (C.frame (held outside.new).cabinet).out ≡ None }
+    ensures keeps { KeepsAll (tellings I.Source O.Sink C.Cabinet C.Disk.Disk)
+        outside.old outside.new }
+{
+    match outside.cabinet.tell_apart(of.old, of.new) {
+        Ok(()) => move_stated(alloc, of, old, new, outside),
+        Err(_) => Err(MoveStop::New(Fault::Cabinet)),
+    }
+}
+
+// Moves what a journal holds into another one.
+fn move_stated<I: Source, O: Sink, C: Cabinet>(
+    alloc: Global,
+    of: Journals<'_>,
+    old: &Topology,
+    new: &Topology,
+    outside: &mut Outside<'_, I, O, C>,
+) -> Result<Moved, MoveStop>
+    requires { (C.frame (held outside.old).cabinet).out ≡ None }
+    ensures moves { MovesStated (tellings I.Source O.Sink C.Cabinet C.Disk.Disk)
+        (journals_at of.entry) (held outside.old) (held outside.new) old.now new.now result }
+    ensures input { (held outside.new).input ≡ (held outside.old).input }
+    ensures back { (C.frame (held outside.new).cabinet).out ≡ None }
+    ensures keeps { KeepsAll (tellings I.Source O.Sink C.Cabinet C.Disk.Disk)
+        outside.old outside.new }
+{
+    match read_old(alloc, of.old, old, of.scope, outside.cabinet) {
+        Ok(stated) => enter_enough(alloc, of, new, &stated, outside),
+        Err(why) => Err(MoveStop::Old(why)),
+    }
+}
+
+// Moves the entries that were stated into a journal, where they are as many as are asked for.
+fn enter_enough<I: Source, O: Sink, C: Cabinet>(
+    alloc: Global,
+    of: Journals<'_>,
+    new: &Topology,
+    stated: &Stated,
+    outside: &mut Outside<'_, I, O, C>,
+) -> Result<Moved, MoveStop>
+    requires none_out { (C.frame (held outside.old).cabinet).out ≡ None }
+    requires ranges { All IsInRanges stated.now.entries.items }
+    ensures enters { EntersEnough (tellings I.Source O.Sink C.Cabinet C.Disk.Disk)
+        (journals_at of.entry) (held outside.old) (held outside.new) new.now stated.now result }
+    ensures input { (held outside.new).input ≡ (held outside.old).input }
+    ensures back { (C.frame (held outside.new).cabinet).out ≡ None }
+    ensures keeps { KeepsAll (tellings I.Source O.Sink C.Cabinet C.Disk.Disk)
+        outside.old outside.new }
+{
+    let entries = stated.entries.len() as u64;
+    if !suffice(of.scope, entries) {
+        return Err(MoveStop::Less { entries });
+    }
+    enter(alloc, of.new, new, stated, outside)
+}
+
+// Whether so many entries are as many as are asked for.
+fn suffice(scope: Scope, found: u64) -> bool
+    ensures { IsTrue result ↔ Suffice scope found }
+{
+    match scope {
+        Scope::All | Scope::Live => true,
+        Scope::First(count) => count <= found,
     }
 }
 
@@ -131,23 +259,23 @@ fn read_old<C: Cabinet>(
     alloc: Global,
     name: &str,
     old: &Topology,
-    live: bool,
+    scope: Scope,
     cabinet: &mut C,
 ) -> Result<Stated, Fault>
     requires { (C.frame cabinet.old).out ≡ None }
     ensures reads { LendsOld C.Cabinet C.Disk.Disk name.now cabinet.old cabinet.new
-        (to_read C.Disk.Disk old.now (scope_of live)) result }
+        (to_read C.Disk.Disk old.now scope) result }
     ensures ranges { IfOk result (λ stated. All IsInRanges stated.entries.items) }
     ensures back { IsBack (C.frame cabinet.old) (C.frame cabinet.new) }
 {
-    // To take out the disk of a name that is not there would make one.
+    // Of a name that is not there a cabinet in memory would make a disk.
     let Ok(_) = cabinet.text(name, 0, &mut [0]) else {
         return Err(Fault::Cabinet);
     };
-    let Ok(disk) = cabinet.disk(name) else {
+    let Ok(disk) = cabinet.disk_to_read(name) else {
         return Err(Fault::Cabinet);
     };
-    let read = read_journal(alloc, disk, old, scope_of(live));
+    let read = read_journal(alloc, disk, old, scope);
     cabinet.back(read.1);
     as_read(read.0)
 }

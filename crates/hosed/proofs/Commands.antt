@@ -302,11 +302,16 @@ pub topology_then : (names words : List (List ℕ)) (of : OfTopology) (at number
 topology_then names words of at number more naming wrong =
     chosen_wrong names (file_first more) words of.tariff naming.from number naming.chosen (file_wrong more of.topology.now naming.is naming.took (subst (λ n. IsWrong (operands_form (more of.topology.now)) (at_word n words) number) naming.next wrong))
 
--- and of those after a journal
+-- and of those after a journal, whose name may bear on them
+pub named_journal_then : (names words : List (List ℕ)) (of : OfJournal) (at number : ℕ) (more : List ℕ → Operands) → NamesJournal names words of at → IsWrong (operands_form (more of.names.journal.now)) (at_word at words) number
+    → IsWrong (after_topology names (λ topology. name_and more)) (at_word 2 words) number
+named_journal_then names words of at number more naming wrong =
+    topology_then names words _ naming.from number (λ topology. name_and more) naming.topology (value_then file_name more of.names.journal.now naming.is naming.took (subst (λ n. IsWrong (operands_form (more of.names.journal.now)) (at_word n words) number) naming.next wrong))
+
+-- and where it does not
 pub journal_then : (names words : List (List ℕ)) (of : OfJournal) (at number : ℕ) (more : Operands) → NamesJournal names words of at → IsWrong (operands_form more) (at_word at words) number
     → IsWrong (after_topology names (journal_and more)) (at_word 2 words) number
-journal_then names words of at number more naming wrong =
-    topology_then names words _ naming.from number (journal_and more) naming.topology (value_then file_name (λ journal. more) of.names.journal.now naming.is naming.took (subst (λ n. IsWrong (operands_form more) (at_word n words) number) naming.next wrong))
+journal_then names words of at number more naming wrong = named_journal_then names words of at number (λ journal. more) naming wrong
 
 -- the words that name a topology, and those after it
 pub topology_words : (names words : List (List ℕ)) (verb : ProgramVerb) (of : OfTopology) (at : ℕ) → AsksFor verb words → NamesTopology names words of at → words ≡ program_word verb ∷ tariff_words names of.tariff ++ of.topology.now ∷ (at_word at words).left
@@ -324,10 +329,14 @@ pub no_topology : (names words : List (List ℕ)) (number : ℕ) (more : List �
 no_topology names words number more (inl none) = no_tariff names (first_form (file_first more)) (file_first more) words number none
 no_topology names words number more (inr (tariff, from, chosen, misses)) = chosen_wrong names (file_first more) words tariff from number chosen (no_file_named more misses)
 
--- and where no journal is
+-- and where no journal is, whose name may bear on what is to follow
+pub no_named_journal : (names words : List (List ℕ)) (number : ℕ) (more : List ℕ → Operands) → NamesNoJournal names words number → IsWrong (after_topology names (λ topology. name_and more)) (at_word 2 words) number
+no_named_journal names words number more (inl none) = no_topology names words number (λ topology. name_and more) none
+no_named_journal names words number more (inr (of, from, naming, misses)) = topology_then names words of from number (λ topology. name_and more) naming (no_name more misses)
+
+-- or does not
 pub no_journal : (names words : List (List ℕ)) (number : ℕ) (more : Operands) → NamesNoJournal names words number → IsWrong (after_topology names (journal_and more)) (at_word 2 words) number
-no_journal names words number more (inl none) = no_topology names words number (journal_and more) none
-no_journal names words number more (inr (of, from, naming, misses)) = topology_then names words of from number (journal_and more) naming (no_name (λ journal. more) misses)
+no_journal names words number more none = no_named_journal names words number (λ journal. more) none
 
 -- the name of a journal is the last of the words
 pub ends_at_journal : (names words : List (List ℕ)) (of : OfJournal) (at : ℕ) → NamesJournal names words of at → (at_word at words).left ≡ [] → AreJournalWords names words of

@@ -14,7 +14,8 @@ use Rattle.hosed.specs.ProgramWords.{AsksFor, FirstWord, IsChosen, IsFileName, I
 use Rattle.hosed.specs.declared.verb.ProgramVerb.{ProgramVerb}
 use Rattle.hosed.specs.declared.verb.ProgramVerb.TheVariants as command
 use Rattle.hosed.specs.declared.host_line.HostWords.{HostWords}
-use Rattle.hosed.specs.steps.HostReading.{ChoosesOperator, ChoosesQuiet, NamesHosted, NamesNoOperator, ReadsHost, asked_of}
+use Rattle.hosed.specs.HostNaming.{ReadsHost, asked_of}
+use Rattle.hosed.specs.steps.HostReading.{ChoosesOperator, ChoosesQuiet, NamesHosted, NamesNoOperator}
 use Rattle.hosed.specs.steps.ProgramWords.{at_word}
 use Rattle.hosed.specs.steps.Reading.{Chooses, NamesFile, NamesNoTariff}
 use Rattle.hosed.proofs.Commands.{chosen_wrong, is_chosen, is_itself, is_named, no_file, no_tariff, one_tariff, option_wrong, same_apart, skip_passes, skip_wrong}

@@ -1,4 +1,5 @@
 pub mod Hosed
+pub mod HostNaming
 pub mod HostWords
 pub mod Limits
 pub mod Naming

@@ -41,6 +41,11 @@ task_names command.Move ((tariff, live), topology, (journal, (new_topology, (new
       new_topology = Some new_topology;
       new_journal = Some new_journal;
     }
+task_names command.Cut (tariff, topology, (journal, (count, (new_journal, _)))) =
+    record (files_named (Some topology) (Some journal)) {
+      new_topology = Some topology;
+      new_journal = Some new_journal;
+    }
 task_names command.Serve (tariff, topology, (journal, (port, (connections, (workers, _))))) =
     record (files_named (Some topology) (Some journal)) { port = Some port }
 

@@ -4,12 +4,13 @@ use Rattle.hose_graph.specs.Network.{Network}
 use Rattle.hose_offline.specs.AuditOutcome.{AuditOutcome}
 use Rattle.hose_offline.specs.Auditing.{priced_names}
 use Rattle.hose_offline.specs.CheckOutcome.{CheckOutcome}
+use Rattle.hose_offline.specs.CutOutcome.{CutOutcome, cut_names}
 use Rattle.hose_offline.specs.Ending.{IsOut}
 use Rattle.hose_offline.specs.Fault.{last_line}
 use Rattle.hose_offline.specs.FollowOutcome.{FollowOutcome}
 use Rattle.hose_offline.specs.GenOutcome.{GenOutcome}
 use Rattle.hose_offline.specs.MoveOutcome.{MoveOutcome}
-use Rattle.hose_offline.specs.Moving.{move_names}
+use Rattle.hose_offline.specs.Moving.{move_names, scope_of}
 use Rattle.hose_offline.specs.Parts.{Parts, Tellings}
 use Rattle.hose_offline.specs.PriceOutcome.{PriceOutcome, Pricing, pricing_of}
 use Rattle.hose_offline.specs.ProveOutcome.{ProveOutcome, ends_from}
@@ -63,7 +64,10 @@ module _ {I O C E : Type 0} (tells : Tellings I O C E) (offer : Offer)
       FollowOutcome tells (priced_names (offer.prices tariff) topology journal) before after status
   Does command.Move ((tariff, live), topology, (journal, (new_topology, (new_journal, _)))) =
       MoveOutcome tells
-      (move_names (offer.prices tariff) live topology journal new_topology new_journal)
+      (move_names (offer.prices tariff) (scope_of live) topology journal new_topology new_journal)
+      before after status
+  Does command.Cut (tariff, topology, (journal, (count, (new_journal, _)))) = CutOutcome tells
+      (cut_names (priced_names (offer.prices tariff) topology journal) count new_journal)
       before after status
   Does command.Serve task = ⊤
 

@@ -123,6 +123,12 @@ abbrev pub moved_names : List ℕ → Operands
 moved_names topology = name_and (λ journal. name_and (λ new_topology.
     next_word (other_name journal) (λ new_journal. no_more)))
 
+-- after the topology of a cut: its journal, how many entries are cut off, and a journal of another
+-- name
+abbrev pub cut_operands : List ℕ → Operands
+cut_operands topology = name_and (λ journal. number_and 0 most_epoch (λ n.
+    next_word (other_name journal) (λ new_journal. no_more)))
+
 -- the numbers of a server: a port, which 16 bits hold and which is not 0, how many connections it
 -- accepts, and how many workers answer them
 abbrev pub server_numbers : Operands
@@ -153,6 +159,7 @@ program_line command.Ship = (
 )
 program_line command.Follow = (codes "follow", options_and_file by_tariff (journal_and no_more))
 program_line command.Move = (codes "move", options_and_file by_tariff_and_live moved_names)
+program_line command.Cut = (codes "cut", options_and_file by_tariff cut_operands)
 program_line command.Generate = (codes "gen", only_operands generated_numbers)
 
 -- the word that a command begins with
@@ -277,6 +284,7 @@ IsAvailable names command.Price = ArePriceable names
 IsAvailable names command.Ship = ⊤
 IsAvailable names command.Follow = ⊤
 IsAvailable names command.Move = ⊤
+IsAvailable names command.Cut = ⊤
 IsAvailable names command.Generate = ⊤
 
 -- The words are that of the command, which there is, and then those of its task, which it may be

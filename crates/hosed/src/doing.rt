@@ -7,6 +7,7 @@ ghost use Rattle.hose_proto.specs.EndWords.{AreEndWords};
 ghost use Rattle.hose_offline.specs.AuditOutcome.{AuditOutcome};
 ghost use Rattle.hose_offline.specs.Auditing.{priced_names};
 ghost use Rattle.hose_offline.specs.CheckOutcome.{CheckOutcome};
+ghost use Rattle.hose_offline.specs.CutOutcome.{CutOutcome, cut_names};
 ghost use Rattle.hose_offline.specs.FollowOutcome.{FollowOutcome};
 ghost use Rattle.hose_offline.specs.MoveOutcome.{MoveOutcome};
 ghost use Rattle.hose_offline.specs.Parts.{AllStay, parts, tellings};
@@ -30,8 +31,8 @@ use hose_crew::Context;
 use hose_disk::Cabinet;
 use hose_io::{Door, Sink, Source};
 use hose_offline::{
-    EndWords, Move, Outside, Why, audit, check, follow, move_journal, price, prove, run,
-    run_generated, ship,
+    Cut, EndWords, Move, Outside, Why, audit, check, cut_journal, follow, move_journal, price,
+    prove, run, run_generated, ship,
 };
 use hose_pool::{Gate, MOST_WORKERS};
 use hose_tariff::{Prices, Tariff};
@@ -100,6 +101,7 @@ fn do_request<I: Source, O: Sink, C: Cabinet>(
         Request::Ship { of, from } => ship_by(alloc, tariffs, of, from, outside),
         Request::Follow(of) => follow_by(alloc, tariffs, of, outside),
         Request::Move { tariff, of } => move_by(alloc, tariffs, tariff, of, outside),
+        Request::Cut { of, count, to } => cut_by(alloc, tariffs, of, count, to, outside),
     }
 }
 
@@ -223,6 +225,30 @@ fn move_by<I: Source, O: Sink, C: Cabinet>(
 {
     let by = costs_of(tariffs, tariff);
     move_journal(alloc, &by, of, outside)
+}
+
+// A cut by the costs that are chosen.
+fn cut_by<I: Source, O: Sink, C: Cabinet>(
+    alloc: Global,
+    tariffs: &[Tariff],
+    of: OfJournal<'_>,
+    count: u64,
+    to: &str,
+    outside: &mut Outside<'_, I, O, C>,
+) -> Why
+    requires { (C.frame (held outside.old).cabinet).out ≡ None }
+    ensures { ComesTo (tellings I.Source O.Sink C.Cabinet C.Disk.Disk) (λ tells. CutOutcome tells
+        (cut_names (priced_names (costs_at ⟦<Tariff as Prices>⟧.prices tariffs.now of.entry.tariff)
+        of.entry.names.topology.now of.entry.names.journal.now) count to.now))
+        outside.old outside.new result }
+{
+    let by = costs_of(tariffs, of.tariff);
+    let of = Cut {
+        from: of.names,
+        count,
+        to,
+    };
+    cut_journal(alloc, &by, of, outside)
 }
 
 /// Serves by the costs that are chosen, with what is lent to it.

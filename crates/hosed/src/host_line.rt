@@ -7,7 +7,8 @@ ghost use Rattle.hose_words.specs.Grammar.{IsFirst};
 ghost use Rattle.hose_words.specs.steps.Cursor.{IsWrong, Took};
 ghost use Rattle.hosed.specs.HostWords.{AreDoorWords, AsksToHost, IsFirstWrongOfHost, doors_form, files_first};
 ghost use Rattle.hosed.specs.ProgramWords.{first_form};
-ghost use Rattle.hosed.specs.steps.HostReading.{ChoosesOperator, ChoosesQuiet, NamesHosted, NamesNoOperator, ReadsHost};
+ghost use Rattle.hosed.specs.HostNaming.{ReadsHost};
+ghost use Rattle.hosed.specs.steps.HostReading.{ChoosesOperator, ChoosesQuiet, NamesHosted, NamesNoOperator};
 ghost use Rattle.hosed.specs.steps.ProgramWords.{at_word};
 
 use crate::words::{name_at, tariff_at, word_at};

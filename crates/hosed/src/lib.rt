@@ -11,7 +11,8 @@
 //! that it makes of four numbers. A standby is kept by `ship TOPOLOGY JOURNAL FROM`, which writes
 //! the entries of a journal as packets, and `follow TOPOLOGY JOURNAL`, which takes packets into
 //! another one. `move TOPOLOGY JOURNAL NEW_TOPOLOGY NEW_JOURNAL` writes what a journal of one
-//! network holds into a journal of another one:
+//! network holds into a journal of another one, and `cut TOPOLOGY JOURNAL N NEW_JOURNAL` the first
+//! entries of a journal into another one:
 //!
 //! ```
 //! let input = &mut StdSource::new(stdin);
@@ -78,9 +79,10 @@ pub struct Ended<'w> {
 /// name of a text with a topology, and the endpoints of a hose; `check` or `price`, and the name of
 /// a text with a topology; `ship`, the names of `audit`, and an epoch; `follow`, and the names of
 /// `audit`; `move`, `--live` or nothing, the names of `audit`, and the same of another network,
-/// whose journal has another name; or `gen`, and four numbers. After the first of them, but for
-/// `price` and `gen`, `--tariff` may stand, and the name of one of the tariffs, of which the first
-/// with that name is meant. `price` takes all tariffs, of which there have to be 1 to 16. A text
+/// whose journal has another name; `cut`, the names of `audit`, a number of entries, and the name
+/// of another journal; or `gen`, and four numbers. After the first of them, but for `price` and
+/// `gen`, `--tariff` may stand, and the name of one of the tariffs, of which the first with that
+/// name is meant. `price` takes all tariffs, of which there have to be 1 to 16. A text
 /// whose name ends in `.json` is JSON.
 ///
 /// The status is 0 where all was read to its end, and the journal closed. Else it tells the first
@@ -95,7 +97,8 @@ pub struct Ended<'w> {
 /// `packet P`, an input in which no whole packet begins at byte P; 12 `network node K` or
 /// `network link K`, the first change by which a new network does not go on from the old one; 13
 /// `unsound N`, the epoch of an entry that is not sound on a new network; 14 `differs at N`, that
-/// of an entry that a new journal has and should not have. Of a move that came to its end
+/// of an entry that a new journal has and should not have; 15 `less M`, how many entries an old
+/// journal has, of which more were to be cut off. Of a move or a cut that came to its end
 /// `moved N live V` is the last line, and a fault of what is new is told after `new `.
 ///
 /// With `serve` it waits for customers, and for threads of its own: what it promises it keeps if it

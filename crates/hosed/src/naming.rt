@@ -4,7 +4,7 @@ ghost use Rattle.hosed.specs.Naming.{AreNamed};
 ghost use Rattle.hosed.specs.steps.ProgramWords.{AreServeWords, AreWordsOf};
 
 use crate::words::{Request, ServeRequest};
-use hose_offline::Move;
+use hose_offline::{Move, Names};
 
 /// The files and the port that words name, where they name one.
 #[derive(Clone, Copy)]
@@ -27,7 +27,7 @@ impl<'w> NamedByWords<'w> {
         files(None, None)
     }
 
-    /// The new topology and journal of a move, by which new and old are exchanged.
+    /// The new topology and journal of a move or a cut, by which new and old are exchanged.
     pub fn of_new(self) -> NamedByWords<'w>
         ensures { result ≡ record {
           topology = self.entry.new_topology;
@@ -76,6 +76,7 @@ pub fn named_of(request: Request<'_>) -> NamedByWords<'_>
         Request::Ship { of, from: _ } => files(Some(of.names.topology), Some(of.names.journal)),
         Request::Follow(of) => files(Some(of.names.topology), Some(of.names.journal)),
         Request::Move { tariff: _, of } => moved_files(of),
+        Request::Cut { of, count: _, to } => cut_files(of.names, to),
     }
 }
 
@@ -93,6 +94,24 @@ fn files<'w>(topology: Option<&'w str>, journal: Option<&'w str>) -> NamedByWord
         journal,
         new_topology: None,
         new_journal: None,
+        port: None,
+    }
+}
+
+fn cut_files<'w>(of: Names<'w>, to: &'w str) -> NamedByWords<'w>
+    ensures { result ≡ record {
+      topology = Some of.entry.topology;
+      journal = Some of.entry.journal;
+      new_topology = Some of.entry.topology;
+      new_journal = Some to.entry;
+      port = None;
+    } }
+{
+    NamedByWords {
+        topology: Some(of.topology),
+        journal: Some(of.journal),
+        new_topology: Some(of.topology),
+        new_journal: Some(to),
         port: None,
     }
 }

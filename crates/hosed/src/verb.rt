@@ -29,11 +29,13 @@ pub enum ProgramVerb {
     Follow,
     /// `move [--tariff NAME] [--live] TOPOLOGY JOURNAL NEW_TOPOLOGY NEW_JOURNAL`
     Move,
+    /// `cut [--tariff NAME] TOPOLOGY JOURNAL N NEW_JOURNAL`
+    Cut,
     /// `gen SEED NODES LINKS HOSES`
     Generate,
 }
 
-const PROGRAM_VERBS: [(ProgramVerb, &[u8]); 10] = [
+const PROGRAM_VERBS: [(ProgramVerb, &[u8]); 11] = [
     (ProgramVerb::Run, b"run"),
     (ProgramVerb::Audit, b"audit"),
     (ProgramVerb::Serve, b"serve"),
@@ -43,6 +45,7 @@ const PROGRAM_VERBS: [(ProgramVerb, &[u8]); 10] = [
     (ProgramVerb::Ship, b"ship"),
     (ProgramVerb::Follow, b"follow"),
     (ProgramVerb::Move, b"move"),
+    (ProgramVerb::Cut, b"cut"),
     (ProgramVerb::Generate, b"gen"),
 ];
 

@@ -59,6 +59,12 @@ pub enum Request<'w> {
         tariff: Option<usize>,
         of: Move<'w>,
     },
+    /// Writes the first entries of a journal, so many of them, into another one.
+    Cut {
+        of: OfJournal<'w>,
+        count: u64,
+        to: &'w str,
+    },
 }
 
 /// The tariff that is chosen, and the name of the text of a topology.
@@ -108,6 +114,7 @@ pub fn request_of<'w>(words: &'w [String], tariffs: &[Tariff]) -> Result<Request
         Some(ProgramVerb::Ship) => ship_of(words, tariffs),
         Some(ProgramVerb::Follow) => Ok(Request::Follow(journal_of(words, tariffs)?)),
         Some(ProgramVerb::Move) => move_of(words, tariffs),
+        Some(ProgramVerb::Cut) => cut_of(words, tariffs),
         Some(ProgramVerb::Serve) => Err(1),
         None => Err(1),
     }
@@ -278,6 +285,20 @@ fn moved_at(words: &[String], at: u64) -> Result<(Names<'_>, Names<'_>), u64>
         journal: new_journal,
     };
     Ok((from, to))
+}
+
+// The cut that the words ask for: a number of entries, and the name of another journal, follow the
+// name of the journal, and nothing else.
+fn cut_of<'w>(words: &'w [String], tariffs: &[Tariff]) -> Result<Request<'w>, u64>
+    requires { AsksFor command.Cut (map string_bytes words.now) }
+    ensures { ReadsRequest (map (λ tariff. tariff.name) tariffs.now)
+        (map string_bytes words.now) result }
+{
+    let (of, at) = journal_at(words, tariffs)?;
+    let count = number_at(words, at, 0, MOST_EPOCH)?;
+    let to = other_at(words, at + 1, of.names.journal)?;
+    none_at(words, at + 2)?;
+    Ok(Request::Cut { of, count, to })
 }
 
 // The name of a file that this word is, counted from 1, where it is another one than that of this

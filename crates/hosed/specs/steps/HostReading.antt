@@ -1,32 +1,12 @@
 -- What is read of the words of a host.
-use Rattle.std.specs.Prelude.{◌≡◌, ℕ, ◌+◌, ◌≤◌, List, Bool, true, false, MatchOption, Option, None, Some, ⊤, length, map, option_map}
+use Rattle.std.specs.Prelude.{◌≡◌, ℕ, ◌+◌, ◌≤◌, List, Bool, true, false, Option, None, Some, length}
 use Rattle.std.specs.Borrow.{Bor}
-use Rattle.std.specs.String.{string_bytes}
 use Rattle.hose_doors.specs.Doors.{IsSocketPath}
 use Rattle.hose_words.specs.Grammar.{IsFirst}
 use Rattle.hose_words.specs.steps.Cursor.{Misses, Took}
-use Rattle.hosed.specs.HostWords.{AreDoorWords, AreHostWords, HostAsked, first_door, operator_number, operator_option, quiet_option}
-use Rattle.hosed.specs.declared.host_line.HostWords.{HostWords}
+use Rattle.hosed.specs.HostWords.{AreDoorWords, operator_option, quiet_option}
 use Rattle.hosed.specs.steps.ProgramWords.{at_word}
 use Rattle.hosed.specs.steps.Reading.{NamesFile}
-
--- what was read, as it is asked
-abbrev pub asked_of : HostWords → HostAsked
-asked_of found = record {
-  tariff = found.tariff;
-  operator = option_map (λ operator. operator.0.now) found.operator;
-  quiet = found.quiet;
-  topology = found.topology.now;
-  journal = found.journal.now;
-  doors = map string_bytes found.doors.now;
-}
-
--- the words are those of this host, and the numbers are those of the words that name its doors
-pub record ReadsHost (names words : List (List ℕ)) (found : HostWords) : Type 0 where
-  pub asked : AreHostWords names words (asked_of found)
-  pub operator : MatchOption found.operator ⊤
-      (λ operator. operator.1 ≡ operator_number names (asked_of found))
-  pub first : found.first ≡ first_door names (asked_of found)
 
 -- the option and the path of a socket came, of which this is the number, and the others follow
 pub record HasOperator (words : List (List ℕ)) (from : ℕ) (path : List ℕ) (number at : ℕ) :

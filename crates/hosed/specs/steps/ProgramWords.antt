@@ -4,7 +4,7 @@ use Rattle.hose_words.specs.steps.Cursor.{Position}
 use Rattle.std.specs.String.{string_bytes}
 use Rattle.hosed.specs.declared.verb.ProgramVerb.TheVariants as command
 use Rattle.hosed.specs.declared.words.Request.{Request}
-use Rattle.hosed.specs.declared.words.Request.TheVariants.{Audit, Check, Follow, Generate, Move, Price, Prove, Run, Ship}
+use Rattle.hosed.specs.declared.words.Request.TheVariants.{Audit, Check, Cut, Follow, Generate, Move, Price, Prove, Run, Ship}
 use Rattle.hosed.specs.declared.words.OfJournal.{OfJournal}
 use Rattle.hosed.specs.declared.words.ServeRequest.{ServeRequest}
 use Rattle.hosed.specs.ProgramWords.{AreWords, Task, first_end}
@@ -35,6 +35,8 @@ module _ (names words : List (List ℕ)) where
     of.from.topology.now,
     (of.from.journal.now, (of.to.topology.now, (of.to.journal.now, tt))),
   )
+  AreWordsOf (Cut of count to) = AreWords names words command.Cut
+      (of.tariff, of.names.topology.now, (of.names.journal.now, (count, (to.now, tt))))
 
 -- what a server is to do
 abbrev pub task_of : ServeRequest → Task command.Serve

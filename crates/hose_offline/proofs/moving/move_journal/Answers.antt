@@ -30,9 +30,9 @@ returns-in-Ok g c =
       moves = moves;
       ends = ended;
       whole = whole_of tells names before left _ _ _ _ moves ended;
-      old_kept = λ apart. kept_named tells names before left apart _ moves;
+      old_kept = kept_named tells names before left _ moves;
       others = λ name not_old not_new. others_named tells names before left name not_old not_new _ moves;
-      complete = λ movable none. completes tells names before left _ c.in-Ok.old c.read_topology.new.cabinet _ _ (recovered_once c.in-Ok.old) reads moved.ensures.moves ended movable none.writing none.keeping_it;
+      complete = λ movable none. completes tells before left _ names c.in-Ok.old c.read_topology.new.cabinet _ _ (recovered_once c.in-Ok.old) reads moved.ensures.moves ended movable none.writing none.keeping_it;
       input = moved.ensures.input;
     } in
     record { outcome = outcome; told = c.end_move.ensures.told; not_words = move_not_1 _ _ _ _ _ outcome; out = moved.ensures.back ∙ sym c.requires.none_out; keeps = search rules }
@@ -53,7 +53,7 @@ returns-in-Err g c =
       moves = moves;
       ends = ended;
       whole = whole_of tells names before left done _ _ _ moves ended;
-      old_kept = λ apart. kept_named tells names before left apart done moves;
+      old_kept = kept_named tells names before left done moves;
       others = λ name not_old not_new. others_named tells names before left name not_old not_new done moves;
       complete = λ movable none. inr (ended.0 ∙ old_refused tells.cabinet before.cabinet c.read_topology.new.cabinet names.prices names.topology c.in-Err.why reads movable.servable none.keeping_it);
       input = refl;

@@ -26,6 +26,9 @@ returns-in-Ship-clause-outcome g c = λ words are. right_words _ _ _ _ _ _ comma
 pub returns-in-Follow-clause-outcome : goal.returns-in-Follow-clause-outcome
 returns-in-Follow-clause-outcome g c = λ words are. right_words _ _ _ _ _ _ command.Follow _ (rw c.in-Follow.is at are) c.follow_by.ensures.not_words c.follow_by.ensures.outcome
 
+pub returns-in-Cut-clause-outcome : goal.returns-in-Cut-clause-outcome
+returns-in-Cut-clause-outcome g c = λ words are. right_words _ _ _ _ _ _ command.Cut _ (rw c.in-Cut.is at are) c.cut_by.ensures.not_words c.cut_by.ensures.outcome
+
 pub returns-in-Move-clause-outcome : goal.returns-in-Move-clause-outcome
 returns-in-Move-clause-outcome g c = λ words are. right_words _ _ _ _ _ _ command.Move _ (rw c.in-Move.is at are) c.move_by.ensures.not_words c.move_by.ensures.outcome
 

@@ -27,5 +27,8 @@ returns-in-Ship c = λ names words are. are_named names words command.Ship _ c.f
 pub returns-in-Follow : goal.returns-in-Follow
 returns-in-Follow c = λ names words are. are_named names words command.Follow _ c.files-in-Follow.result (rw c.in-Follow.is at are) (rw c.files-in-Follow.ensures refl)
 
+pub returns-in-Cut : goal.returns-in-Cut
+returns-in-Cut c = λ names words are. are_named names words command.Cut _ c.cut_files.result (rw c.in-Cut.is at are) (rw c.cut_files.ensures refl)
+
 pub returns-in-Move : goal.returns-in-Move
 returns-in-Move c = λ names words are. are_named names words command.Move _ c.moved_files.result (rw c.in-Move.is at are) (rw c.moved_files.ensures refl)
