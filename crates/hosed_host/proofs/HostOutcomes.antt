@@ -1,6 +1,6 @@
 -- What a host comes to, from what was read, what was hosted and what was told.
 use Rattle.std.proofs.Common.{◌≡◌, ◌≢◌, ◌∙◌, ◌⊎◌, inl, inr, ℕ, List, Bool, true, false, Some, IsErr, Result, Ok, Err, refl, sym, ap, subst}
-use Rattle.std.specs.Prelude.{⊤}
+use Rattle.std.specs.Prelude.{IfErr, ⊤}
 use Rattle.hose_io.specs.Frame.{Frame, Met, Rose}
 use Rattle.hose_io.specs.declared.Failed.{Failed}
 use Rattle.hose_io.specs.declared.sink.Sink.{Ghosts as SinkGhosts}
@@ -22,10 +22,13 @@ use Rattle.hose_offline.specs.declared.fault.Fault.TheVariants.{Cabinet, Door}
 use Rattle.hose_offline.proofs.Audited.{named_not_1, named_not_read, named_read, no_store, no_topology, told_status}
 use Rattle.hose_offline.proofs.Audits.{has_before, held_before}
 use Rattle.hose_offline.proofs.Outcomes.{clash}
-use Rattle.hosed_host.specs.HostBook.{Announces, DoorTellings, EndsHosted, HostProgress, HostsByJournal, KeepsHosted, end_of_host, host_progress}
+use Rattle.hosed_host.specs.HostBook.{Announces, DoorTellings, EndsHosted, HostProgress, HostsByJournal, KeepsHosted, LeavesDoors, TellsDoor, end_of_host, host_progress}
 use Rattle.hosed_host.specs.HostDoors.{DoorsAsked}
 use Rattle.hosed_host.specs.HostOutcome.{HostOutcome, OutsideDoors, to_host}
-use Rattle.hosed_host.specs.steps.HostOutcome.{HostsJournal}
+use Rattle.hosed_host.specs.steps.HostOutcome.{HostsJournal, IsWhyOf}
+use Rattle.hosed_host.specs.declared.why.HostWhy.{HostWhy}
+use Rattle.hosed_host.specs.declared.why.HostWhy.TheVariants as reason
+use Rattle.hose_net.specs.declared.doors.Doors.{Ghosts as DoorsGhosts}
 use Rattle.hosed_host.specs.declared.hosting.HostEnd.{HostEnd}
 use Rattle.hosed_host.specs.declared.hosting.NotHosted.{NotHosted}
 use Rattle.hosed_host.specs.declared.hosting.NotHosted.TheVariants as none
@@ -41,7 +44,7 @@ failed_is true (Ok done) why is = absurd (cc is)
 -- a host that opened its store ends with one of these
 hosted_status : {O : Type 0} (sink : SinkGhosts O) (output left : O) (status : ℕ) (came : Result HostEnd NotHosted) → EndsHosted sink output left status came → (other : ℕ) → other ≢ 0 → other ≢ 4 → other ≢ 6 → other ≢ 7 → other ≢ 9 → status ≢ other
 hosted_status sink output left status (Err none.Memory) ends other no_0 no_4 no_6 no_7 no_9 is = no_7 (sym is ∙ ends.0)
-hosted_status sink output left status (Err (none.Door word)) ends other no_0 no_4 no_6 no_7 no_9 is = no_9 (sym is ∙ ends.0)
+hosted_status sink output left status (Err (none.Door word trouble)) ends other no_0 no_4 no_6 no_7 no_9 is = no_9 (sym is ∙ ends.0)
 hosted_status sink output left status (Err none.Write) ends other no_0 no_4 no_6 no_7 no_9 is = no_4 (sym is ∙ ends.0)
 hosted_status sink output left status (Ok end) ends other no_0 no_4 no_6 no_7 no_9 is =
     told_status sink output left status (end_of_host end.ended end.closing) (audit_text end.book.network end.book.book) ends other no_0 no_4
@@ -51,9 +54,15 @@ hosted_status sink output left status (Ok end) ends other no_0 no_4 no_6 no_7 no
     by why (inl door) same = no_9 (sym same ∙ ap status_of door)
     by why (inr cabinet) same = no_6 (sym same ∙ ap status_of cabinet)
 
+-- ---- the door that is told
+
+pub told_door : {D N : Type 0} (doors : DoorsGhosts D N) (asked : DoorsAsked) (was now : D) (came : Result HostEnd NotHosted) (result : HostWhy) → IsWhyOf came result → IfErr came (LeavesDoors doors asked was now) → TellsDoor doors asked was now result
+told_door doors asked was now came (reason.Ended other) is left = tt
+told_door doors asked was now came (reason.Door word trouble) is left = subst (λ (one : Result HostEnd NotHosted). IfErr one (LeavesDoors doors asked was now)) is left
+
 -- ---- where texts alone were read before, and no call of the cabinet failed
 
-module _ {I O C E D N : Type 0} (tells : Tellings I O C E) (by : DoorTellings D N) (name : List ℕ) (asked : DoorsAsked) (old mid new : C) (only : OnlyTextsRead tells.cabinet old mid) (same : CabinetWorked tells.cabinet old mid) (network : Network) where
+module _ {I O C E D N : Type 0} (tells : Tellings I O C E) (by : DoorTellings D N E) (name : List ℕ) (asked : DoorsAsked) (old mid new : C) (only : OnlyTextsRead tells.cabinet old mid) (same : CabinetWorked tells.cabinet old mid) (network : Network) where
   keeps_before : (made : HostProgress) (closing : Result ⊤ Failed) → KeepsHosted tells name mid new made closing → KeepsHosted tells name old new made closing
   keeps_before made closing has = record {
     begun = held_before tells.cabinet tells.disk old mid new only name _ has.begun;
@@ -89,12 +98,13 @@ module _ {I O C E D N : Type 0} (tells : Tellings I O C E) (by : DoorTellings D 
       hosts = hosts.hosted.hosts;
       comes_to = keeps_before (host_progress network hosts.since hosts.history (exchanges hosts.hosted.story) end.ended) end.closing hosts.hosted.comes_to;
       settled = hosts.hosted.settled;
+      stopped = hosts.hosted.stopped;
     };
     is = hosts.is;
   }
-  hosts_before was now (Err why) stays = record { since = stays.since; closing = stays.closing; kept = keeps_before (host_progress network stays.since stays.since _ false) stays.closing stays.kept }
+  hosts_before was now (Err why) (stays, left) = (record { since = stays.since; closing = stays.closing; kept = keeps_before (host_progress network stays.since stays.since _ false) stays.closing stays.kept }, left)
 
-module _ {I O C E D N : Type 0} (tells : Tellings I O C E) (by : DoorTellings D N) (names : PricedNames) (asked : DoorsAsked) (before after : OutsideDoors I O C D) where
+module _ {I O C E D N : Type 0} (tells : Tellings I O C E) (by : DoorTellings D N E) (names : PricedNames) (asked : DoorsAsked) (before after : OutsideDoors I O C D) where
   -- the words are not what is wrong
   pub host_not_1 : (status : ℕ) → HostOutcome tells by names asked before after status → status ≢ 1
   host_not_1 status outcome = named_not_1 tells names before.others after.others (to_host tells by names asked before after status) outcome.left status
@@ -120,17 +130,17 @@ module _ {I O C E D N : Type 0} (tells : Tellings I O C E) (by : DoorTellings D 
     hosted_ends mid true (Ok closed) text held closes same (inl whole) = inl whole.0
     hosted_ends mid true (Ok closed) text held closes same (inr part) = absurd (held.writing (subst (λ (f : Frame). Rose f (tells.sink.frame after.others.output)) same part.1))
 
-    completes : (mid : O) (one : Result HostEnd NotHosted) → Failing → Hosts one → Announces tells.sink asked before.others.output mid one → EndsHosted tells.sink mid after.others.output status one → (status ≡ 0) ⊎ (status ≡ 7)
+    completes : (mid : O) (one : Result HostEnd NotHosted) → Failing → Hosts one → Announces tells.sink before.others.output mid one → EndsHosted tells.sink mid after.others.output status one → (status ≡ 0) ⊎ (status ≡ 7)
     completes mid (Ok end) held kept says out = hosted_ends mid end.ended end.closing (audit_text end.book.network end.book.book) held kept.hosted.comes_to.met.failed says.1 out
     completes mid (Err none.Memory) held is says out = inr out.0
-    completes mid (Err (none.Door word)) held is says out = absurd (held.others out.0)
+    completes mid (Err (none.Door word trouble)) held is says out = absurd (held.others out.0)
     completes mid (Err none.Write) held is says out = absurd (held.writing (subst (λ (o : O). Rose (tells.sink.frame before.others.output) (tells.sink.frame o)) (sym out.1) says.1))
 
     refuses : (mid : O) (one : Result HostEnd NotHosted) → Failing → JournalIsTold tells.cabinet tells.disk before.others.cabinet (Some names.journal) (λ bytes. (history : List Entry) → ¬ IsHistoryOf network history bytes)
-        → Hosts one → Announces tells.sink asked before.others.output mid one → EndsHosted tells.sink mid after.others.output status one → (status ≡ 5) ⊎ (status ≡ 7)
+        → Hosts one → Announces tells.sink before.others.output mid one → EndsHosted tells.sink mid after.others.output status one → (status ≡ 5) ⊎ (status ≡ 7)
     refuses mid (Ok end) held told kept says out = absurd (clash tells.cabinet tells.disk before.others.cabinet after.others.cabinet names.journal _ _ (λ image is none. none kept.since is) kept.hosted.comes_to.begun told)
     refuses mid (Err none.Memory) held told is says out = inr out.0
-    refuses mid (Err (none.Door word)) held told is says out = absurd (held.others out.0)
+    refuses mid (Err (none.Door word trouble)) held told is says out = absurd (held.others out.0)
     refuses mid (Err none.Write) held told is says out = absurd (held.writing (subst (λ (o : O). Rose (tells.sink.frame before.others.output) (tells.sink.frame o)) (sym out.1) says.1))
 
     -- a journal was used, or not

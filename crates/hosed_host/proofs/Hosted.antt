@@ -1,5 +1,5 @@
 -- What hosting by a journal comes to, once its store was opened.
-use Rattle.std.proofs.Common.{◌≡◌, ◌∙◌, inl, inr, ℕ, ◌-◌, ◌≤◌, List, [], length, Bool, false, Result, refl, sym, ap, subst, arith, append-nil}
+use Rattle.std.proofs.Common.{◌≡◌, ◌∙◌, inl, inr, ℕ, ◌-◌, ◌≤◌, List, [], length, None, Option, Bool, false, Result, Err, refl, sym, ap, subst, arith, append-nil, le_refl}
 use Rattle.std.specs.Prelude.{⊤}
 use mathlib.Core.List.{IsPrefix}
 use Rattle.hose_io.specs.declared.Failed.{Failed}
@@ -19,18 +19,26 @@ use Rattle.hose_clerk.specs.HostReplies.{host_text}
 use Rattle.hose_clerk.specs.Hosting.{AreHostSteps, HostState, IsAskedOf, TellsDisks, host_from}
 use Rattle.hose_clerk.specs.declared.replies.HostReply.{HostReply}
 use Rattle.hose_clerk.specs.declared.sessions.Session.{Session}
+use Rattle.hose_clerk.specs.Tally.{no_tally}
+use Rattle.hose_clerk.specs.declared.tally.Tally.{Tally}
 use Rattle.hose_clerk.specs.steps.Answering.{HasHosted}
+use Rattle.hose_clerk.specs.steps.Hosting.{AreHosted}
+use Rattle.hose_net.proofs.Laws.{hosts_on}
 use Rattle.hose_disk.specs.Cabinet.{CabinetFrame}
 use Rattle.hose_store.specs.Recovery.{IsHistoryOf}
 use Rattle.hose_store.specs.steps.Commit.{store_books}
-use Rattle.hose_store.specs.steps.Store.{KeptStore}
+use Rattle.hose_store.specs.Beginning.{IsOrInDoubt}
+use Rattle.hose_store.specs.steps.Store.{IsAmid, KeptStore}
+use Rattle.hose_store.proofs.Standing.{opened_stands, run_stands}
+use Rattle.hose_offline.specs.OnDisk.{opening_of}
 use Rattle.hose_offline.specs.Parts.{Tellings}
 use Rattle.hose_offline.specs.steps.Journal.{ClosesJournal, OpensJournal}
 use Rattle.hose_offline.proofs.Journals.{leaves_for, put_back}
 use Rattle.hose_offline.proofs.PutBack.{IsPutBack, counts, held_as, left_as_kind}
-use Rattle.hosed_host.specs.HostBook.{DoorTellings, HostsDoors, KeepsHosted, StaysUnhosted, host_progress}
+use Rattle.hosed_host.specs.HostBook.{DoorTellings, HostsByJournal, HostsDoors, KeepsHosted, LeavesDoors, StandOnDisk, StaysUnhosted, host_progress}
 use Rattle.hosed_host.specs.HostDoors.{AreOpenedAt, DoorsAsked}
 use Rattle.hosed_host.specs.declared.hosting.HostEnd.{HostEnd}
+use Rattle.hosed_host.specs.declared.hosting.NotHosted.{NotHosted}
 use Rattle.hose_net.specs.declared.doors.Address.{Address}
 use Rattle.hose_clerk.specs.declared.doors.DoorRule.{DoorRule}
 
@@ -73,8 +81,8 @@ module _ {I O C E : Type 0} (tells : Tellings I O C E) (name : List ℕ) (before
   }
 
   -- lines were answered by a clerk
-  pub keeps_hosted : (sessions : List Session) (ended : Bool) (xs : List (Exchange HostLine HostReply)) (hosted : HasHosted (store_books tells.disk) since store last sessions ended xs) → KeepsHosted tells name before after (host_progress network since hosted.hosted.state.history xs ended) closing
-  keeps_hosted sessions ended xs hosted =
+  pub keeps_hosted : (sessions : List Session) (ended : Bool) (tally : Tally) (xs : List (Exchange HostLine HostReply)) (hosted : HasHosted (store_books tells.disk) since store last sessions ended tally xs) → KeepsHosted tells name before after (host_progress network since hosted.hosted.state.history xs ended) closing
+  keeps_hosted sessions ended tally xs hosted =
       let all = hosted.hosted in
       let same = opens.opens.opened.network in
       let goes = subst (λ (n : Network). GoesOn (store_books tells.disk) (IsAskedOf since xs) n since store all.state.history last) same all.goes_on in
@@ -91,27 +99,56 @@ stays_unhosted tells name before mid after network is store opens closing closes
       kept = keeps_made tells name before mid after network is store store opens closing closes (host_from since) [] false refl refl (decided_end network 0 since sound) ([], append-nil since) none_yet 0 0 (omega arith) (inl (omega arith));
     }
 
+-- no connection was let in
+pub not_hosted : {I O C E D N : Type 0} (tells : Tellings I O C E) (by : DoorTellings D N E) (name : List ℕ) (asked : DoorsAsked) (before mid after : C) (network : Network) (is : IsNetwork network) (store : KeptStore E) (opens : OpensJournal tells.cabinet tells.disk IsDecidedAt name before mid network store) (closing : Result ⊤ Failed)
+    → ClosesJournal tells.cabinet tells.disk mid after store closing → (was now : D) (why : NotHosted) → LeavesDoors by.doors asked was now why → HostsByJournal tells by name asked before after network was now (Err why)
+not_hosted tells by name asked before mid after network is store opens closing closes was now why left = (stays_unhosted tells name before mid after network is store opens closing closes, left)
+
+-- where nothing is being written
+in_doubt : (network : Network) (history : List Entry) (doubt : Option Entry) (image : List ℕ) → IsAmid network history doubt None image → IsOrInDoubt network history doubt image
+in_doubt network history doubt image (inl is) = inl is
+in_doubt network history doubt image (inr (inl with)) = inr with
+in_doubt network history doubt image (inr (inr none)) = absurd none
+
 -- connections came to the doors, and lines were answered by a clerk that began with the store
-module _ {I O C E D N : Type 0} (tells : Tellings I O C E) (by : DoorTellings D N) (name : List ℕ) (asked : DoorsAsked) (before mid after : C) (network : Network) (is : IsNetwork network) (store last : KeptStore E) (opens : OpensJournal tells.cabinet tells.disk IsDecidedAt name before mid network store) (closing : Result ⊤ Failed)
+module _ {I O C E D N : Type 0} (tells : Tellings I O C E) (by : DoorTellings D N E) (name : List ℕ) (asked : DoorsAsked) (before mid after : C) (network : Network) (is : IsNetwork network) (store last : KeptStore E) (opens : OpensJournal tells.cabinet tells.disk IsDecidedAt name before mid network store) (closing : Result ⊤ Failed)
     (closes : ClosesJournal tells.cabinet tells.disk mid after last closing) where
   -- a clerk that was made of a core over the store has answered nothing
-  pub begun : (first : KeptStore E) → first ≡ store → (clerk : KeptStore E) → clerk ≡ first → (sessions : List Session) (ended : Bool) → ended ≡ false
-      → ((since : List Entry) → IsSound first.ledger.network 0 since → HasBookOf 0 since first.ledger → HasHosted (store_books tells.disk) since first first sessions false [])
-      → HasHosted (store_books tells.disk) opens.opens.opened.history clerk clerk sessions ended []
-  begun first same clerk is_clerk sessions ended is_ended none =
+  pub begun : (first : KeptStore E) → first ≡ store → (clerk : KeptStore E) → clerk ≡ first → (sessions : List Session) (ended : Bool) (tally : Tally) → ended ≡ false → tally ≡ no_tally
+      → ((since : List Entry) → IsSound first.ledger.network 0 since → HasBookOf 0 since first.ledger → HasHosted (store_books tells.disk) since first first sessions false no_tally [])
+      → HasHosted (store_books tells.disk) opens.opens.opened.history clerk clerk sessions ended tally []
+  begun first same clerk is_clerk sessions ended tally is_ended none_counted none =
       let history = opens.opens.opened.history in
       let sound = subst (λ (kept : KeptStore E). IsSound kept.ledger.network 0 history) (sym same) opens.opens.opened.has.sound in
       let book = subst (λ (kept : KeptStore E). HasBookOf 0 history kept.ledger) (sym same) opens.opens.opened.has.book in
-      subst (λ (one : KeptStore E). HasHosted (store_books tells.disk) history one one sessions ended []) (sym is_clerk)
-      (subst (λ (e : Bool). HasHosted (store_books tells.disk) history first first sessions e []) (sym is_ended) (none history sound book))
+      subst (λ (one : KeptStore E). HasHosted (store_books tells.disk) history one one sessions ended tally []) (sym is_clerk)
+      (subst (λ (t : Tally). HasHosted (store_books tells.disk) history first first sessions ended t []) (sym none_counted)
+      (subst (λ (e : Bool). HasHosted (store_books tells.disk) history first first sessions e no_tally []) (sym is_ended) (none history sound book)))
+
+  -- lines that were answered stand on the disk
+  on_disk : (xs : List (Exchange HostLine HostReply)) (kept : KeptStore E) → AreHosted (store_books tells.disk) store.ledger.network opens.opens.opened.history store kept xs → StandOnDisk tells.disk network opens.opens.opened.history xs kept
+  on_disk xs kept all =
+      let since = opens.opens.opened.history in
+      let same = opens.opens.opened.network in
+      let goes = subst (λ (n : Network). GoesOn (store_books tells.disk) (IsAskedOf since xs) n since store all.state.history kept) same all.goes_on in
+      let laws = opens.opens.lawful in
+      let stands = opened_stands tells.disk (IsAskedOf since xs) (tells.disk.may_leave opens.was) (opening_of tells.disk network since opens.was) opens.was store opens.opens.opened refl opens.opens.images opens.opens.stands.tells refl (laws.counts_now opens.was) (laws.untold store.journal.disk) (le_refl _) (laws.only_now opens.was) in
+      let stood = run_stands tells.disk (IsAskedOf since xs) (tells.disk.may_leave opens.was) (opening_of tells.disk network since opens.was) since store all.state.history kept stands goes in
+      record {
+        state = all.state;
+        steps = subst (λ (n : Network). AreHostSteps n xs (host_from since) all.state) same all.steps;
+        doubt = stood.doubt;
+        doubtful = stood.doubtful;
+        now = λ image may. in_doubt network all.state.history stood.doubt image (subst (λ (n : Network). IsAmid n all.state.history stood.doubt None image) stood.network (stood.has.images image may));
+      }
 
   -- the story of the connections is that of the network of the journal
-  pub hosts_doors : (was between now : D) (one other : N) (end : HostEnd) (addresses : List Address) (rules : List DoorRule) (first : KeptStore E) (sessions : List Session) (ended : Bool) (about : Network) → first ≡ store → about ≡ network → AreOpenedAt asked addresses rules
-      → IsHosted (record { did = by.did; says = SaysAt about rules; text = host_text about }) (λ xs. HasHosted (store_books tells.disk) opens.opens.opened.history first last sessions ended xs) ended one other
-      → by.doors.opens was addresses one → by.doors.closes between other now → end.ended ≡ ended → end.closing ≡ closing → end.book ≡ last.ledger → HostsDoors tells by name asked before after network was now end
-  hosts_doors was between now one other end addresses rules first sessions ended about is_first same as_asked hosted opened closed same_end same_closing same_book =
-      let here = subst (λ (kept : KeptStore E). HasHosted (store_books tells.disk) opens.opens.opened.history kept last sessions ended (exchanges hosted.story)) is_first hosted.comes_to in
-      let keeps = keeps_hosted tells name before mid after network is store last opens closing closes sessions ended (exchanges hosted.story) here in
+  pub hosts_doors : (was between now : D) (one other : N) (end : HostEnd) (addresses : List Address) (rules : List DoorRule) (first : KeptStore E) (sessions : List Session) (ended : Bool) (tally : Tally) (about : Network) → first ≡ store → about ≡ network → AreOpenedAt asked addresses rules
+      → IsHosted (record { did = by.did; saw = by.saw; stands = λ xs kept. AreHosted (store_books tells.disk) first.ledger.network opens.opens.opened.history first kept xs; says = SaysAt about rules; text = host_text about }) (λ xs. HasHosted (store_books tells.disk) opens.opens.opened.history first last sessions ended tally xs) ended one other
+      → by.doors.opens was addresses one between → by.doors.closes between other now → end.ended ≡ ended → end.closing ≡ closing → end.book ≡ last.ledger → HostsDoors tells by name asked before after network was now end
+  hosts_doors was between now one other end addresses rules first sessions ended tally about is_first same as_asked hosted opened closed same_end same_closing same_book =
+      let here = subst (λ (kept : KeptStore E). HasHosted (store_books tells.disk) opens.opens.opened.history kept last sessions ended tally (exchanges hosted.story)) is_first hosted.comes_to in
+      let keeps = keeps_hosted tells name before mid after network is store last opens closing closes sessions ended tally (exchanges hosted.story) here in
       record {
         since = opens.opens.opened.history;
         history = here.hosted.state.history;
@@ -125,9 +162,12 @@ module _ {I O C E D N : Type 0} (tells : Tellings I O C E) (by : DoorTellings D 
         closed = closed;
         hosted = record {
           story = hosted.story;
-          hosts = subst (λ (n : Network). Hosts (record { did = by.did; says = SaysAt n rules; text = host_text n }) one hosted.story other) same hosted.hosts;
+          hosts = hosts_on (record { did = by.did; saw = by.saw; stands = λ xs kept. AreHosted (store_books tells.disk) store.ledger.network opens.opens.opened.history store kept xs; says = SaysAt network rules; text = host_text network }) one (StandOnDisk tells.disk network opens.opens.opened.history) on_disk hosted.story other
+              (subst (λ (n : Network). Hosts (record { did = by.did; saw = by.saw; stands = λ xs kept. AreHosted (store_books tells.disk) store.ledger.network opens.opens.opened.history store kept xs; says = SaysAt n rules; text = host_text n }) one hosted.story other) same
+              (subst (λ (begun : KeptStore E). Hosts (record { did = by.did; saw = by.saw; stands = λ xs kept. AreHosted (store_books tells.disk) begun.ledger.network opens.opens.opened.history begun kept xs; says = SaysAt about rules; text = host_text about }) one hosted.story other) is_first hosted.hosts));
           comes_to = subst (λ (b : Bool). KeepsHosted tells name before after (host_progress network opens.opens.opened.history here.hosted.state.history (exchanges hosted.story) b) end.closing) (sym same_end) (subst (KeepsHosted tells name before after (host_progress network opens.opens.opened.history here.hosted.state.history (exchanges hosted.story) ended)) (sym same_closing) keeps);
           settled = subst (λ (n : Network). (place : ℕ) → IsSettled (host_text n) (heard_in hosted.story) end.ended (life place hosted.story)) same (subst (λ (b : Bool). (place : ℕ) → IsSettled (host_text about) (heard_in hosted.story) b (life place hosted.story)) (sym same_end) hosted.settled);
+          stopped = λ none. hosted.stopped (sym same_end ∙ none);
         };
         is = subst (IsLedgerOf network 0 here.hosted.state.history) (sym same_book) (record { is_network = here.network ∙ opens.opens.opened.network; is_book = here.book });
       }

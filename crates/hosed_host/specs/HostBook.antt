@@ -1,15 +1,18 @@
 -- What a host does to its journal, and what it tells.
-use Rattle.std.specs.Prelude.{◌≡◌, ℕ, ◌≤◌, List, [], codes, length, take, Bool, true, false, Result, Ok, Err, ⊤}
+use Rattle.std.specs.Prelude.{◌≡◌, ◌⊎◌, ℕ, ◌≤◌, List, [], codes, length, take, Bool, true, false, IfSome, Option, Result, Ok, Err, ⊤}
 use mathlib.Core.List.{IsPrefix}
 use Rattle.hose_io.specs.Frame.{Met, Rose}
 use Rattle.hose_io.specs.Stream.{Grows}
 use Rattle.hose_io.specs.Writing.{GrowsInPart}
 use Rattle.hose_io.specs.declared.Failed.{Failed}
 use Rattle.hose_io.specs.declared.sink.Sink.{Ghosts as SinkGhosts}
+use Rattle.hose_net.specs.Doors.{IsAmong}
 use Rattle.hose_net.specs.Happening.{Happening}
 use Rattle.hose_net.specs.Story.{Exchange, IsHosted}
 use Rattle.hose_net.specs.declared.doors.Address.{Address}
 use Rattle.hose_net.specs.declared.doors.Doors.{Ghosts as DoorsGhosts}
+use Rattle.hose_net.specs.declared.doors.DoorsFault.{DoorsFault}
+use Rattle.hose_net.specs.declared.doors.DoorsFault.TheVariants as refusal
 use Rattle.hose_graph.specs.Network.{Network}
 use Rattle.hose_graph.specs.declared.entry.Entry.{Entry}
 use Rattle.hose_law.specs.Book.{IsOversold}
@@ -24,17 +27,22 @@ use Rattle.hose_clerk.specs.declared.doors.DoorRule.{DoorRule}
 use Rattle.hose_clerk.specs.declared.replies.HostReply.{HostReply}
 use Rattle.hose_audit.specs.Audit.{audit_text}
 use Rattle.hose_disk.specs.Cabinet.{object_of}
+use Rattle.hose_disk.specs.declared.disk.Disk.{Ghosts as DiskGhosts}
+use Rattle.hose_journal.specs.Moments.{Images}
 use Rattle.hose_proto.specs.ReplyText.{line_of}
-use Rattle.hose_store.specs.Beginning.{HasLeft}
+use Rattle.hose_store.specs.Beginning.{HasLeft, IsOrInDoubt}
 use Rattle.hose_store.specs.Recovery.{IsHistoryOf}
+use Rattle.hose_store.specs.steps.Store.{KeptStore}
 use Rattle.hose_offline.specs.Ending.{EndsTold, IsOut}
 use Rattle.hose_offline.specs.Fault.{last_line, status_of}
 use Rattle.hose_offline.specs.OnDisk.{HadContent, OfHeld, opening_of}
 use Rattle.hose_offline.specs.Parts.{Tellings}
 use Rattle.hose_offline.specs.declared.fault.Fault.{Fault}
 use Rattle.hose_offline.specs.declared.fault.Fault.TheVariants as fault
-use Rattle.hosed_host.specs.HostDoors.{AreOpenedAt, DoorsAsked, IsNumberAt}
+use Rattle.hosed_host.specs.HostDoors.{AreOpenedAt, DoorsAsked, number_of}
 use Rattle.hosed_host.specs.HostWhy.{door_line}
+use Rattle.hosed_host.specs.declared.why.HostWhy.{HostWhy}
+use Rattle.hosed_host.specs.declared.why.HostWhy.TheVariants.{Door, Ended}
 use Rattle.hosed_host.specs.declared.hosting.HostEnd.{HostEnd}
 use Rattle.hosed_host.specs.declared.hosting.NotHosted.{NotHosted}
 use Rattle.hosed_host.specs.declared.hosting.NotHosted.TheVariants as none
@@ -99,23 +107,70 @@ module _ {I O C E : Type 0} (tells : Tellings I O C E) (name : List ℕ) (old ne
     pub closing : Result ⊤ Failed
     pub kept : KeepsHosted (host_progress network since since [] false) closing
 
+-- Lines that were answered from a history on stand on the disk of a store: each image that a stop
+-- may leave now stands for the history to which they led, or for it and one entry more, for which
+-- one of the lines asked.
+pub record StandOnDisk {E : Type 0} (disk : DiskGhosts E) (network : Network) (since : List Entry)
+    (exchanges : List (Exchange HostLine HostReply)) (store : KeptStore E) : Type 0 where
+  pub state : HostState
+  pub steps : AreHostSteps network exchanges (host_from since) state
+  pub doubt : Option Entry
+  pub doubtful : IfSome doubt (IsAskedOf since exchanges network (book_of 0 state.history))
+  pub now : Images disk store.journal.disk (IsOrInDoubt network state.history doubt)
+
 -- ---- the doors
 
--- what doors and the connections that come to them tell
-pub record DoorTellings (D N : Type 0) : Type 1 where
+-- what doors and the connections that come to them tell, and which store a call was shown that sent
+-- bytes
+pub record DoorTellings (D N E : Type 0) : Type 1 where
   pub doors : DoorsGhosts D N
   pub did : N → List Happening → N → Type 0
+  pub saw : N → KeptStore E → N → Type 0
 
 -- what doors and their connections tell, of its parts
-abbrev pub door_tellings : {D N : Type 0} → DoorsGhosts D N
-    → (N → List Happening → N → Type 0) → DoorTellings D N
-door_tellings doors did = record { doors = doors; did = did }
+abbrev pub door_tellings : {D N E : Type 0} → DoorsGhosts D N → (N → List Happening → N → Type 0)
+    → (N → KeptStore E → N → Type 0) → DoorTellings D N E
+door_tellings doors did saw = record { doors = doors; did = did; saw = saw }
 
-module _ {I O C E D N : Type 0} (tells : Tellings I O C E) (by : DoorTellings D N)
+module _ {D N : Type 0} (doors : DoorsGhosts D N) (asked : DoorsAsked) (was now : D) where
+  -- the doors that were asked for could not be opened, for this reason
+  pub record RefusesDoors (why : DoorsFault) : Type 0 where
+    pub addresses : List Address
+    pub rules : List DoorRule
+    pub as_asked : AreOpenedAt asked addresses rules
+    pub among : IsAmong (length addresses) why
+    pub refused : doors.refuses was addresses why now
+
+  -- the doors that were asked for were opened, and closed again at once
+  pub record ClosesDoors : Type 0 where
+    pub addresses : List Address
+    pub rules : List DoorRule
+    pub as_asked : AreOpenedAt asked addresses rules
+    pub first : N
+    pub between : D
+    pub opened : doors.opens was addresses first between
+    pub closed : doors.closes between first now
+
+  -- How doors are left to which no connection was let in. They were not touched, or could not be
+  -- opened for want of memory; the door that the word of a number names could not be; or they are
+  -- closed again, since it could not be said that they are open.
+  abbrev pub LeavesDoors : NotHosted → Type 0
+  LeavesDoors none.Memory = (now ≡ was) ⊎ RefusesDoors refusal.Memory
+  LeavesDoors (none.Door word trouble) = (place : ℕ) × (word ≡ number_of asked place)
+      × RefusesDoors (refusal.Door place trouble)
+  LeavesDoors none.Write = ClosesDoors
+
+  -- where it is told which door could not be opened, and why, the opening failed for that
+  abbrev pub TellsDoor : HostWhy → Type 0
+  TellsDoor (Ended why) = ⊤
+  TellsDoor (Door word trouble) = LeavesDoors (none.Door word trouble)
+
+module _ {I O C E D N : Type 0} (tells : Tellings I O C E) (by : DoorTellings D N E)
     (name : List ℕ) (asked : DoorsAsked) (old new : C) (network : Network) where
-  -- The doors that were asked for were opened, and closed again; between, connections came to them
-  -- and were hosted: by a story whose exchanges are those by which the journal is kept. The book is
-  -- that of its history.
+  -- The doors that were asked for were opened once, and closed again; between, connections came to
+  -- them and were hosted, until the operator ended that or the network told to stop: by a story
+  -- whose exchanges are those by which the journal is kept, and in which nothing was sent before
+  -- all lines that were answered stood on the disk. The book is that of its history.
   pub record HostsDoors (was now : D) (end : HostEnd) : Type 0 where
     pub since : List Entry
     pub history : List Entry
@@ -125,10 +180,12 @@ module _ {I O C E D N : Type 0} (tells : Tellings I O C E) (by : DoorTellings D 
     pub addresses : List Address
     pub rules : List DoorRule
     pub as_asked : AreOpenedAt asked addresses rules
-    pub opened : by.doors.opens was addresses first
+    pub opened : by.doors.opens was addresses first between
     pub closed : by.doors.closes between last now
     pub hosted : IsHosted (record {
       did = by.did;
+      saw = by.saw;
+      stands = StandOnDisk tells.disk network since;
       says = SaysAt network rules;
       text = host_text network;
     }) (λ exchanges. KeepsHosted tells name old new
@@ -136,11 +193,12 @@ module _ {I O C E D N : Type 0} (tells : Tellings I O C E) (by : DoorTellings D 
         end.ended first last
     pub is : IsLedgerOf network 0 history end.book
 
-  -- what hosting by a journal that was opened comes to: connections were hosted, or nothing was
-  -- entered
+  -- what hosting by a journal that was opened comes to: connections were hosted; or nothing was
+  -- entered, and the doors were left so
   abbrev pub HostsByJournal : D → D → Result HostEnd NotHosted → Type 0
   HostsByJournal was now (Ok end) = HostsDoors was now end
   HostsByJournal was now (Err why) = StaysUnhosted tells name old new network
+      × LeavesDoors by.doors asked was now why
 
 -- ---- what a host says
 
@@ -151,7 +209,7 @@ end_of_host false closing = Err fault.Door
 end_of_host true (Err failed) = Err fault.Cabinet
 end_of_host true (Ok _) = Ok tt
 
-module _ {O : Type 0} (sink : SinkGhosts O) (asked : DoorsAsked) (output output' : O) where
+module _ {O : Type 0} (sink : SinkGhosts O) (output output' : O) where
   -- What a host that opened its journal has said before its last lines: that customers may come,
   -- once the doors are open; or nothing, where there was no memory or a door could not be opened;
   -- or a part of that, and the output failed.
@@ -159,8 +217,7 @@ module _ {O : Type 0} (sink : SinkGhosts O) (asked : DoorsAsked) (output output'
   Announces (Ok end) = Grows (sink.content output) (sink.content output') (line_of (codes "ready"))
       × (sink.frame output' ≡ sink.frame output)
   Announces (Err none.Memory) = output' ≡ output
-  Announces (Err (none.Door word)) = (output' ≡ output)
-      × ((place : ℕ) × IsNumberAt asked place word)
+  Announces (Err (none.Door word trouble)) = output' ≡ output
   Announces (Err none.Write) = GrowsInPart (sink.content output) (sink.content output')
       (line_of (codes "ready"))
       × Rose (sink.frame output) (sink.frame output')
@@ -173,6 +230,6 @@ module _ {O : Type 0} (sink : SinkGhosts O) (output output' : O) where
       (end_of_host end.ended end.closing) (audit_text end.book.network end.book.book)
   EndsHosted status (Err none.Memory) =
       (status ≡ status_of fault.Memory) × IsOut sink output output' (last_line fault.Memory)
-  EndsHosted status (Err (none.Door word)) =
+  EndsHosted status (Err (none.Door word trouble)) =
       (status ≡ status_of fault.Door) × IsOut sink output output' (door_line word)
   EndsHosted status (Err none.Write) = (status ≡ status_of fault.Write) × (output' ≡ output)

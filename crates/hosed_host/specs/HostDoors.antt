@@ -1,5 +1,5 @@
 -- Which doors a host opens, and who may greet at each.
-use Rattle.std.specs.Prelude.{◌≡◌, ◌⊎◌, ℕ, ◌+◌, ◌<◌, List, [], ◌∷◌, ◌++◌, get_or, length, map, Option, None, Some, slice_index_or, suc, zero}
+use Rattle.std.specs.Prelude.{◌≡◌, ℕ, ◌+◌, ◌<◌, List, [], ◌∷◌, ◌++◌, get_or, length, map, Option, None, Some, slice_index_or, suc, zero}
 use Rattle.hose_graph.specs.Limits.{operator}
 use Rattle.hose_net.specs.declared.doors.Address.{Address}
 use Rattle.hose_net.specs.declared.doors.Address.TheVariants as address
@@ -58,11 +58,6 @@ number_by (Some path) first (suc rest) = first + rest
 -- the number of the word of a door, by its place
 abbrev pub number_of : DoorsAsked → ℕ → ℕ
 number_of asked place = number_by asked.operator asked.first place
-
--- this is the number of the word of the door at a place, or 0 where there is no such door
-abbrev pub IsNumberAt : DoorsAsked → ℕ → ℕ → Type 0
-IsNumberAt asked place number = (number ≡ 0)
-    ⊎ ((place < length (door_names asked)) × (number ≡ number_of asked place))
 
 -- doors were opened at these addresses, by these rules of who may greet at each: they are those
 -- that were asked for, the operator's first

@@ -14,7 +14,7 @@ pub record OutsideDoors (I O C D : Type 0) : Type 0 where
   pub others : Parts I O C
   pub doors : D
 
-module _ {I O C E D N : Type 0} (tells : Tellings I O C E) (by : DoorTellings D N)
+module _ {I O C E D N : Type 0} (tells : Tellings I O C E) (by : DoorTellings D N E)
     (name : List ℕ) (asked : DoorsAsked) (before after : OutsideDoors I O C D) where
   -- A store was opened on the journal and connections were hosted, or not, which left the output as
   -- `mid` is, and then the rest was told.
@@ -23,10 +23,10 @@ module _ {I O C E D N : Type 0} (tells : Tellings I O C E) (by : DoorTellings D 
     pub came : Result HostEnd NotHosted
     pub hosts : HostsByJournal tells by name asked before.others.cabinet after.others.cabinet
         network before.doors after.doors came
-    pub announces : Announces tells.sink asked before.others.output mid came
+    pub announces : Announces tells.sink before.others.output mid came
     pub ends : EndsHosted tells.sink mid after.others.output status came
 
-module _ {I O C E D N : Type 0} (tells : Tellings I O C E) (by : DoorTellings D N)
+module _ {I O C E D N : Type 0} (tells : Tellings I O C E) (by : DoorTellings D N E)
     (names : PricedNames) (asked : DoorsAsked) (before after : OutsideDoors I O C D) where
   -- what a host is for; where doors fail, the status 9 tells so
   abbrev pub to_host : ℕ → Purpose

@@ -10,7 +10,7 @@ use Rattle.hosed_host.specs.declared.why.HostWhy.TheVariants.{Door, Ended}
 -- the status
 abbrev pub host_status : HostWhy → ℕ
 host_status (Ended why) = why_status why
-host_status (Door word) = 9
+host_status (Door word trouble) = 9
 
 -- the line that tells which door could not be opened, by the number of its word
 abbrev pub door_line : ℕ → List ℕ
@@ -19,7 +19,7 @@ door_line word = line_of (codes "door " ++ decimal word)
 -- the last line
 abbrev pub last_of_host : HostWhy → List ℕ
 last_of_host (Ended why) = why_line why
-last_of_host (Door word) = door_line word
+last_of_host (Door word trouble) = door_line word
 
 -- What was put out last ends with the line that tells why; or the output failed, and a part of that
 -- is out.

@@ -1,5 +1,5 @@
 // A host: connections to doors, whose lines are answered by the book of a journal.
-ghost use Rattle.std.specs.Prelude.{◌≡◌, ◌≢◌, ℕ, List, codes, get_or, Err, IfErr, IfOk, IfSome, IsSome, None};
+ghost use Rattle.std.specs.Prelude.{◌≡◌, ◌≢◌, ℕ, List, codes, get_or, length, Err, IfErr, IfOk, IfSome, IsSome, None};
 ghost use Rattle.hose_io.specs.Frame.{Stays};
 ghost use Rattle.hose_io.specs.Stream.{Grows};
 ghost use Rattle.hose_proto.specs.ReplyText.{line_of};
@@ -10,12 +10,15 @@ ghost use Rattle.hose_offline.specs.Auditing.{priced_names};
 ghost use Rattle.hose_offline.specs.OnDisk.{OthersStay};
 ghost use Rattle.hose_offline.specs.Parts.{tellings};
 ghost use Rattle.hose_offline.specs.Why.{why_status};
+ghost use Rattle.hose_store.specs.steps.Store.{KeptStore};
 ghost use Rattle.hose_offline.specs.steps.Journal.{OpensJournal, TouchesOnly};
 ghost use Rattle.hose_offline.specs.steps.Parts.{KeepsAll, LeavesBeside, held};
-ghost use Rattle.hosed_host.specs.HostBook.{Announces, EndsHosted, HostsByJournal, door_tellings, end_of_host};
+ghost use Rattle.hosed_host.specs.HostBook.{Announces, EndsHosted, HostsByJournal, LeavesDoors, TellsDoor, door_tellings, end_of_host};
+ghost use Rattle.hosed_host.specs.HostDoors.{AreOpenedAt, door_names};
+ghost use Rattle.hose_clerk.specs.declared.doors.DoorRule.{DoorRule};
 ghost use Rattle.hosed_host.specs.HostWhy.{TellsWhy, door_line, host_status};
 ghost use Rattle.hosed_host.specs.HostOutcome.{HostOutcome};
-ghost use Rattle.hosed_host.specs.steps.HostOutcome.{AreServable, HostsJournal, asked_of, doors_beside};
+ghost use Rattle.hosed_host.specs.steps.HostOutcome.{AreServable, HostsJournal, IsWhyOf, asked_of, doors_beside};
 
 use crate::opening::{HostDoors, Opened, opened_as};
 use crate::why::HostWhy;
@@ -27,7 +30,7 @@ use hose_graph::Topology;
 use hose_host::{HostAnswers, host};
 use hose_io::{Failed, Gather, Sink, Source, write_all};
 use hose_log::Log;
-use hose_net::{Address, Doors, DoorsFault};
+use hose_net::{Address, DoorTrouble, Doors, DoorsFault};
 use hose_offline::{Fault, Outside, Why, close_journal, end, open_journal, read_topology, tell};
 use hose_paths::{RowTable, RowsInAdvance};
 use hose_store::{Decided, Store};
@@ -57,8 +60,8 @@ pub struct HostEnd {
 pub enum NotHosted {
     /// There was no memory to begin with.
     Memory,
-    /// The door that the word of this number names could not be opened.
-    Door(u64),
+    /// The door that the word of this number names could not be opened, and why.
+    Door(u64, DoorTrouble),
     /// The output failed.
     Write,
 }
@@ -78,11 +81,13 @@ pub fn host_by_names<W: Wait, P: Prices, I: Source, O: Sink, C: Cabinet, D: Door
     requires out { (C.frame outside.old.cabinet.now).out ≡ None }
     requires doors { AreServable request.doors }
     ensures outcome { HostOutcome (tellings I.Source O.Sink C.Cabinet C.Disk.Disk)
-        (door_tellings D.Doors D.Network.Connections.did)
+        (door_tellings D.Doors D.Network.Connections.did
+        (D.Network.Connections.saw (KeptStore C.Disk)))
         (priced_names (P.prices costs.now) request.entry.topology.now request.entry.journal.now)
         (asked_of request.entry.doors) (doors_beside outside.old doors.old)
         (doors_beside outside.new doors.new) (host_status result) }
     ensures told { TellsWhy O.Sink outside.new.output.now result }
+    ensures door { TellsDoor D.Doors (asked_of request.entry.doors) doors.old doors.new result }
     ensures not_words { host_status result ≢ 1 }
     ensures back { (C.frame outside.new.cabinet.now).out ≡ None }
     ensures keeps { KeepsAll (tellings I.Source O.Sink C.Cabinet C.Disk.Disk)
@@ -108,10 +113,12 @@ fn host_journal<W: Wait, I: Source, O: Sink, C: Cabinet, D: Doors, L: Log>(
     requires out { (C.frame (held outside.old).cabinet).out ≡ None }
     requires doors { AreServable request.doors }
     ensures hosts { HostsJournal (tellings I.Source O.Sink C.Cabinet C.Disk.Disk)
-        (door_tellings D.Doors D.Network.Connections.did) request.entry.journal.now
+        (door_tellings D.Doors D.Network.Connections.did
+        (D.Network.Connections.saw (KeptStore C.Disk))) request.entry.journal.now
         (asked_of request.entry.doors) (doors_beside outside.old doors.old)
         (doors_beside outside.new doors.new) (host_status result) topology }
     ensures told { TellsWhy O.Sink (held outside.new).output result }
+    ensures door { TellsDoor D.Doors (asked_of request.entry.doors) doors.old doors.new result }
     ensures input { (held outside.new).input ≡ (held outside.old).input }
     ensures alone { TouchesOnly C.Cabinet request.entry.journal.now (held outside.old).cabinet
         (held outside.new).cabinet }
@@ -145,10 +152,13 @@ fn host_by_store<W: Wait, I: Source, O: Sink, C: Cabinet, D: Doors, L: Log>(
         → OpensJournal C.Cabinet C.Disk.Disk IsDecidedAt name before (held outside.old).cabinet
         network store
         → HostsByJournal (tellings I.Source O.Sink C.Cabinet C.Disk.Disk)
-        (door_tellings D.Doors D.Network.Connections.did) name (asked_of request.entry.doors)
+        (door_tellings D.Doors D.Network.Connections.did
+        (D.Network.Connections.saw (KeptStore C.Disk))) name (asked_of request.entry.doors)
         before (held outside.new).cabinet network doors.old doors.new result }
-    ensures announces { Announces O.Sink (asked_of request.entry.doors) (held outside.old).output
-        (held outside.new).output result }
+    ensures announces { Announces O.Sink (held outside.old).output (held outside.new).output
+        result }
+    ensures left { IfErr result (LeavesDoors D.Doors (asked_of request.entry.doors)
+        doors.old doors.new) }
     ensures input { (held outside.new).input ≡ (held outside.old).input }
     ensures others { IfSome (C.frame (held outside.old).cabinet).out
         (λ name. OthersStay C.Cabinet name (held outside.old).cabinet (held outside.new).cabinet) }
@@ -198,18 +208,23 @@ fn open_doors<O: Sink, D: Doors>(
     output: &mut O,
     doors: &mut D,
 ) -> Result<D::Network, NotHosted>
-    requires { AreServable asked }
-    ensures opened { IfOk result (D.opens doors.old addresses.now) }
+    requires servable { AreServable asked }
+    requires all { length addresses.now ≡ length (door_names (asked_of asked)) }
+    ensures opened { IfOk result (λ network. D.opens doors.old addresses.now network doors.new) }
     ensures told { IfOk result (λ _. Grows (O.content output.old) (O.content output.new)
         (line_of (codes "ready")) × (O.frame output.new ≡ O.frame output.old)) }
-    ensures failed { IfErr result (λ why. Announces O.Sink (asked_of asked.entry)
-        output.old output.new (Err why)) }
+    ensures failed { IfErr result (λ why. Announces O.Sink output.old output.new (Err why)) }
+    ensures left { IfErr result (λ why. (rules : List DoorRule)
+        → AreOpenedAt (asked_of asked.entry) addresses.now rules
+        → LeavesDoors D.Doors (asked_of asked.entry) doors.old doors.new why) }
     ensures stays { Stays (O.frame output.old) (O.frame output.new) }
 {
     let network = match doors.open(alloc, addresses) {
         Ok(network) => network,
         Err(DoorsFault::Memory) => return Err(NotHosted::Memory),
-        Err(DoorsFault::Door(place)) => return Err(NotHosted::Door(asked.number(place))),
+        Err(DoorsFault::Door(place, trouble)) => {
+            return Err(NotHosted::Door(asked.number(place), trouble));
+        }
     };
     if write_all(output, b"ready\n").is_err() {
         doors.close(network);
@@ -222,6 +237,7 @@ fn open_doors<O: Sink, D: Doors>(
 fn tell_hosted<O: Sink>(came: Result<HostEnd, NotHosted>, output: &mut O) -> HostWhy
     ensures came { EndsHosted O.Sink output.old output.new (host_status result) came }
     ensures told { TellsWhy O.Sink output.new result }
+    ensures why { IsWhyOf came result }
     ensures stays { Stays (O.frame output.old) (O.frame output.new) }
 {
     match came {
@@ -233,10 +249,10 @@ fn tell_hosted<O: Sink>(came: Result<HostEnd, NotHosted>, output: &mut O) -> Hos
             },
         ) => { HostWhy::Ended(tell(&book, end_of_host(ended, closing), output)) }
         Err(NotHosted::Memory) => HostWhy::Ended(end(Err(Fault::Memory), output)),
-        Err(NotHosted::Door(word)) => {
+        Err(NotHosted::Door(word, trouble)) => {
             // The status stays where the line cannot be written.
             let _ = put_door(output, word);
-            HostWhy::Door(word)
+            HostWhy::Door(word, trouble)
         }
         // After a failed write nothing more is written.
         Err(NotHosted::Write) => HostWhy::Ended(Why::Stopped(Fault::Write)),

@@ -4,7 +4,7 @@ ghost use Rattle.std.specs.String.{string_bytes};
 ghost use Rattle.hose_doors.specs.Doors.{NamesDoor};
 ghost use Rattle.hose_doors.specs.Limits.{most_doors};
 ghost use Rattle.hose_graph.specs.Limits.{operator};
-ghost use Rattle.hosed_host.specs.HostDoors.{AreOpenedAt, IsNumberAt, OpensAt, door_names, plain_rule, rule_for};
+ghost use Rattle.hosed_host.specs.HostDoors.{AreOpenedAt, OpensAt, door_names, number_of, plain_rule, rule_for};
 ghost use Rattle.hosed_host.specs.HostDoors.DoorName.{Named};
 ghost use Rattle.hosed_host.specs.steps.HostOutcome.{AreServable, asked_of};
 
@@ -53,14 +53,12 @@ impl<'w> HostDoors<'w> {
         }
     }
 
-    /// The number of the word of a door, by its place, the operator's first; 0 where there is none.
+    /// The number of the word of a door, by its place, the operator's first.
     pub fn number(&self, place: usize) -> u64
-        requires { AreServable self.now }
-        ensures { IsNumberAt (asked_of self.now) place result }
+        requires servable { AreServable self.now }
+        requires there { place < length (door_names (asked_of self.now)) }
+        ensures { result ≡ number_of (asked_of self.now) place }
     {
-        if place >= self.count() {
-            return 0;
-        }
         match self.operator {
             Some(path) if place == 0 => path.1,
             Some(_) => self.first + (place as u64 - 1),

@@ -2,6 +2,7 @@
 ghost use Rattle.std.specs.Prelude.{◌≡◌};
 ghost use Rattle.hosed_host.specs.HostWhy.{host_status};
 
+use hose_net::DoorTrouble;
 use hose_offline::Why;
 
 /// Why a host ended.
@@ -9,8 +10,8 @@ use hose_offline::Why;
 pub enum HostWhy {
     /// As every command may end.
     Ended(Why),
-    /// The door that the word of this number names could not be opened.
-    Door(u64),
+    /// The door that the word of this number names could not be opened, and why.
+    Door(u64, DoorTrouble),
 }
 
 impl HostWhy {
@@ -20,7 +21,7 @@ impl HostWhy {
     {
         match self {
             HostWhy::Ended(why) => why.status(),
-            HostWhy::Door(_) => 9,
+            HostWhy::Door(_, _) => 9,
         }
     }
 }

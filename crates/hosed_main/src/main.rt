@@ -10,16 +10,18 @@ use hose_io::{StdSink, StdSource};
 use hose_pool::PlainGate;
 use hose_sockets::Ports;
 use hosed_program::{
-    Context, FrontKept, HostOutside, OwnedOutside, SystemWords, flat, hops, long, no_memory, start,
-    tariffs,
+    Context, FrontKept, Hints, HostOutside, OwnedOutside, SystemWords, Watched, flat, hops, long,
+    no_memory, start, tariffs,
 };
+use std::cell::Cell;
 use std::process::ExitCode;
 
 fn main(rt: HostRuntime) -> ExitCode {
     let alloc = rt.alloc();
+    let unread = Cell::new(false);
     let mut world = OwnedOutside {
         input: FrontKept::new(StdSource::new(rt.stdin())),
-        output: StdSink::new(rt.stdout()),
+        output: StdSink::new(Watched::new(rt.stdout(), &unread)),
         cabinet: DirCabinet::new(rt),
         door: TcpDoor::new(rt),
     };
@@ -46,7 +48,10 @@ fn main(rt: HostRuntime) -> ExitCode {
     };
     ExitCode::from(start(
         context,
-        &rt,
+        Hints {
+            rt: &rt,
+            unread: &unread,
+        },
         &SystemWords { env: &rt },
         &tariffs,
         &mut world,

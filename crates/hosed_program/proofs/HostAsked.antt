@@ -2,7 +2,7 @@
 use Rattle.std.proofs.Common.{◌≡◌, ℕ, List, subst}
 use Rattle.hose_offline.specs.Auditing.{PricedNames}
 use Rattle.hose_offline.specs.Parts.{Parts, Tellings, parts}
-use Rattle.hosed.specs.steps.HostReading.{ReadsHost, asked_of}
+use Rattle.hosed.specs.HostNaming.{ReadsHost, asked_of}
 use Rattle.hosed.specs.declared.host_line.HostWords.{HostWords}
 use Rattle.hosed.proofs.HostCommands.{operator_numbered}
 use Rattle.hosed_host.specs.HostBook.{DoorTellings}
@@ -21,7 +21,7 @@ same_doors names words said reads = λ i. record {
 }
 
 -- what was lent is what there is now
-pub hosted_of : {I O C E D N : Type 0} {tells : Tellings I O C E} {by : DoorTellings D N} {names : PricedNames} {asked : DoorsAsked} {before was : Parts I O C} {doors doors' : D} {status : ℕ} (after : Parts I O C) {input : I} {output : O} {cabinet : C} → before ≡ was → after.input ≡ input → after.output ≡ output → after.cabinet ≡ cabinet
+pub hosted_of : {I O C E D N : Type 0} {tells : Tellings I O C E} {by : DoorTellings D N E} {names : PricedNames} {asked : DoorsAsked} {before was : Parts I O C} {doors doors' : D} {status : ℕ} (after : Parts I O C) {input : I} {output : O} {cabinet : C} → before ≡ was → after.input ≡ input → after.output ≡ output → after.cabinet ≡ cabinet
     → HostOutcome tells by names asked (beside_doors before doors) (beside_doors after doors') status → HostOutcome tells by names asked (beside_doors was doors) (beside_doors (parts input output cabinet) doors') status
 hosted_of {tells = tells} {by = by} {names = names} {asked = asked} {was = was} {doors = doors} {doors' = doors'} {status = status} after lent input output cabinet outcome =
     subst (λ (now : Parts _ _ _). HostOutcome tells by names asked (beside_doors was doors) (beside_doors now doors') status) (λ i. parts (input i) (output i) (cabinet i))

@@ -23,7 +23,7 @@ doors_of names asked = record {
 abbrev pub beside_doors : {I O C D : Type 0} → Parts I O C → D → OutsideDoors I O C D
 beside_doors others doors = record { others = others; doors = doors }
 
-module _ {I O C E D N : Type 0} (tells : Tellings I O C E) (by : DoorTellings D N) (offer : Offer)
+module _ {I O C E D N : Type 0} (tells : Tellings I O C E) (by : DoorTellings D N E) (offer : Offer)
     (before after : Parts I O C) (was now : D) (status : ℕ) where
   -- Words that are wrong end with the status 1 and take nothing; the last line tells the first of
   -- them that is not allowed. Right ones do what a host does, at the prices of the tariff that is

@@ -1,5 +1,5 @@
 -- What the program's words ask for, and what comes of them.
-use Rattle.std.specs.Prelude.{◌≡◌, ◌⊎◌, ℕ, ◌-◌, ◌^◌, ◌<◌, List, [], ◌∷◌, codes, if◌then◌else◌, IfSome, length, Option}
+use Rattle.std.specs.Prelude.{◌≡◌, ◌⊎◌, ℕ, Bool, true, ◌-◌, ◌^◌, ◌<◌, List, [], ◌∷◌, codes, if◌then◌else◌, IfSome, length, Option}
 use Rattle.std.specs.Str.{bytes_eq}
 use Rattle.hose_io.specs.Frame.{Rose}
 use Rattle.hose_io.specs.Stream.{Grows}
@@ -20,10 +20,15 @@ use Rattle.hosed_program.specs.declared.choice.TextOrCommand.{TextOrCommand}
 use Rattle.hosed_program.specs.declared.choice.TextOrCommand.TheVariants.{Help, Version, Command}
 use Rattle.hosed_program.specs.declared.texts.TheConstants.{HELP, VERSION}
 
--- `--help` alone, `--version` alone, or anything else
+-- a word asks what the words are
+abbrev pub asks_help : List ℕ → Bool
+asks_help word = if bytes_eq word (codes "--help") then true
+    else if bytes_eq word (codes "-h") then true else bytes_eq word (codes "help")
+
+-- `--help`, `-h` or `help` alone, `--version` alone, or anything else
 abbrev pub text_or_command : List (List ℕ) → TextOrCommand
 text_or_command (word ∷ []) =
-    if bytes_eq word (codes "--help") then Help
+    if asks_help word then Help
     else if bytes_eq word (codes "--version") then Version else Command
 text_or_command _ = Command
 
@@ -57,7 +62,7 @@ module _ {I O C E : Type 0} (tells : Tellings I O C E) (before after : OutsideDo
       pub command : text_or_command words ≡ Command
           → HosedOutcome tells offer before after status words
 
-module _ {I O C E D N : Type 0} (tells : Tellings I O C E) (by : DoorTellings D N) (offer : Offer)
+module _ {I O C E D N : Type 0} (tells : Tellings I O C E) (by : DoorTellings D N E) (offer : Offer)
     (before after : OutsideDoor I O C) (was now : D) (status : ℕ) where
   -- What the program's words come to, those of a host too: it leaves the one door as it is, and all
   -- others the doors of a host.

@@ -7,7 +7,7 @@ ghost use Rattle.hose_offline.specs.Why.{IsTold, why_status};
 ghost use Rattle.hosed.specs.Naming.{NamesOf};
 ghost use Rattle.hosed.specs.Offline.{offer_of};
 ghost use Rattle.hosed.specs.ServerDoor.{seen_of, with_door};
-ghost use Rattle.hosed_program.specs.Program.{ProgramOutcome, IsTextOut, text_or_command};
+ghost use Rattle.hosed_program.specs.Program.{ProgramOutcome, IsTextOut, asks_help, text_or_command};
 ghost use Rattle.hosed_program.specs.declared.choice.TextOrCommand.TheVariants as asked;
 
 use crate::texts::{HELP, VERSION};
@@ -98,10 +98,17 @@ fn text_or_command(words: &[String]) -> TextOrCommand
     ensures { result ≡ text_or_command (map string_bytes words.now) }
 {
     match words {
-        [word] if word.as_str() == "--help" => TextOrCommand::Help,
+        [word] if asks_help(word.as_str()) => TextOrCommand::Help,
         [word] if word.as_str() == "--version" => TextOrCommand::Version,
         _ => TextOrCommand::Command,
     }
+}
+
+// Whether a word asks what the words are.
+fn asks_help(word: &str) -> bool
+    ensures { result ≡ asks_help word.now }
+{
+    word == "--help" || word == "-h" || word == "help"
 }
 
 // Writes a text, and tells why that ended.

@@ -3,15 +3,17 @@ ghost use Rattle.std.specs.Prelude.{◌≡◌, ◌≢◌, None, map};
 ghost use Rattle.std.specs.String.{string_bytes};
 ghost use Rattle.hose_offline.specs.Auditing.{priced_names};
 ghost use Rattle.hose_offline.specs.Parts.{AllStay, parts, tellings};
-ghost use Rattle.hosed.specs.HostWords.{AsksToHost};
+ghost use Rattle.hosed.specs.HostNaming.{HostNamesOf};
+ghost use Rattle.hosed.specs.HostWords.{AreHostWords, AsksToHost, HostAsked};
 ghost use Rattle.hosed.specs.Offline.{offer_of};
 ghost use Rattle.hosed.specs.ProgramWords.{costs_at};
-ghost use Rattle.hosed_host.specs.HostBook.{door_tellings};
+ghost use Rattle.hose_store.specs.steps.Store.{KeptStore};
+ghost use Rattle.hosed_host.specs.HostBook.{TellsDoor, door_tellings};
 ghost use Rattle.hosed_host.specs.HostOutcome.{HostOutcome};
 ghost use Rattle.hosed_host.specs.HostWhy.{TellsWhy, host_status};
 ghost use Rattle.hosed_host.specs.steps.HostOutcome.{AreServable, asked_of};
 ghost use Rattle.hosed_program.specs.steps.HostWords.{doors_said};
-ghost use Rattle.hosed_program.specs.HostCommand.{HostCommand, beside_doors};
+ghost use Rattle.hosed_program.specs.HostCommand.{HostCommand, beside_doors, doors_of};
 
 use hose_disk::Cabinet;
 use hose_io::{Sink, Source};
@@ -66,12 +68,19 @@ pub fn host_ended<
     requires none_out { (C.frame cabinet.old).out ≡ None }
     requires asks { AsksToHost (map string_bytes words.now) }
     ensures outcome { HostCommand (tellings I.Source O.Sink C.Cabinet C.Disk.Disk)
-        (door_tellings D.Doors D.Network.Connections.did)
+        (door_tellings D.Doors D.Network.Connections.did
+        (D.Network.Connections.saw (KeptStore C.Disk)))
         (offer_of ⟦<Tariff as Prices>⟧.prices (λ tariff. tariff.name) (λ tariff. tariff.base)
         (λ tariff. tariff.per) tariffs.now)
         (parts input.old output.old cabinet.old) (parts input.new output.new cabinet.new)
         host.old.doors host.new.doors (host_status result.why) (map string_bytes words.now) }
     ensures told { TellsWhy O.Sink output.new result.why }
+    ensures door { (asked : HostAsked) → AreHostWords (map (λ tariff. tariff.name) tariffs.now)
+        (map string_bytes words.now) asked
+        → TellsDoor D.Doors (doors_of (map (λ tariff. tariff.name) tariffs.now) asked)
+        host.old.doors host.new.doors result.why }
+    ensures names { HostNamesOf (map (λ tariff. tariff.name) tariffs.now)
+        (map string_bytes words.now) result.named }
     ensures back { (C.frame cabinet.new).out ≡ None }
     ensures keeps { AllStay (tellings I.Source O.Sink C.Cabinet C.Disk.Disk)
         (parts input.old output.old cabinet.old) (parts input.new output.new cabinet.new) }
@@ -110,13 +119,16 @@ fn host_lent<
     requires none_out { (C.frame cabinet.old).out ≡ None }
     requires doors { AreServable (doors_said said) }
     ensures outcome { HostOutcome (tellings I.Source O.Sink C.Cabinet C.Disk.Disk)
-        (door_tellings D.Doors D.Network.Connections.did)
+        (door_tellings D.Doors D.Network.Connections.did
+        (D.Network.Connections.saw (KeptStore C.Disk)))
         (priced_names (costs_at ⟦<Tariff as Prices>⟧.prices tariffs.now said.entry.tariff)
         said.entry.topology.now said.entry.journal.now) (asked_of (doors_said said.entry))
         (beside_doors (parts input.old output.old cabinet.old) host.old.doors)
         (beside_doors (parts input.new output.new cabinet.new) host.new.doors)
         (host_status result) }
     ensures told { TellsWhy O.Sink output.new result }
+    ensures door { TellsDoor D.Doors (asked_of (doors_said said.entry)) host.old.doors
+        host.new.doors result }
     ensures not_words { host_status result ≢ 1 }
     ensures back { (C.frame cabinet.new).out ≡ None }
     ensures keeps { AllStay (tellings I.Source O.Sink C.Cabinet C.Disk.Disk)

@@ -7,7 +7,8 @@
 //! let context = Context { rt: &rt, alloc, gate: &PlainGate };
 //! let mut world = OwnedOutside { input, output, cabinet, door };
 //! let mut host = HostOutside { doors, threads, errors };
-//! let status = start(context, &rt, &SystemWords { env: &rt }, &tariffs, &mut world, &mut host);
+//! let hints = Hints { rt: &rt, unread: &unread };
+//! let status = start(context, hints, &SystemWords { env: &rt }, &tariffs, &mut world, &mut host);
 //! ```
 #![tactic(auto)]
 
@@ -15,11 +16,13 @@ mod choice;
 mod front;
 mod given;
 mod hosting;
+mod known;
 mod looking;
 mod reasons;
 mod rules;
 mod starting;
 mod texts;
+mod watched;
 mod words;
 
 pub use choice::{OwnedOutside, TextOrCommand, program};
@@ -27,7 +30,9 @@ pub use front::{FrontKept, Fronted};
 pub use given::{Given, ListedWords, SystemWords};
 pub use hosed::{Context, Ended};
 pub use hosting::{HostEnded, HostOutside, host_ended};
+pub use known::{Hints, Known, Troubled};
 pub use rules::{flat, hops, long, tariffs};
 pub use starting::{no_memory, start};
 pub use texts::{HELP, VERSION};
+pub use watched::Watched;
 pub use words::program_words;

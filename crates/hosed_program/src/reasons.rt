@@ -1,6 +1,9 @@
 // Why the program ended, as one sentence on standard error.
 use crate::hosting::HostEnded;
-use crate::looking::{journal_trouble, returns_in, text_trouble};
+use crate::known::{Known, told};
+use crate::looking::returns_in;
+use hose_disk::Trouble;
+use hose_net::DoorTrouble;
 use hose_offline::{Fault, MoveStop, Refusal, Why};
 use hosed::{Ended, NamedByWords};
 use hosed_host::HostWhy;
@@ -29,25 +32,26 @@ impl Display for Which<'_> {
     }
 }
 
-/// Tells on standard error why the program ended, if not all was done; and whether a carriage
-/// return stands in the line of the input that was refused, if one was.
+/// Tells on standard error why the program ended, if not all was done. Where who reads the output
+/// has gone, nothing is told: that was their choice.
 pub fn tell_why<R: Eprint + Files<File = File>>(
     rt: &R,
     words: &[String],
     ended: Ended<'_>,
-    returning: bool,
+    known: Known,
 ) {
     let named = ended.named.unwrap_or(NamedByWords::nothing());
     // The output tells it too, so a standard error that fails is passed over.
     let _ = match ended.why {
         Why::Done => Ok(()),
+        Why::Stopped(Fault::Write) if known.unread => Ok(()),
         Why::Stopped(Fault::Words(number)) => {
             tell_word(rt, number, word_at(words, number), named.topology)
         }
-        Why::Stopped(fault) => tell_fault(rt, fault, named, returning),
+        Why::Stopped(fault) => tell_fault(rt, fault, named, known),
         Why::NotValid { rule } => tell_not_valid(rt, rule, named),
-        Why::NotMoved(MoveStop::Old(fault)) => tell_fault(rt, fault, named, false),
-        Why::NotMoved(MoveStop::New(fault)) => tell_fault(rt, fault, named.of_new(), false),
+        Why::NotMoved(MoveStop::Old(fault)) => tell_fault(rt, fault, named, known),
+        Why::NotMoved(MoveStop::New(fault)) => tell_fault(rt, fault, named.of_new(), known),
         Why::NotMoved(stop) => tell_not_moved(rt, stop, named, named.of_new()),
     };
 }
@@ -57,6 +61,7 @@ pub fn tell_host_why<R: Eprint + Files<File = File>>(
     rt: &R,
     words: &[String],
     ended: HostEnded<'_>,
+    known: Known,
 ) {
     let named = match ended.named {
         Some(said) => NamedByWords::of_journal(said.topology, said.journal),
@@ -64,32 +69,29 @@ pub fn tell_host_why<R: Eprint + Files<File = File>>(
     };
     // The output tells it too, so a standard error that fails is passed over.
     let _ = match ended.why {
-        HostWhy::Door(number) => tell_host_door(rt, word_at(words, number)),
+        HostWhy::Door(number, trouble) => tell_host_door(rt, word_at(words, number), trouble),
         HostWhy::Ended(Why::Stopped(Fault::Door)) => {
             eprintln!(rt; "hosed: the system tells no more of the connections of the doors")
         }
         HostWhy::Ended(why) => {
-            tell_why(
-                rt,
-                words,
-                Ended {
-                    why,
-                    named: Some(named),
-                },
-                false,
-            );
+            let named = Some(named);
+            tell_why(rt, words, Ended { why, named }, known);
             Ok(())
         }
     };
 }
 
 // A door of a host could not be opened.
-fn tell_host_door<R: Eprint>(rt: &R, word: Option<&str>) -> io::Result<()> {
-    eprintln!(rt;
-        "hosed: the door {:?} could not be opened: another program serves there, what lies there \
-        is no socket, its folder is not there, or rights are missing",
-        word.unwrap_or("")
-    )
+fn tell_host_door<R: Eprint>(rt: &R, word: Option<&str>, trouble: DoorTrouble) -> io::Result<()> {
+    let door = word.unwrap_or("");
+    let why = match trouble {
+        DoorTrouble::Served => "another program serves there",
+        DoorTrouble::NotAllowed => "permission denied",
+        DoorTrouble::NoFolder => "its folder is not there",
+        DoorTrouble::NoSocket => "what lies there is no socket",
+        DoorTrouble::Other => "the system has no room for it, or refused it",
+    };
+    eprintln!(rt; "hosed: the door {door:?} could not be opened: {why}")
 }
 
 // The word of a number, counted from 1; an empty one where it is missing.
@@ -128,17 +130,18 @@ fn tell_fault<R: Eprint + Files<File = File>>(
     rt: &R,
     fault: Fault,
     of: NamedByWords<'_>,
-    returning: bool,
+    known: Known,
 ) -> io::Result<()> {
     let which = Which {
         topology: of.topology,
     };
     let journal = of.journal.unwrap_or("");
+    let trouble = known.trouble.unwrap_or(Trouble::Disk);
     match fault {
-        Fault::Topology(refusal) => tell_refused(rt, refusal, which, returning),
+        Fault::Topology(refusal) => tell_refused(rt, refusal, which, known.returning),
         Fault::Text => {
-            let trouble = text_trouble(rt, of.topology.unwrap_or(""));
-            eprintln!(rt; "hosed: the topology {which} could not be read: {trouble}")
+            let why = told(trouble);
+            eprintln!(rt; "hosed: the topology {which} could not be read: {why}")
         }
         Fault::Other { .. } => eprintln!(rt;
             "hosed: the journal {journal:?} is that of another network, or of other costs, than \
@@ -149,12 +152,22 @@ fn tell_fault<R: Eprint + Files<File = File>>(
             one that its network does not take"
         ),
         Fault::Cabinet => {
-            let trouble = journal_trouble(rt, journal, of.new_journal);
-            eprintln!(rt; "hosed: the journal {journal:?} could not be opened or closed: {trouble}")
+            let (why, more) = (told(trouble), none_made(trouble));
+            eprintln!(rt;
+                "hosed: the journal {journal:?} could not be opened or closed: {why}{more}"
+            )
         }
         Fault::TooLong => tell_too_long(rt, of.topology),
         Fault::Door => tell_door(rt, of.port.unwrap_or(0)),
         fault => tell_stream(rt, fault),
+    }
+}
+
+// What is told besides of a journal that is not there.
+fn none_made(trouble: Trouble) -> &'static str {
+    match trouble {
+        Trouble::NotFound => ", and none is made there",
+        _ => "",
     }
 }
 
@@ -184,7 +197,7 @@ fn tell_stream<R: Eprint>(rt: &R, fault: Fault) -> io::Result<()> {
     match fault {
         Fault::Read => eprintln!(rt; "hosed: the input could not be read"),
         Fault::Write => eprintln!(rt;
-            "hosed: the output could not be written: its disk is full, or what reads it has ended"
+            "hosed: the output could not be written: its disk is full, or failed"
         ),
         Fault::Packet { at } => eprintln!(rt; "hosed: the input has no whole packet at byte {at}"),
         _ => eprintln!(rt; "hosed: there was not enough memory"),
@@ -241,6 +254,9 @@ fn tell_not_moved<R: Eprint>(
         ),
         MoveStop::Differs { epoch } => eprintln!(rt;
             "hosed: the journal {moved:?} has another order than is to be moved at epoch {epoch}"
+        ),
+        MoveStop::Less { entries } => eprintln!(rt;
+            "hosed: the journal {journal:?} has fewer entries than are to be cut off: {entries}"
         ),
         _ => eprintln!(rt;
             "hosed: the topology {after} does not go on from {before}: the last line of the output \

@@ -6,6 +6,7 @@ ghost use Rattle.hose_offline.specs.Parts.{tellings};
 ghost use Rattle.hose_offline.specs.declared.fault.Fault.TheVariants as fault;
 ghost use Rattle.hosed.specs.Offline.{offer_of};
 ghost use Rattle.hosed.specs.ServerDoor.{seen_of, with_door};
+ghost use Rattle.hose_store.specs.steps.Store.{KeptStore};
 ghost use Rattle.hosed_host.specs.HostBook.{door_tellings};
 ghost use Rattle.hosed_program.specs.Program.{StartOutcome};
 
@@ -13,6 +14,7 @@ use crate::choice::{OwnedOutside, program};
 use crate::front::Fronted;
 use crate::given::Given;
 use crate::hosting::{HostOutside, host_ended};
+use crate::known::{Hints, Known, Troubled};
 use crate::reasons::{tell_host_why, tell_why};
 use crate::words::program_words;
 use hose_disk::Cabinet;
@@ -30,15 +32,14 @@ use std::thread::Threads;
 use std::time::Clock;
 
 /// Takes all words that the program is given, does what they say, tells on standard error why that
-/// ended, and gives the exit status. The tariffs are the program's three. Standard error, and the
-/// files that a sentence is about, are reached by `errors`.
+/// ended, and gives the exit status. The tariffs are the program's three.
 pub fn start<
     R: Threads + Wait + Sync,
     E: Eprint + Files<File = File>,
     W: Given,
     I: Source + Fronted,
     O: Sink,
-    C: Cabinet,
+    C: Cabinet + Troubled,
     L: Door + Send,
     G: Gate + Sync,
     D: Doors,
@@ -46,7 +47,7 @@ pub fn start<
     S: Write + Drop + Send + 'static,
 >(
     context: Context<'_, R, G>,
-    errors: &E,
+    hints: Hints<'_, E>,
     given: &W,
     tariffs: &[Tariff],
     world: &mut OwnedOutside<I, O, C, L>,
@@ -58,7 +59,8 @@ pub fn start<
     requires bases { map (λ tariff. tariff.base) tariffs.now ≡ 0 ∷ 1 ∷ 5 ∷ [] }
     requires pers { map (λ tariff. tariff.per) tariffs.now ≡ 1 ∷ 0 ∷ 2 ∷ [] }
     ensures { StartOutcome (tellings I.Source O.Sink C.Cabinet C.Disk.Disk)
-        (door_tellings D.Doors D.Network.Connections.did)
+        (door_tellings D.Doors D.Network.Connections.did
+        (D.Network.Connections.saw (KeptStore C.Disk)))
         (offer_of ⟦<Tariff as Prices>⟧.prices (λ tariff. tariff.name) (λ tariff. tariff.base)
         (λ tariff. tariff.per) tariffs.now)
         (with_door world.old.input world.old.output world.old.cabinet
@@ -80,15 +82,28 @@ pub fn start<
                     &mut world.cabinet,
                     host,
                 );
-                tell_host_why(errors, &words, ended);
+                tell_host_why(hints.rt, &words, ended, known(hints, world, false));
                 return ended.why.status();
             }
             let ended = program(context, &words, tariffs, world);
             let returning = is_of_return(ended.why, &world.input);
-            tell_why(errors, &words, ended, returning);
+            tell_why(hints.rt, &words, ended, known(hints, world, returning));
             ended.why.status()
         }
-        Err(_) => no_memory(errors, &mut world.output),
+        Err(_) => no_memory(hints.rt, &mut world.output),
+    }
+}
+
+// What is known of what ended the program.
+fn known<E, I: Source, O: Sink, C: Cabinet + Troubled, L: Door>(
+    hints: Hints<'_, E>,
+    world: &OwnedOutside<I, O, C, L>,
+    returning: bool,
+) -> Known {
+    Known {
+        returning,
+        unread: hints.unread.get(),
+        trouble: world.cabinet.last_trouble(),
     }
 }
 
@@ -111,6 +126,6 @@ pub fn no_memory<E: Eprint + Files<File = File>, O: Sink>(errors: &E, output: &m
         why: Why::Stopped(Fault::Memory),
         named: None,
     };
-    tell_why(errors, &[], ended, false);
+    tell_why(errors, &[], ended, Known::nothing());
     7
 }

@@ -12,6 +12,7 @@ usage: hosed run [--tariff NAME] [JOURNAL] < FILE
        hosed ship [--tariff NAME] TOPOLOGY JOURNAL FROM > PACKETS
        hosed follow [--tariff NAME] TOPOLOGY JOURNAL < PACKETS
        hosed move [--tariff NAME] [--live] TOPOLOGY JOURNAL NEW_TOPOLOGY NEW_JOURNAL
+       hosed cut [--tariff NAME] TOPOLOGY JOURNAL N NEW_JOURNAL
        hosed gen SEED NODES LINKS HOSES
        hosed --help | --version
 
@@ -135,6 +136,10 @@ line tells how many entries NEW_JOURNAL has, and how many VPNs are live:
     vpn OLD is NEW                      with --live, each VPN that is live
     moved N live V
 
+hosed cut reads a topology, as audit does, and JOURNAL, which has to be there and is only read, and
+writes its first N entries, 0 to 4000000000, into NEW_JOURNAL, a journal of the same network. It
+goes on from what is there, and its last line is that of move.
+
 hosed gen makes a network of NODES nodes and LINKS links, and HOSES admissions with a release after
 each fifth, all by the number SEED. It runs them as run does without a journal, and writes how many
 were admitted, refused and released, the last epoch, and what the admitted cost together:
@@ -180,7 +185,7 @@ status  comes                           last line
         or a file that failed           cabinet
 7       no memory to begin,
         or in prove, check, ship,
-        move or gen                     no memory
+        move, cut or gen                no memory
 8       input or TOPOLOGY longer
         than 1 GiB, in JSON than
         16 MiB                          too long
@@ -195,6 +200,8 @@ status  comes                           last line
 13      the entry of this epoch is
         not sound there                 unsound N
 14      NEW_JOURNAL has another one     differs at N
+15      JOURNAL has M entries, fewer
+        than N                          less M
 
 What is wrong with NEW_TOPOLOGY or NEW_JOURNAL at a status up to 8 is told after `new `.
 ";

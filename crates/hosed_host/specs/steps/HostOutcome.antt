@@ -1,5 +1,5 @@
 -- What stands after `host`: steps of proofs.
-use Rattle.std.specs.Prelude.{◌≡◌, ◌⊎◌, ℕ, ◌+◌, ◌^◌, ◌<◌, ◌≤◌, All, List, Err, length, map, option_map}
+use Rattle.std.specs.Prelude.{◌≡◌, ◌⊎◌, ℕ, ◌+◌, ◌^◌, ◌<◌, ◌≤◌, All, List, Result, Err, ⊤, length, map, option_map}
 use Rattle.std.specs.String.{string_bytes}
 use Rattle.hose_graph.specs.Network.{Network}
 use Rattle.hose_offline.specs.Ending.{IsOut}
@@ -14,7 +14,12 @@ use Rattle.hose_doors.specs.Limits.{most_doors}
 use Rattle.hosed_host.specs.HostBook.{DoorTellings}
 use Rattle.hosed_host.specs.HostDoors.{DoorsAsked}
 use Rattle.hosed_host.specs.HostOutcome.{HostsConnections, OutsideDoors}
+use Rattle.hosed_host.specs.declared.hosting.HostEnd.{HostEnd}
+use Rattle.hosed_host.specs.declared.hosting.NotHosted.{NotHosted}
+use Rattle.hosed_host.specs.declared.hosting.NotHosted.TheVariants as none
 use Rattle.hosed_host.specs.declared.opening.HostDoors.{HostDoors}
+use Rattle.hosed_host.specs.declared.why.HostWhy.{HostWhy}
+use Rattle.hosed_host.specs.declared.why.HostWhy.TheVariants as why
 
 -- what the request says of the doors
 abbrev pub asked_of : HostDoors → DoorsAsked
@@ -34,9 +39,14 @@ pub record AreServable (doors : HostDoors) : Type 0 where
 abbrev pub doors_beside : {I O C E D : Type 0} → Outside I O C E → D → OutsideDoors I O C D
 doors_beside outside doors = record { others = held outside; doors = doors }
 
+-- a door is named for an opening of the doors that failed so
+abbrev pub IsWhyOf : Result HostEnd NotHosted → HostWhy → Type 0
+IsWhyOf came (why.Ended _) = ⊤
+IsWhyOf came (why.Door word trouble) = came ≡ Err (none.Door word trouble)
+
 -- What hosting by the journal of a name comes to: connections were hosted, or why not, once a store
 -- was opened; or none was, and the last line tells why.
-abbrev pub HostsJournal : {I O C E D N : Type 0} → Tellings I O C E → DoorTellings D N → List ℕ
+abbrev pub HostsJournal : {I O C E D N : Type 0} → Tellings I O C E → DoorTellings D N E → List ℕ
     → DoorsAsked → OutsideDoors I O C D → OutsideDoors I O C D → ℕ → Network → Type 0
 HostsJournal tells by name asked before after status network =
     HostsConnections tells by name asked before after status network

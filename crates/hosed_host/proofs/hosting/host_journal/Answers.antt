@@ -1,6 +1,8 @@
 use Rattle.std.proofs.Common.{◌∙◌, inl, inr, refl, rules}
 use Rattle.hose_offline.specs.steps.Parts.{held}
 use Rattle.hose_offline.proofs.Lending.{others_then}
+use Rattle.hosed_host.specs.steps.HostOutcome.{asked_of}
+use Rattle.hosed_host.proofs.HostOutcomes.{told_door}
 use Rattle.hosed_host.proofs.hosting.host_journal.Goals as goal
 
 pub returns-in-Ok-clause-hosts : goal.returns-in-Ok-clause-hosts
@@ -13,6 +15,11 @@ returns-in-Ok-clause-hosts g c =
       announces = came.ensures.announces;
       ends = c.tell_hosted.ensures.came;
     })
+
+pub returns-in-Ok-clause-door : goal.returns-in-Ok-clause-door
+returns-in-Ok-clause-door g c =
+    let came = c.host_by_store-came in
+    told_door g.D.Doors (asked_of c.args.request.doors) c.args.doors.now came.new.doors came.result c.tell_hosted.result c.tell_hosted.ensures.why came.ensures.left
 
 pub returns-in-Err-clause-hosts : goal.returns-in-Err-clause-hosts
 returns-in-Err-clause-hosts g c = inr (c.in-Err.why, c.end.ensures.status, c.in-Err.ensures.refused, c.end.ensures.last_line, refl)

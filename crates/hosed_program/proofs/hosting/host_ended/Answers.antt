@@ -1,7 +1,9 @@
 use Rattle.std.proofs.Common.{map, refl}
 use Rattle.std.specs.String.{string_bytes}
-use Rattle.hosed.specs.steps.HostReading.{asked_of}
+use Rattle.hosed.specs.HostNaming.{asked_of}
 use Rattle.hosed.proofs.HostCommands.{none_wrong_of_host, of_one_host}
+use Rattle.hosed_host.specs.HostBook.{TellsDoor}
+use Rattle.hosed_program.specs.HostCommand.{doors_of}
 use Rattle.hosed_program.proofs.HostAsked.{same_doors}
 use Rattle.hosed_program.proofs.hosting.host_ended.Goals as goal
 
@@ -16,6 +18,13 @@ returns-in-Ok-clause-outcome g c =
       wrong_words = λ one. absurd (right one);
       hosts = of_one_host names words _ (asked_of c.in-Ok.said) reads.asked (rw (same_doors names words c.in-Ok.said reads) at c.host_lent.ensures.outcome);
     }
+
+pub returns-in-Ok-clause-door : goal.returns-in-Ok-clause-door
+returns-in-Ok-clause-door g c =
+    let names = map (λ tariff. tariff.name) c.args.tariffs.now in
+    let words = map string_bytes c.args.words.now in
+    let reads = c.in-Ok.ensures.ok in
+    of_one_host names words (λ asked. TellsDoor g.D.Doors (doors_of names asked) c.args.host.now.doors c.host_lent.new.host.doors c.host_lent.result) (asked_of c.in-Ok.said) reads.asked (rw (same_doors names words c.in-Ok.said reads) at c.host_lent.ensures.door)
 
 pub returns-in-Err-clause-outcome : goal.returns-in-Err-clause-outcome
 returns-in-Err-clause-outcome g c =
