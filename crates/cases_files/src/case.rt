@@ -3,7 +3,9 @@ ghost use Rattle.std.specs.Prelude.{◌≡◌, ◌≤◌, ◌↔◌, IfOk, IsErr
 
 use crate::line::{CaseLine, CasePlace};
 use crate::pattern::{Pattern, number};
-use crate::trouble::CaseTrouble;
+use crate::trouble::{
+    BAD_DIGITS, CaseTrouble, NO_SUCH_BOOK, NO_SUCH_CALL, NO_SUCH_CONNECTION, NO_SUCH_LINE, ZERO,
+};
 use cases_common::{disk_call, first};
 use hose_disk::DiskCall;
 use std::alloc::{AllocError, Global};
@@ -25,7 +27,7 @@ impl CasePiece {
         ensures zero { IsErr result ↔ (bytes ≡ 0) }
     {
         if bytes == 0 {
-            return Err(CaseTrouble::Zero);
+            return Err(CaseTrouble::Case(ZERO));
         }
         Ok(CasePiece { bytes })
     }
@@ -234,7 +236,7 @@ impl CaseDoor {
         add_connection(alloc, &mut self.connections, nth)?;
         match self.connections.get_mut(nth.wrapping_sub(1) as usize) {
             Some(connection) => connection.add(is_wanted, pattern),
-            None => Err(CaseTrouble::Connection),
+            None => Err(CaseTrouble::Case(NO_SUCH_CONNECTION)),
         }
     }
 }
@@ -396,7 +398,7 @@ impl Case {
             "cabinet-fails" => self.failing = Some(number(rest)?),
             "holds" => self.holds = true,
             "judged" => self.is_judged = true,
-            _ => return Err(CaseTrouble::Word),
+            _ => return Err(CaseTrouble::Case(NO_SUCH_LINE)),
         }
         Ok(())
     }
@@ -430,7 +432,7 @@ fn add_audited(
     }
     match books.get_mut(nth.wrapping_sub(1) as usize) {
         Some(book) => pattern.add_to(book),
-        None => Err(CaseTrouble::Book),
+        None => Err(CaseTrouble::Case(NO_SUCH_BOOK)),
     }
 }
 
@@ -452,7 +454,7 @@ fn set_failing(connections: &mut [CaseConnection], rest: &str) -> Result<(), Cas
             connection.failing = call;
             Ok(())
         }
-        None => Err(CaseTrouble::Connection),
+        None => Err(CaseTrouble::Case(NO_SUCH_CONNECTION)),
     }
 }
 
@@ -471,7 +473,7 @@ fn calls_of(alloc: Global, rest: &str) -> Result<Vec<u64>, CaseTrouble> {
     for word in rest.split_whitespace() {
         let nth = number(word)?;
         if nth == 0 {
-            return Err(CaseTrouble::Zero);
+            return Err(CaseTrouble::Case(ZERO));
         }
         calls.push(nth)?;
     }
@@ -482,7 +484,9 @@ fn calls_of(alloc: Global, rest: &str) -> Result<Vec<u64>, CaseTrouble> {
 fn bytes_of(alloc: Global, rest: &str) -> Result<Vec<u8>, CaseTrouble> {
     let mut bytes = Vec::new(alloc);
     for word in rest.split_whitespace() {
-        let part = hex::decode(alloc, word).ok().ok_or(CaseTrouble::Digits)?;
+        let part = hex::decode(alloc, word)
+            .ok()
+            .ok_or(CaseTrouble::Case(BAD_DIGITS))?;
         bytes.extend_from_slice(&part)?;
     }
     Ok(bytes)
@@ -495,7 +499,7 @@ fn add_disk_calls(
     rest: &str,
 ) -> Result<(), CaseTrouble> {
     let (kind, numbers) = first(rest);
-    let kind = disk_call(kind).ok_or(CaseTrouble::Kind)?;
+    let kind = disk_call(kind).ok_or(CaseTrouble::Case(NO_SUCH_CALL))?;
     for nth in &calls_of(alloc, numbers)? {
         failing.push((kind, *nth))?;
     }

@@ -1,7 +1,7 @@
 // A file of cases.
 use crate::case::Case;
 use crate::line::CaseLine;
-use crate::trouble::CaseTrouble;
+use crate::trouble::{CaseTrouble, NO_CASE, NOTHING_TO_COMPARE};
 use std::alloc::{AllocError, Global};
 
 /// Where a file of cases is refused, and why.
@@ -46,7 +46,7 @@ fn read_lines<'a>(
 fn end_cases(cases: &[Case]) -> Result<(), CaseTrouble> {
     end_case(cases)?;
     if cases.is_empty() {
-        return Err(CaseTrouble::NoCase);
+        return Err(CaseTrouble::Case(NO_CASE));
     }
     Ok(())
 }
@@ -118,7 +118,7 @@ fn add_line(alloc: Global, case: &mut Case, line: &str) -> Result<(), CaseTroubl
 // Refuses a last case that says nothing of what must come of it.
 fn end_case(cases: &[Case]) -> Result<(), CaseTrouble> {
     match cases.last() {
-        Some(case) if !case.wanted.is_said => Err(CaseTrouble::NothingToCompare),
+        Some(case) if !case.wanted.is_said => Err(CaseTrouble::Case(NOTHING_TO_COMPARE)),
         _ => Ok(()),
     }
 }

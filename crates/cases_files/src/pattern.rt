@@ -1,6 +1,6 @@
 // A line of bytes by a short rule: how often it comes, whether a line feed ends it, and what stands
 // in braces.
-use crate::trouble::CaseTrouble;
+use crate::trouble::{BAD_BRACE, CaseTrouble, NO_NUMBER};
 use cases_common::first;
 use itoa::Buffer;
 
@@ -46,7 +46,7 @@ fn times_of(digits: &str) -> Result<u64, CaseTrouble> {
 
 /// The number that these digits write.
 pub fn number(digits: &str) -> Result<u64, CaseTrouble> {
-    digits.parse().ok().ok_or(CaseTrouble::Number)
+    digits.parse().ok().ok_or(CaseTrouble::Case(NO_NUMBER))
 }
 
 // Adds the text as it stands at its `nth` time, counted from 0.
@@ -57,7 +57,7 @@ fn add_once(bytes: &mut Vec<u8>, text: &str, nth: u64) -> Result<(), CaseTrouble
     }
     for part in parts {
         let Some((mark, plain)) = part.split_once('}') else {
-            return Err(CaseTrouble::Brace);
+            return Err(CaseTrouble::Case(BAD_BRACE));
         };
         add_mark(bytes, mark, nth)?;
         bytes.extend_from_slice(plain.as_bytes())?;
@@ -74,7 +74,7 @@ fn add_mark(bytes: &mut Vec<u8>, mark: &str, nth: u64) -> Result<(), CaseTrouble
         "o" => bytes.push(b'{')?,
         "c" => bytes.push(b'}')?,
         mark => match mark.strip_prefix('b') {
-            Some(byte) => bytes.push(byte.parse().ok().ok_or(CaseTrouble::Brace)?)?,
+            Some(byte) => bytes.push(byte.parse().ok().ok_or(CaseTrouble::Case(BAD_BRACE))?)?,
             None => add_count(bytes, mark, nth)?,
         },
     }
@@ -83,7 +83,7 @@ fn add_mark(bytes: &mut Vec<u8>, mark: &str, nth: u64) -> Result<(), CaseTrouble
 
 // Adds a number, which each further time is one more.
 fn add_count(bytes: &mut Vec<u8>, first: &str, nth: u64) -> Result<(), CaseTrouble> {
-    let first = number(first).ok().ok_or(CaseTrouble::Brace)?;
+    let first = number(first).ok().ok_or(CaseTrouble::Case(BAD_BRACE))?;
     let count = first.saturating_add(nth);
     bytes.extend_from_slice(Buffer::new().format(count).as_bytes())?;
     Ok(())

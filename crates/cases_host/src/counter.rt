@@ -1,6 +1,6 @@
 // Who numbers the lines of many connections.
 ghost use Rattle.std.specs.Prelude.{◌≡◌, ℕ, List, Option, ⊤};
-ghost use Rattle.cases_host.specs.Numbers.{Numbering, is_new_at, is_over_at, stage_at, text_of};
+ghost use Rattle.cases_host.specs.steps.Numbers.{Numbering, is_new_at, is_over_at, stage_at, text_of};
 
 use hose_host::HostAnswers;
 use hose_io::{Failed, Sink, write_all};
@@ -46,7 +46,7 @@ pub struct Counter {
 }
 
 impl Model for Counter {
-    ghost use Rattle.cases_host.specs.Numbers.{Numbering};
+    ghost use Rattle.cases_host.specs.steps.Numbers.{Numbering};
 
     ghost Value = { Numbering };
 
@@ -85,8 +85,10 @@ impl Counter {
 impl HostAnswers for Counter {
     type Reply = Numbered;
 
+    type Kept = u64;
+
     ghost use Rattle.std.specs.Prelude.{ℕ, List, ⊤};
-    ghost use Rattle.cases_host.specs.Numbers.{is_new_at, is_over_at, stage_at, text_of};
+    ghost use Rattle.cases_host.specs.steps.Numbers.{is_new_at, is_over_at, stage_at, text_of};
 
     ghost said = { ⊤ };
 
@@ -101,6 +103,8 @@ impl HostAnswers for Counter {
     ghost origin = { ⊤ };
 
     ghost comes = { λ _ _ _. ⊤ };
+
+    ghost stands = { λ _ _ _. ⊤ };
 
     ghost fits = { λ _. ⊤ };
 
@@ -150,6 +154,10 @@ impl HostAnswers for Counter {
             Some(text) => write_all(output, text),
             None => write_all(output, b"no memory\n"),
         }
+    }
+
+    fn kept(&self) -> &u64 {
+        &self.count
     }
 
     fn counted(&self) -> u64 {

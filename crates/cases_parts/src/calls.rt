@@ -73,7 +73,10 @@ fn tell_of_streams(name: &str, told: &mut CaseText) -> Result<(), Trouble> {
         "door-fails" => doors::tell_failing(told),
         "source" => streams::tell_source(told),
         "sink" => streams::tell_sink(told),
-        "trickle" => streams::tell_trickled(told),
+        "trickle" => {
+            streams::tell_trickled(told);
+            Ok(())
+        }
         "pass" => streams::tell_passed(told),
         _ => Err(Trouble::Word),
     }

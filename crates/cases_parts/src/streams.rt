@@ -15,7 +15,7 @@ pub fn tell_source(told: &mut CaseText) -> Result<(), Trouble> {
 
 fn tell_of_source(source: &mut MemSource, told: &mut CaseText) -> Result<(), Trouble> {
     source.fail(4)?;
-    tell_takes(source, 4, told)?;
+    tell_takes(source, 4, told);
     let (bytes, faults, left) = (source.taken(), source.faults().count, source.left().len());
     let alloc = told.alloc();
     told.add(format!(in alloc; " {bytes:?} {faults} {left}"));
@@ -23,17 +23,17 @@ fn tell_of_source(source: &mut MemSource, told: &mut CaseText) -> Result<(), Tro
 }
 
 // What comes of so many takes of four bytes.
-fn tell_takes<S: Source>(
-    source: &mut S,
-    count: u32,
-    told: &mut CaseText,
-) -> Result<(), AllocError> {
-    let mut taken = Vec::new(told.alloc());
-    for _ in 0..count {
-        taken.push(source.take(&mut [0; 4]))?;
+fn tell_takes<S: Source>(source: &mut S, count: u32, told: &mut CaseText) {
+    for number in 0..count {
+        told.put(before(number));
+        told.show(&source.take(&mut [0; 4]));
     }
-    told.show(&taken);
-    Ok(())
+    told.put("]");
+}
+
+// What stands in a list before its item of a number.
+fn before(number: u32) -> &'static str {
+    if number == 0 { "[" } else { ", " }
 }
 
 /// What comes of three puts of two bytes at a sink of which the first call fails; and what it has,
@@ -44,7 +44,7 @@ pub fn tell_sink(told: &mut CaseText) -> Result<(), Trouble> {
 
 fn tell_of_sink(sink: &mut MemSink, told: &mut CaseText) -> Result<(), Trouble> {
     sink.fail(1)?;
-    tell_puts(sink, b"ab", 3, told)?;
+    tell_puts(sink, b"ab", 3, told);
     let (bytes, faults) = (sink.bytes(), sink.faults());
     let alloc = told.alloc();
     told.add(format!(in alloc; " {bytes:?} {} {}", faults.count, faults.starved));
@@ -52,29 +52,26 @@ fn tell_of_sink(sink: &mut MemSink, told: &mut CaseText) -> Result<(), Trouble> 
 }
 
 // What comes of so many puts of the same bytes.
-fn tell_puts<O: Sink>(
-    sink: &mut O,
-    bytes: &[u8],
-    count: u32,
-    told: &mut CaseText,
-) -> Result<(), AllocError>
+fn tell_puts<O: Sink>(sink: &mut O, bytes: &[u8], count: u32, told: &mut CaseText)
     requires { 0 < length bytes.now }
 {
-    let mut put = Vec::new(told.alloc());
-    for _ in 0..count {
-        put.push(sink.put(bytes))?;
+    for number in 0..count {
+        told.put(before(number));
+        told.show(&sink.put(bytes));
     }
-    told.show(&put);
-    Ok(())
+    told.put("]");
 }
 
 /// What comes of a text of 4,096 bytes and then a few where this call fails, and how much is out.
 pub fn tell_gathered(failing: u64, told: &mut CaseText) -> Result<(), Trouble> {
-    let mut sink = MemSink::new(told.alloc())?;
-    sink.fail(failing)?;
-    let done = gather(&mut sink);
-    let alloc = told.alloc();
-    told.add(format!(in alloc; "{done:?} {}", sink.bytes().len()));
+    tell_gathered_in(&mut MemSink::new(told.alloc())?, failing, told)
+}
+
+fn tell_gathered_in(sink: &mut MemSink, nth: u64, told: &mut CaseText) -> Result<(), Trouble> {
+    sink.fail(nth)?;
+    told.show(&gather(sink));
+    told.put(" ");
+    told.show(&sink.bytes().len());
     Ok(())
 }
 
@@ -123,32 +120,32 @@ impl Write for Trickle {
 
 /// What comes of six takes from a reader that is interrupted, ends and fails, of six puts to such a
 /// writer, and of three whole texts.
-pub fn tell_trickled(told: &mut CaseText) -> Result<(), Trouble> {
-    tell_takes(&mut StdSource::new(Trickle { calls: 0 }), 6, told)?;
+pub fn tell_trickled(told: &mut CaseText) {
+    tell_takes(&mut StdSource::new(Trickle { calls: 0 }), 6, told);
     told.put("\n");
-    tell_puts(&mut StdSink::new(Trickle { calls: 0 }), b"abc", 6, told)?;
+    tell_puts(&mut StdSink::new(Trickle { calls: 0 }), b"abc", 6, told);
     told.put("\n");
-    tell_whole(told);
-    Ok(())
+    tell_whole(&mut StdSink::new(Trickle { calls: 0 }), told);
 }
 
-fn tell_whole(told: &mut CaseText) {
-    let mut sink = StdSink::new(Trickle { calls: 0 });
-    let whole = [
-        write_all(&mut sink, b"abc"),
-        write_all(&mut sink, b"abc"),
-        write_all(&mut sink, b"abc"),
-    ];
-    told.show(&whole);
+fn tell_whole<O: Sink>(sink: &mut O, told: &mut CaseText) {
+    for number in 0..3 {
+        told.put(before(number));
+        told.show(&write_all(sink, b"abc"));
+    }
+    told.put("]");
 }
 
 /// What two bytes are that pass through a reader and a writer of std.
 pub fn tell_passed(told: &mut CaseText) -> Result<(), Trouble> {
     let mut piece = [0; 3];
     let count = StdSource::new(b"ab".as_slice()).take(&mut piece)?;
-    let mut bytes = Vec::new(told.alloc());
-    write_all(&mut StdSink::new(&mut bytes), &piece[..count])?;
-    told.show(&bytes);
+    tell_written(&mut Vec::new(told.alloc()), &piece[..count], told)
+}
+
+fn tell_written(to: &mut Vec<u8>, bytes: &[u8], told: &mut CaseText) -> Result<(), Trouble> {
+    write_all(&mut StdSink::new(&mut *to), bytes)?;
+    told.show(to);
     Ok(())
 }
 

@@ -15,27 +15,36 @@ fn of_three(links: &LinkSet) -> [bool; 3] {
 /// Three links at first, with one put, filled but for that, as copied then, and with one cleared;
 /// and whether the copy is the same before that and after it.
 pub fn tell_links(told: &mut CaseText) -> Result<(), Trouble> {
-    let alloc = told.alloc();
-    let mut links = LinkSet::new(alloc, 3)?;
-    let at_first = of_three(&links);
+    tell_steps(&mut LinkSet::new(told.alloc(), 3)?, told)
+}
+
+fn tell_steps(links: &mut LinkSet, told: &mut CaseText) -> Result<(), Trouble> {
+    if links.len() != 3 {
+        return Err(Trouble::Word);
+    }
+    let at_first = of_three(links);
     links.put(1);
-    let one_put = of_three(&links);
+    let one_put = of_three(links);
     links.fill_where(|link| link != 1);
-    let filled = of_three(&links);
-    let copy = links.copy(alloc)?;
+    let filled = of_three(links);
+    let copy = links.copy(told.alloc())?;
     let is_same = links.same(&copy);
     links.clear(0);
-    let is_same_then = links.same(&copy);
-    let states = [at_first, one_put, filled, of_three(&copy), of_three(&links)];
-    told.add(format!(in alloc; "{states:?} {is_same} {is_same_then}"));
+    told.show(&[at_first, one_put, filled, of_three(&copy), of_three(links)]);
+    tell_same(told, is_same);
+    tell_same(told, links.same(&copy));
     Ok(())
+}
+
+fn tell_same(told: &mut CaseText, is_same: bool) {
+    told.put(if is_same { " true" } else { " false" });
 }
 
 /// A hose of these endpoints, with its total, and its copy; or why it is refused.
 pub fn tell_hose(words: &str, told: &mut CaseText) -> Result<(), Trouble> {
     let ends = endpoints(told.alloc(), words)?;
     match Hose::build(told.alloc(), &ends) {
-        Ok(hose) => told.add(with_copy(told.alloc(), &hose)),
+        Ok(hose) => tell_with_copy(&hose, told)?,
         Err(HoseFault::Memory) => told.add(Err(AllocError)),
         Err(fault) => told.show(&fault),
     }
@@ -44,10 +53,15 @@ pub fn tell_hose(words: &str, told: &mut CaseText) -> Result<(), Trouble> {
 
 fn endpoints(alloc: Global, words: &str) -> Result<Vec<Endpoint>, Trouble> {
     let mut ends = Vec::new(alloc);
+    add_endpoints(&mut ends, words)?;
+    Ok(ends)
+}
+
+fn add_endpoints(ends: &mut Vec<Endpoint>, words: &str) -> Result<(), Trouble> {
     for word in words.split_whitespace() {
         ends.push(endpoint(word)?)?;
     }
-    Ok(ends)
+    Ok(())
 }
 
 fn endpoint(word: &str) -> Result<Endpoint, Trouble> {
@@ -58,10 +72,10 @@ fn endpoint(word: &str) -> Result<Endpoint, Trouble> {
     }
 }
 
-fn with_copy(alloc: Global, hose: &Hose) -> Result<String, AllocError> {
-    let copy = hose.copy(alloc)?;
-    let states = [(hose.ends(), hose.total()), (copy.ends(), copy.total())];
-    format!(in alloc; "{states:?}")
+fn tell_with_copy(hose: &Hose, told: &mut CaseText) -> Result<(), AllocError> {
+    let copy = hose.copy(told.alloc())?;
+    told.show(&[(hose.ends(), hose.total()), (copy.ends(), copy.total())]);
+    Ok(())
 }
 
 /// What comes of a node, of the same again, of a link from a node to itself, and of one of these
@@ -98,12 +112,13 @@ pub fn tell_names(words: &str, told: &mut CaseText) {
 /// Copies of amounts and of a list of nodes, and whether copies of an entry and of a network are
 /// printed alike.
 pub fn tell_copies(top: &Topology, told: &mut CaseText) -> Result<(), Trouble> {
-    let alloc = told.alloc();
-    told.show(&copied_amounts(alloc)?);
+    told.show(&copied_amounts(told.alloc())?);
     told.put("\n");
-    told.show(&copied_nodes(alloc)?);
-    let (entry, network) = (is_entry_alike(alloc)?, is_network_alike(alloc, top)?);
-    told.add(format!(in alloc; "\nthe entry {entry}, the network {network}"));
+    told.show(&copied_nodes(told.alloc())?);
+    told.put("\nthe entry ");
+    told.show(&is_alike(told.alloc(), &admission(told.alloc())?)?);
+    told.put(", the network ");
+    told.show(&is_network_alike(told.alloc(), top)?);
     Ok(())
 }
 
@@ -117,10 +132,9 @@ fn copied_nodes(alloc: Global) -> Result<NodeList, AllocError> {
     nodes.copy(alloc)
 }
 
-fn is_entry_alike(alloc: Global) -> Result<bool, Trouble> {
-    let entry = admission(alloc)?;
+fn is_alike(alloc: Global, entry: &Entry) -> Result<bool, AllocError> {
     let copy = entry.copy(alloc)?;
-    Ok(are_alike(alloc, &entry, &copy)?)
+    are_alike(alloc, entry, &copy)
 }
 
 fn is_network_alike(alloc: Global, top: &Topology) -> Result<bool, AllocError> {

@@ -87,7 +87,7 @@ fn share_on(alloc: Global, disk: MemDisk, top: Topology) -> Result<(CaseBook, Pa
 {
     match Store::open(alloc, disk, top) {
         Ok(store) => Ok(Shared::new(alloc, store)?),
-        Err(_) => Err(CaseTrouble::Opening),
+        Err(_) => Err(CaseTrouble::opening()),
     }
 }
 
@@ -98,7 +98,7 @@ pub fn close(book: CaseBook, pass: Pass) -> Result<MemDisk, CaseTrouble>
 {
     let (closed, disk, _book) = book.close(pass).close();
     if closed.is_err() {
-        return Err(CaseTrouble::Close);
+        return Err(CaseTrouble::close());
     }
     Ok(disk)
 }

@@ -78,12 +78,21 @@ fn add_numbers(told: &mut CaseText, case: &Case, outcome: &Outcome) {
     if outcome.is_alone {
         told.put("a session went on before the other had come so far\n");
     }
-    let (status, wanted) = (outcome.status, case.wanted.status);
+    add_status(told, outcome.status, case.wanted.status);
+    add_taken(
+        told,
+        outcome.taken,
+        case.wanted.taken.unwrap_or(outcome.taken),
+    );
+}
+
+fn add_status(told: &mut CaseText, status: u64, wanted: u64) {
     if status != wanted {
         told.add(format!(in told.alloc(); "the status is {status}, and {wanted} is wanted\n"));
     }
-    let taken = outcome.taken;
-    let wanted = case.wanted.taken.unwrap_or(taken);
+}
+
+fn add_taken(told: &mut CaseText, taken: u64, wanted: u64) {
     if taken != wanted {
         told.add(format!(in told.alloc();
             "{taken} bytes of the input are taken, and {wanted} are wanted\n"
@@ -206,21 +215,28 @@ fn add_epoch<C: Runs>(
 // Adds a line for where what was written differs first, and what stands there.
 fn add_bytes(told: &mut CaseText, name: &str, output: &[u8], wanted: &[u8]) {
     if output != wanted {
-        told.add(difference(told.alloc(), name, output, wanted));
+        add_difference(told, name, output, wanted);
     }
 }
 
-fn difference(
-    alloc: Global,
-    name: &str,
-    output: &[u8],
-    wanted: &[u8],
-) -> Result<String, AllocError> {
+fn add_difference(told: &mut CaseText, name: &str, output: &[u8], wanted: &[u8]) {
     let place = common(output, wanted);
     let line = line_at(output, place);
-    let is = shown(alloc, output, place)?;
-    let wanted = shown(alloc, wanted, place)?;
-    format!(in alloc; "line {line} of {name} has {is:?}, and {wanted:?} is wanted\n")
+    told.add(format!(in told.alloc(); "line {line} of {name} has "));
+    add_shown(told, output, place);
+    told.put(", and ");
+    add_shown(told, wanted, place);
+    told.put(" is wanted\n");
+}
+
+// Adds what stands round a place.
+fn add_shown(told: &mut CaseText, bytes: &[u8], place: usize)
+    requires { place ≤ length bytes.now }
+{
+    match shown(told.alloc(), bytes, place) {
+        Ok(text) => told.show(&text),
+        Err(error) => told.add(Err(error)),
+    }
 }
 
 // The number of the line in which a place stands, counted from 1.

@@ -59,10 +59,15 @@ impl Outcome {
 pub fn held(alloc: Global, disk: &mut MemDisk) -> Result<Vec<u8>, AllocError> {
     let len = disk.len().unwrap_or(0);
     let mut bytes = Vec::from_elem(alloc, 0, len as usize)?;
-    if bytes.len() as u64 <= 1 << 32 {
-        let _ = disk.read_at(0, &mut bytes);
-    }
+    fill(disk, &mut bytes);
     Ok(bytes)
+}
+
+// Reads what a disk has at its front, at most 4 GiB.
+fn fill<D: Disk>(disk: &mut D, bytes: &mut [u8]) {
+    if bytes.len() as u64 <= 1 << 32 {
+        let _ = disk.read_at(0, bytes);
+    }
 }
 
 /// What came of two sessions at once: the disk of their book, and what each was given.

@@ -43,17 +43,32 @@ pub fn never_go_back(output: &[u8]) -> bool {
 /// The id that a session was told, where its replies are a welcome, an admission, that there is no
 /// VPN 999, and the end, at places that never go back.
 pub fn admitted(output: &[u8]) -> Option<u64> {
-    let mut lines = str::from_utf8(output).ok()?.lines();
+    if !never_go_back(output) {
+        return None;
+    }
+    admitted_in(str::from_utf8(output).ok()?)
+}
+
+fn admitted_in(replies: &str) -> Option<u64> {
+    let mut lines = replies.lines();
     let (welcome, admission) = (lines.next()?, lines.next()?);
     let (none, end) = (lines.next()?, lines.next()?);
-    let is_so = welcome.starts_with("welcome at ")
-        && none.starts_with("no vpn 999 at ")
-        && end == "bye"
-        && lines.next().is_none()
-        && never_go_back(output);
-    if is_so {
-        number_after(admission, "admitted")
-    } else {
-        None
+    if lines.next().is_some() {
+        return None;
     }
+    if !are_around(welcome, none, end) {
+        return None;
+    }
+    number_after(admission, "admitted")
+}
+
+// Whether these are a welcome, that there is no VPN 999, and the end.
+fn are_around(welcome: &str, none: &str, end: &str) -> bool {
+    if !welcome.starts_with("welcome at ") {
+        return false;
+    }
+    if !none.starts_with("no vpn 999 at ") {
+        return false;
+    }
+    end == "bye"
 }

@@ -267,7 +267,7 @@ pub fn network_of(alloc: Global, case: &Case) -> Result<Topology, CaseTrouble> {
     let source = MemSource::new(alloc, &case.text, PIECE)?;
     match read(alloc, &mut LineReader::new(source)) {
         Ok(top) => Ok(top),
-        Err(_) => Err(CaseTrouble::Opening),
+        Err(_) => Err(CaseTrouble::opening()),
     }
 }
 

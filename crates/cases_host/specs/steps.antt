@@ -1,0 +1,2 @@
+-- Steps of proofs: what no clause of the top calls names.
+pub mod Numbers

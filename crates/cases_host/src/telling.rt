@@ -1,0 +1,65 @@
+// What happened, in lines.
+use hose_net::{DoorTrouble, DoorsEvent, DoorsFault, Happened, KeptAddress};
+use std::io;
+
+/// What happened at connections.
+pub fn tell<R: Print>(rt: &R, happened: &[Happened]) -> io::Result<()> {
+    for event in happened {
+        match event {
+            Happened::Came(door, place) => println!(rt; "    {place} came by {door}")?,
+            Happened::Got(place, bytes) => println!(rt; "    {place} gave {}", bytes.len())?,
+            Happened::Sent(place, bytes) => {
+                let text = std::str::from_utf8(bytes).unwrap_or("?");
+                println!(rt; "    {place} was sent {text:?}")?;
+            }
+            Happened::Refused(place) => println!(rt; "    {place} took no more")?,
+            Happened::Heard(upto) => println!(rt; "    heard {upto}")?,
+            Happened::Left(place) => println!(rt; "    {place} left")?,
+            Happened::Stopped => println!(rt; "    was told to stop")?,
+        }
+    }
+    Ok(())
+}
+
+/// What was done with doors.
+pub fn tell_doors<R: Print>(rt: &R, done: &[DoorsEvent]) -> io::Result<()> {
+    for event in done {
+        match event {
+            DoorsEvent::Opened(addresses) => {
+                for address in addresses {
+                    tell_address(rt, address)?;
+                }
+            }
+            DoorsEvent::Refused(DoorsFault::Door(place, trouble)) => {
+                println!(rt;
+                    "    door {place} could not be opened: {}",
+                    name_of(*trouble)
+                )?;
+            }
+            DoorsEvent::Refused(DoorsFault::Memory) => println!(rt; "    no memory for doors")?,
+            DoorsEvent::Closed(happened) => {
+                tell(rt, happened)?;
+                println!(rt; "    doors were closed")?;
+            }
+        }
+    }
+    Ok(())
+}
+
+fn tell_address<R: Print>(rt: &R, address: &KeptAddress) -> io::Result<()> {
+    match address {
+        KeptAddress::Port(port) => println!(rt; "    opened port {port}"),
+        KeptAddress::Path(path) => println!(rt; "    opened {path}"),
+    }
+}
+
+/// Why a door could not be opened, as scripts say it.
+pub fn name_of(trouble: DoorTrouble) -> &'static str {
+    match trouble {
+        DoorTrouble::Served => "served",
+        DoorTrouble::NotAllowed => "denied",
+        DoorTrouble::NoFolder => "no folder",
+        DoorTrouble::NoSocket => "no socket",
+        DoorTrouble::Other => "other",
+    }
+}
