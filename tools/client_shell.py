@@ -55,8 +55,8 @@ The link L: its nodes, capacity, cost and load, and `out` where it is out of ser
     "end": Help("end", f"""\
 Ends a host: `ending at N`. No line of anyone is answered after it; {OPERATOR}"""),
     "figures": Help("figures", f"""\
-What a host counted since its start, as connections, lines, and orders by their replies;
-{OPERATOR}"""),
+What a host counted since its start, as connections, lines, and orders by their replies, and how
+long orders and quotes took; {OPERATOR}"""),
     "help": Help("help [COMMAND]", "The commands, or one of them."),
     "table": Help("table", "Replies as tables, or as lines again."),
     "again": Help("again", """\

@@ -24,8 +24,8 @@ _hosed_files() {
 }
 
 _hosed() {
-    local commands="run audit host serve prove check price ship follow move gen"
-    local with_tariff=" run audit host serve prove check ship follow move "
+    local commands="run audit host serve prove check price ship follow move cut gen"
+    local with_tariff=" run audit host serve prove check ship follow move cut "
     local typed verb place words=() line=$COMP_LINE
     COMPREPLY=()
     # Bash parts words at `:`, so the words up to the cursor are read anew.
@@ -61,7 +61,7 @@ _hosed() {
     [[ $typed == -* ]] && return
     case $verb:$place in
         run:2 | audit:[23] | host:* | serve:[23] | prove:2 | check:2 | price:2 | ship:[23] | follow:[23] | \
-            move:[2-5])
+            move:[2-5] | cut:[235])
             _hosed_files
             ;;
         prove:*)

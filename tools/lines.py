@@ -88,12 +88,15 @@ REPLIES.update({
     "Ending": "ending at <epoch>",
     "Figures": "figures connections <connections> ever <ever> lines <lines> admitted <admitted> "
                "refused <refused> released <released> down <down> up <up> disk <disk> "
-               "memory <memory> lost <lost> at <epoch>",
+               "memory <memory> lost <lost> timed <timed> took <took> "
+               "over-100us <over_100us> over-1ms <over_1ms> over-10ms <over_10ms> "
+               "over-100ms <over_100ms> over-1s <over_1s> over-10s <over_10s> "
+               "synced <synced> at <epoch>",
 })
 
 ORDERS = tuple(word for word, command in COMMANDS.items() if command.entered)
 """The commands that may leave an entry."""
-FIELD = re.compile("<([a-z_]+)>")
+FIELD = re.compile("<([a-z0-9_]+)>")
 
 
 def usage(word: str) -> str:

@@ -6,11 +6,11 @@ epoch, how many VPNs are live, of all and by customer, load, capacity and state 
 ends, orders by kind, what is reserved costs, the bytes of the file, and when it was written last.
 Besides, as seen from beside the server: whether a program has the journal open (`hosed_up`) and the
 room of its file system; with --operator what a host tells at its operator's door: connections,
-lines, orders by their replies, lost lines of the log, so that `hosed_up` is an answer of the host;
-with --ask whether a server answers a question, and in which time, by a session of the customer
-`metrics` that stays open; with --figures what tools/standby.py, or a front, writes into a file by
-its own --figures. A file older than 30 seconds is left out, and `hosed_figures_age_seconds` tells
-its age. They are written once
+lines, orders by their replies, lost lines of the log, how long orders and quotes took, and when an
+order was on the disk last, so that `hosed_up` is an answer of the host; with --ask whether a server
+answers a question, and in which time, by a session of the customer `metrics` that stays open; with
+--figures what tools/standby.py, or a front, writes into a file by its own --figures. A file older
+than 30 seconds is left out, and `hosed_figures_age_seconds` tells its age. They are written once
 
 - as a text for Prometheus, on standard output, or to the file of --write, which is replaced as a
   whole, as the textfile collector of node_exporter wants it; with --every again and again, and

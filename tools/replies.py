@@ -138,6 +138,19 @@ class Figures(Reply):
     memory: int
     lost: int
     """Lines of the log that could not be written."""
+    timed: int
+    """Orders and lines that asked for a quote."""
+    took: int
+    """Nanoseconds from taking such a line to its reply, of all of them together."""
+    over_100us: int
+    """How many of them took longer than this."""
+    over_1ms: int
+    over_10ms: int
+    over_100ms: int
+    over_1s: int
+    over_10s: int
+    synced: int
+    """Milliseconds since an order was on the disk last, or the host began."""
     epoch: int
 
 

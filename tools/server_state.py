@@ -81,6 +81,9 @@ class Question:
 
 # The figures of a host that each tell how many replies of a kind there were.
 REPLIES = "admitted", "refused", "released", "down", "up", "disk", "memory"
+# Those that tell how many orders and quotes took longer than so many seconds.
+SLOWER = {"0.0001": "over_100us", "0.001": "over_1ms", "0.01": "over_10ms", "0.1": "over_100ms",
+          "1.0": "over_1s", "10.0": "over_10s"}
 
 
 class HostQuestion(Question):
@@ -110,11 +113,11 @@ class HostQuestion(Question):
         yield Family("hosed_answer_seconds", "histogram",
                      "Seconds from that question to its answer.", self.seconds.samples())
         if told:
-            yield from of_host(told)
+            yield from of_host(told, time.time())
 
 
-def of_host(told: client.Figures) -> Iterator[Family]:
-    """What a host counted since its start."""
+def of_host(told: client.Figures, now: float) -> Iterator[Family]:
+    """What a host counted since its start, and told at this time."""
     yield gauge("hosed_host_connections", "Connections at this moment.", told.connections)
     yield gauge("hosed_host_connections_ever",
                 "Connections that are there or gave a line, since the start.", told.ever)
@@ -125,7 +128,24 @@ def of_host(told: client.Figures) -> Iterator[Family]:
                  [Sample({"reply": reply}, getattr(told, reply)) for reply in REPLIES])
     yield Family("hosed_host_log_lines_lost_total", "counter",
                  "Lines of the log that could not be written.", [Sample({}, told.lost)])
+    yield Family("hosed_host_reply_seconds", "histogram",
+                 "Seconds from when the host took an order, or a line that asks for a quote, to "
+                 "its reply, with the disk's syncs.",
+                 list(reply_times(told)))
+    yield gauge("hosed_host_last_sync_time_seconds",
+                "When an order was on the disk last, or the host began, in seconds since 1970.",
+                f"{now - told.synced / 1000:.3f}")
     yield gauge("hosed_host_epoch", "Orders in the host's book.", told.epoch)
+
+
+def reply_times(told: client.Figures) -> Iterator[Sample]:
+    """How many orders and quotes a host answered within each of some times, as a histogram has
+    them."""
+    for bound, slower in SLOWER.items():
+        yield Sample({"le": bound}, told.timed - getattr(told, slower), "_bucket")
+    yield Sample({"le": "+Inf"}, told.timed, "_bucket")
+    yield Sample({}, f"{told.took / 1e9:.6f}", "_sum")
+    yield Sample({}, told.timed, "_count")
 
 
 # ---- Files of figures.

@@ -8,10 +8,11 @@ reply that tells that epoch, the places of a session may not go back, and the au
 of the last book. Prints how many runs, sessions and replies of each kind there were; or the first
 difference, and ends with status 1.
 
-With --host the sessions are those of a host. With --front they are those of a front over the
-PROGRAM. There a quote is its customer's, and not its session's. So the lines of all sessions of a
-customer are put into one order that explains the numbers of quotes, in which no line comes before
-one that was answered before it was said.
+With --host the sessions are those of a host, and what it counted, which its operator is told, has
+to be what the sessions were told. With --front they are those of a front over the PROGRAM. There a
+quote is its customer's, and not its session's. So the lines of all sessions of a customer are put
+into one order that explains the numbers of quotes, in which no line comes before one that was
+answered before it was said.
 
 usage: bench/judge/histories.py [--host | --front] [PROGRAM [RUNS [SEED]]]
 The PROGRAM (./hosed) is seen from the top of the repository.
@@ -33,7 +34,7 @@ sys.path.insert(0, os.path.join(os.path.dirname(os.path.abspath(__file__)), ".."
 from usage import tell_usage
 
 import client
-from lines import COMMANDS, ENDS, ENTERED, told
+from lines import COMMANDS, ENDS, ENTERED, ORDERS, told
 from planner import COMPARED, OPERATOR, QUOTES, Vpn, audit_lines, decide, ends_of, ends_text
 from planner import grounds, in_service, link_told, loads_of, plan_cost, random_hose
 from planner import random_network, refusal_told, topology_lines
@@ -478,6 +479,28 @@ def start_host(program, topology, journal, doors=(), files=None, environment=Non
     raise Differs("no port could be opened")
 
 
+def figures_of_host(journal):
+    """What a host counted, as its operator is told in a session of his own."""
+    with client.Session("127.0.0.1", f"{journal}.operator", OPERATOR, HANGS) as session:
+        return session.figures()
+
+
+def judge_figures(figures, sessions):
+    """What a host counted is what its sessions said and were told, and its operator's greeting."""
+    lines = [line for session in sessions for line in session.said]
+    replies = Counter(reply.partition(" ")[0] for _, _, reply in lines)
+    timed = sum(kind == "quote" or kind in ORDERS for kind, _, _ in lines)
+    same((figures.ever, figures.lines, figures.timed, figures.lost),
+         (len(sessions) + 1, len(lines) + 1, timed, 0), "connections, lines, timed and lost lines")
+    for word in ("admitted", "refused", "released", "down", "up", "disk", "memory"):
+        same((word, getattr(figures, word)), (word, replies[word]), "how many replies are counted")
+    over = [figures.timed, figures.over_100us, figures.over_1ms, figures.over_10ms,
+            figures.over_100ms, figures.over_1s, figures.over_10s]
+    same(sorted(over, reverse=True), over, "how many took longer than so long")
+    if figures.took < 100_000 * figures.over_100us:
+        raise Differs(f"{over} took {figures.took} ns in all")
+
+
 def told_of_host(host, _program, _topology, journal):
     """Ends a host by its operator, and gives its status and the audit that it wrote."""
     with socket.socket(socket.AF_UNIX) as operator:
@@ -512,10 +535,11 @@ class Way(NamedTuple):
     start: object  # of a program, a topology and a journal: what serves, and its port
     ended: object  # of what serves and these: its status and the audit
     orders: object  # the lines of all sessions, as those whose quotes are the same
+    counted: object = None  # what it counted, of a journal, where it tells that
 
 
 WAYS = {"--front": Way("a front", start_front, told_of_front, by_customer),
-        "--host": Way("a host", start_host, told_of_host, by_session)}
+        "--host": Way("a host", start_host, told_of_host, by_session, figures_of_host)}
 
 
 def way_of(words):
@@ -541,6 +565,8 @@ def serve(program, work, seed, kinds, way):
             session.join()
             if session.fault:
                 raise Differs(f"a session failed: {session.fault}")
+        if way and way.counted:
+            judge_figures(way.counted(journal), sessions)
         if way:
             status, audit = way.ended(server, program, topology, journal)
         else:

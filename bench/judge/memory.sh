@@ -4,13 +4,15 @@
 # admission on a backbone of eleven cities, a customer's numbers and an admission that is bound to
 # them, and each of a journal that is begun, gone on with and another network's; an audit, a
 # generated script, a certificate that is written and one that is judged, and two prices; a journal
-# that is moved, as a whole and what is live of it; and a server with one customer. Each has to end
-# in one of three ways: with status 7 and the line `no memory`; with a line `memory` in the place of
-# the command that was refused; or with the fault of an object that wanted it, as `cabinet` and
-# status 6. All other lines have to be those of the orders that were acknowledged, by the slow
-# planner of planner.py, and these the entries of the journal, by the reader of forged.py. A
-# library that gcc makes of edge.c refuses the growth. A run has no more of them where twenty in a
-# row were not wanted; how many it had, and with which status it ended, is printed.
+# that is moved, as a whole and what is live of it; a server with one customer; and a host with one
+# and its operator. Each has to end in one of three ways: with status 7 and the line `no memory`;
+# with a line `memory` in the place of the command that was refused; or with the fault of an object
+# that wanted it, as `cabinet` and status 6, or `door K` and status 9. A host may let a connection
+# go besides, and serves who comes then; its log may lose a line, which it tells its operator. All
+# other lines have to be those of the orders that were acknowledged, by the slow planner of
+# planner.py, and these the entries of the journal, by the reader of forged.py. A library that gcc
+# makes of edge.c refuses the growth. A run has no more of them where twenty in a row were not
+# wanted; how many it had, and with which status it ended, is printed.
 # usage: bench/judge/memory.sh [PROGRAM]
 # The PROGRAM (crates/hosed_main/out/hosed_main) is seen from the top of the repository. It is no
 # script: the growths of the shell would be refused.
@@ -20,6 +22,7 @@ export LC_ALL=C
 cd "$(dirname "${BASH_SOURCE[0]}")/../.."
 
 exec python3 - "${1:-crates/hosed_main/out/hosed_main}" <<'END'
+import contextlib
 import os
 import pathlib
 import socket
@@ -91,6 +94,7 @@ MOVES = {
     "move_live": (["--live"], ["vpn 1 is 1", "moved 1 live 1"]),
 }
 SESSION = ["hello acme", "admit a:3 b:4 c:5", "vpns", "admit-after 1 a:1 b:1", "show 1", "bye"]
+OPERATOR = ["hello operator", "figures", "end"]
 
 
 class Wrong(Exception):
@@ -261,6 +265,82 @@ def server_without(growth, library, work):
     return len(replies) == len(SESSION) and "memory" not in replies, status
 
 
+def talked(path, lines):
+    """What lines are answered at a socket, each before the next one is sent, until a connection is
+    let go."""
+    replies = []
+    with socket.socket(socket.AF_UNIX) as peer:
+        peer.settimeout(SECONDS)
+        peer.connect(path)
+        with contextlib.suppress(ConnectionError), peer.makefile("r", encoding="ascii") as told:
+            for line in lines:
+                peer.sendall(f"{line}\n".encode())
+                reply = told.readline()
+                if not reply.endswith("\n"):
+                    break
+                replies.append(reply.rstrip("\n"))
+    return replies
+
+
+def hosted(words, work, env):
+    """Runs a host that a customer and then its operator come to, who comes again where he was let
+    go, and tells its status, its output, its log, and the replies to both."""
+    door, operator, log = (str(work / name) for name in ("door", "operator", "log"))
+    replies, ending = [], []
+    with open(log, "wb") as errors:
+        host = subprocess.Popen(words, stdin=subprocess.DEVNULL, stdout=subprocess.PIPE,
+                                stderr=errors, text=True, env=env)
+    try:
+        ready = host.stdout.readline()
+        if ready == "ready\n":
+            replies = talked(door, SESSION)
+            with contextlib.suppress(OSError):
+                while host.poll() is None:
+                    ending.append(talked(operator, OPERATOR))
+        output = ready + host.communicate(timeout=SECONDS)[0]
+    finally:
+        host.kill()
+        host.wait()
+    with open(log, encoding="ascii") as file:
+        return host.returncode, output.splitlines(), file.read().splitlines(), replies, ending
+
+
+def host_without(growth, library, work):
+    """The same of a host with one customer and its operator."""
+    topology, journal = work / "topology", work / "host.journal"
+    topology.write_text(TEXTS["star"])
+    journal.write_bytes(b"")
+    words = [PROGRAM, "host", "--operator", str(work / "operator"), str(topology), str(journal),
+             str(work / "door")]
+    status, output, log, replies, ending = hosted(words, work, without(growth, library))
+    desk, wanted = Desk(NETWORKS["star"]), ["welcome at 0"]
+    for line, reply in zip(SESSION[1:], replies[1:]):
+        wanted.append("memory" if reply == "memory" else desk.later(line.encode(), "acme"))
+    if replies != wanted[:len(replies)]:
+        raise Wrong(f"status {status}, {replies}")
+    # A line whose reply was lost with its connection may be done.
+    books = [desk.audit()]
+    if 0 < len(replies) < len(SESSION):
+        desk.later(SESSION[len(replies)].encode(), "acme")
+        books.append(desk.audit())
+    book, rest = judged(NETWORKS["star"], journal.read_bytes())[:2]
+    if book not in books or rest:
+        raise Wrong(f"status {status}, {replies}, and the journal has {book}")
+    ends = {6: ["cabinet"], 7: ["no memory"]}
+    if status == 9 and output[:1] in (["door 3"], ["door 6"]):
+        ends[9] = output[:1]
+    if status in ends:
+        if output != ends[status] or replies:
+            raise Wrong(f"status {status} after {output}, {replies}")
+        return False, status
+    if status != 0 or output != ["ready", *book]:
+        raise Wrong(f"status {status}, {replies}, {output}, {log}")
+    orders = [f'acme "{line}" {reply}' for line, reply in zip(SESSION, replies)
+              if reply.startswith("admitted ")]
+    return (len(replies) == len(SESSION) and "memory" not in replies and log == orders
+            and len(ending) == 1 and f" admitted {len(orders)} " in ending[0][1]), status
+
+
 def try_all(name, tried):
     """Has each growth of a run fail, and tells how many there were and how it ended."""
     ends, growth, whole = Counter(), 0, 0
@@ -297,6 +377,7 @@ def main():
         for name in MOVES:
             try_all(name, lambda growth: move_without(growth, name, library, work))
         try_all("server", lambda growth: server_without(growth, library, work))
+        try_all("host", lambda growth: host_without(growth, library, work))
 
 
 main()

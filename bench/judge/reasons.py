@@ -6,7 +6,8 @@ words named. What is wanted stands here, written by hand. Each status has one tr
 each command one that ends well; 1, 6 and 9 have one for each cause that an operator meets: a word
 that is wrong, missing or empty, or the name of no node; a file that is not there, a folder that is
 not, rights that are missing, a journal that another program holds; a port that is taken, a path
-where no socket can be. Two trials have as many words as their command takes. Files that no words
+where no socket can. Where who reads the output has gone there is no sentence. A host's port is
+open at 127.0.0.1 alone. Two trials have as many words as their command takes. Files that no words
 name lie beside, and have to stay as they are; a socket has to be gone. Ends with status 1 where a
 status, a sentence, an output that is written here or such a file is another one. The gate runs it,
 since no clause says what `main` does around the one call that it makes.
@@ -17,7 +18,9 @@ The PROGRAM is crates/hosed_main/out/hosed_main where none is named. It listens 
 127.0.0.1 at most, and at sockets beside its files, which lie in a folder that is removed at the
 end. One trial reads 1 GiB, which takes a second or two.
 """
+import errno
 import os
+import re
 import resource
 import shutil
 import socket
@@ -35,6 +38,7 @@ NOBODY = 65_534  # a user without rights
 GIB, JSON_LIMIT = 1 << 30, 16 << 20
 
 HELP = ", see hosed --help"
+HERE, ELSEWHERE = "127.0.0.1", "127.0.0.2"
 LAST = "the last line of the output tells"
 UNREAD, UNKEPT = "could not be read", "could not be opened or closed"
 OTHER = "is that of another network, or of other costs, than the topology"
@@ -43,10 +47,9 @@ TWO_NODES = "node a\nnode b\nlink a b 10 7\nend\n"
 BESIDE = ("orders.journal", "other.journal", "beside.txt")  # that no words name
 ENDS = 64  # of a hose at most
 DOORS = [f"./door{place}" for place in range(63)]  # one fewer than at most
-DOOR = ("could not be opened: another program serves there, what lies there is no socket, its "
-        "folder is not there, or rights are missing")
 HOST = ["--tariff", "flat", "--operator", "./operator", "--quiet", "net.txt", "j"]  # all but doors
 RULE = 1  # the lowest that the certificate breaks: its text has no numbers of nodes
+TIMES = re.compile(" timed .* synced [0-9]+ ")  # of a host's figures, which no two runs share
 CERTIFICATE = "cost 1\nhose a:1 b:1\nuse 0 1\nend\n"
 
 
@@ -144,10 +147,16 @@ def streams(trials):
     folder = os.open(trials.folder, os.O_RDONLY)
     trials.comes(["run"], 3, "the input could not be read", stdin=folder)
     os.close(folder)
+    reader, writer = os.pipe()
+    os.close(reader)
     with open("/dev/full", "w", encoding="ascii") as full:
         for words in (["--help"], ["run"], ["host", "net.txt", "j", "./door"]):
-            trials.comes(words, 4, "the output could not be written: its disk is full, or what "
-                         "reads it has ended", TWO_NODES + "acme link 0\n", stdout=full)
+            text = TWO_NODES + "acme link 0\n"
+            trials.comes(words, 4, "the output could not be written: its disk is full, or failed",
+                         text, stdout=full)
+            trials.comes(words, 4, None, text, stdout=writer)
+    trials.comes(["fly"], 1, f'word 1 is not allowed: "fly"{HELP}', stdout=writer)
+    os.close(writer)
 
 
 def journals(trials):
@@ -228,16 +237,27 @@ def ports(trials):
         trials.comes(["serve", "net.txt", "j", port, "1", "1"], 9,
                      f"the port {port} could not be opened: another program listens there, or "
                      "rights are missing; or accepting a connection failed")
+        served, no_folder = "another program serves there", "its folder is not there"
         left = set(os.listdir(trials.folder))
-        for words, door in ((["net.txt", "j", "./door", port], port),
-                            (["net.txt", "j", "./door", "./none/door"], "./none/door"),
-                            (["net.txt", "j", "./door", "./beside.txt=acme"], "./beside.txt=acme"),
-                            (["--operator", "./none/door", "net.txt", "j", "./door"],
-                             "./none/door"),
-                            ([*HOST, *DOORS, "./none/door"], "./none/door")):
-            trials.comes(["host", *words], 9, f'the door "{door}" {DOOR}', "",
+        for words, door, why in (
+                (["net.txt", "j", "./door", port], port, served),
+                (["net.txt", "j", "./door", "./none/door"], "./none/door", no_folder),
+                (["net.txt", "j", "./door", "./beside.txt/door"], "./beside.txt/door", no_folder),
+                (["net.txt", "j", "./door", "./beside.txt=acme"], "./beside.txt=acme",
+                 "what lies there is no socket"),
+                (["--operator", "./none/door", "net.txt", "j", "./door"], "./none/door",
+                 no_folder),
+                ([*HOST, *DOORS, "./none/door"], "./none/door", no_folder)):
+            trials.comes(["host", *words], 9, f'the door "{door}" could not be opened: {why}', "",
                          f"door {2 + words.index(door)}\n")
             trials.wrong += set(os.listdir(trials.folder)) != left
+    if os.getuid() == 0:
+        os.mkdir(trials.path("open"))
+        os.chmod(trials.path("open"), 0o777)
+        os.mkdir(trials.path("shut"))
+        trials.comes(["host", "net.txt", "open/j", "./open/door", "./shut/door"], 9,
+                     'the door "./shut/door" could not be opened: permission denied', "",
+                     "door 5\n", preexec_fn=lambda: os.setuid(NOBODY))
 
 
 def inputs(trials):
@@ -287,6 +307,32 @@ def moves(trials):
           to="another")
 
 
+def cuts(trials):
+    """After `moves`: the journal has two entries."""
+    def comes(status, sentence, words, output=None):
+        trials.comes(["cut", *words], status, sentence, "", output)
+
+    comes(0, None, ["net.txt", "kept", "1", "first"], "moved 1 live 1\n")
+    comes(5, f'the journal "kept" {OTHER} "big.txt" tells', ["big.txt", "kept", "1", "first"])
+    comes(6, f'the journal "none" {UNKEPT}: no such file, and none is made there',
+          ["net.txt", "none", "1", "first"], "cabinet\n")
+    comes(6, f'the journal "link" {UNKEPT}: it and the other journal are one file',
+          ["net.txt", "kept", "1", "link"], "new cabinet\n")
+    comes(14, 'the journal "first" has another order than is to be moved at epoch 1',
+          ["net.txt", "kept", "0", "first"], "differs at 1\n")
+    comes(15, 'the journal "kept" has fewer entries than are to be cut off: 2',
+          ["net.txt", "kept", "3", "none"], "less 2\n")
+    trials.wrong += os.path.exists(trials.path("none"))
+    # A journal that may only be read is moved and cut.
+    os.mkdir(trials.path("free"))
+    os.chmod(trials.path("free"), 0o777)
+    os.chmod(trials.path("kept"), 0o444)
+    nobody = {"preexec_fn": lambda: os.setuid(NOBODY)} if os.getuid() == 0 else {}
+    for words in (["cut", "net.txt", "kept", "2", "free/cut"],
+                  ["move", "net.txt", "kept", "big.txt", "free/moved"]):
+        trials.comes(words, 0, None, "", "moved 2 live 2\n", **nobody)
+
+
 def commands(trials):
     """Each command ends well, by a tariff where it takes one, and writes what is right."""
     hops = ["--tariff", "hops"]
@@ -304,7 +350,7 @@ def commands(trials):
     trials.comes(["ship", *hops, "net.txt", "well", "2"], 0, None, "", "")
     trials.comes(["move", *hops, "net.txt", "well", "net.txt", "grown"], 0, None, "",
                  "moved 1 live 1\n")
-    for words in (["--help"], ["--version"]):
+    for words in (["--help"], ["-h"], ["help"], ["--version"]):
         trials.comes(words, 0, None)
 
 
@@ -330,35 +376,43 @@ def serves(trials):
 
 def hosts(trials):
     """A host ends well once its operator says so, and its order is in the journal."""
-    words = ["--operator", "./operator", "net.txt", "hosted", "./any", "./acme=acme"]
+    with socket.create_server((HERE, 0)) as free:
+        port = free.getsockname()[1]
+    words = ["--operator", "./operator", "net.txt", "hosted", "./any", "./acme=acme", str(port)]
     order = "admitted 1 cost 7 at 1 links 0:1"
     book = ("epoch 1\nlink 0 a b capacity 10 cost 7 load 1\n"
             "vpn 1 acme cost 7 ends a:1 b:1 links 0:1\nlive 1 cost 7\n")
-    figures = ("figures connections 1 ever 5 lines 9 admitted 1 refused 0 released 0 down 0 up 0 "
-               "disk 0 memory 0 lost 0 at 1")
+    figures = ("figures connections 1 ever 6 lines 11 admitted 1 refused 0 released 0 down 0 up 0 "
+               "disk 0 memory 0 lost 0 .. at 1")
     host = subprocess.Popen([trials.program, "host", *words], cwd=trials.folder, text=True,
                             stdin=subprocess.DEVNULL, stdout=subprocess.PIPE,
                             stderr=subprocess.PIPE)
     try:
         replies = host.stdout.readline()
+        # A port is open at one address alone, while it is.
+        with socket.socket() as peer:
+            elsewhere = peer.connect_ex((ELSEWHERE, port))
         for door, text in (("acme", "hello acme\nadmit a:1 b:1\nbye\n"), ("acme", "hello beta\n"),
                            ("any", "hello operator\n"), ("any", "hello beta\nend\nbye\n"),
+                           (port, "hello beta\nbye\n"),
                            ("operator", "hello operator\nfigures\nend\n")):
-            with socket.socket(socket.AF_UNIX) as peer:
+            is_port = door == port
+            with socket.socket(socket.AF_INET if is_port else socket.AF_UNIX) as peer:
                 peer.settimeout(SECONDS)
-                peer.connect(trials.path(door))
+                peer.connect((HERE, port) if is_port else trials.path(door))
                 peer.sendall(text.encode())
-                replies += peer.makefile().read()
+                replies += TIMES.sub(" .. ", peer.makefile().read())
         output, error = host.communicate(timeout=SECONDS)
     finally:
         host.kill()
     same = (host.returncode, error, replies, output) == (
         0, f'acme "admit a:1 b:1" {order}\n',
         f"ready\nwelcome at 0\n{order}\nbye\nbad 2\nbad 2\nwelcome at 1\ndenied at 1\nbye\n"
-        f"welcome at 1\n{figures}\nending at 1\n", book) and trials.are_beside()
+        f"welcome at 1\nbye\nwelcome at 1\n{figures}\nending at 1\n", book) and trials.are_beside()
+    same = same and elsewhere == errno.ECONNREFUSED
     trials.wrong += not same
     print(f"{'as wanted' if same else 'OTHERWISE'}: host: {host.returncode} {error} {replies!r} "
-          f"{output!r}")
+          f"{output!r} {os.strerror(elsewhere)}")
     trials.comes(["audit", "net.txt", "hosted"], 0, None, "", book)
 
 
@@ -392,7 +446,7 @@ def main(words):
         trials.write("net.txt", TWO_NODES)
         trials.lay_beside()
         for part in (words_that_are_wrong, topologies, streams, journals, closed_error, files,
-                     limits, ports, inputs, moves, commands, serves, hosts, most_words):
+                     limits, ports, inputs, moves, cuts, commands, serves, hosts, most_words):
             part(trials)
     finally:
         shutil.rmtree(folder)

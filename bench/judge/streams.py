@@ -90,7 +90,8 @@ def with_failing_streams(program):
     for words, status in ((["run"], 4), (["--help"], 4), (["--version"], 4), (["fly"], 1)):
         with open("/dev/full", "wb") as full:
             found = run(program, words, input=STAR + b"acme link 0\n", stdout=full)
-        yield f"{words} to a full device", found[0] == status, found
+        told = found[2].count(b"\n") == 1
+        yield f"{words} to a full device", found[0] == status and told, found
         closed = f"exec '{program}' {words[0]} >&-"
         found = run("/bin/sh", ["-c", closed], input=STAR + b"acme link 0\n")
         yield f"{words} to a closed output", found[0] == status, found
@@ -98,7 +99,9 @@ def with_failing_streams(program):
         os.close(reader)
         found = run(program, words, input=STAR + b"acme link 0\n", stdout=writer)
         os.close(writer)
-        yield f"{words} to a pipe that nobody reads", found[0] == status, found
+        # Who reads has gone, and chose to: nothing is told of that.
+        told = found[2].count(b"\n") == int(status != 4)
+        yield f"{words} to a pipe that nobody reads", found[0] == status and told, found
 
 
 # How a shell closes each standard stream.

@@ -1,8 +1,9 @@
 #!/usr/bin/env bash
 # What the gate costs from nothing: one whole `rt ci` with nothing kept, its minutes, and for each
 # crate the processor seconds of its proof, of the proof with its tests, and of its must-fail edits
-# with what they begin with. With names it takes these crates and those below them. The minutes say
-# something on an idle machine alone.
+# with what they begin with; and the longest way through the proofs to hosed_main (way.py). With
+# names it takes these crates and those below them, and prints the way to the first that is named.
+# The minutes say something on an idle machine alone.
 # usage: bench/measure/gate.sh [CRATE ..]
 [ "${1-}" != --help ] || exec sed -n '2,/^[^#]/s/^# \{0,1\}//p' "$0"
 set -euo pipefail
@@ -53,7 +54,8 @@ awk '
                     seconds[crate, "tests"], seconds[crate, "edits"] | "sort"
         close("sort")
         printf "%-20s %8.0f %8.0f %8.0f\n", "all", all["proof"], all["tests"], all["edits"]
-    }' "$work/notes"
+    }' "$work/notes" | tee "$work/table"
+bench/measure/way.py "$work/table" "${1-hosed_main}"
 read -r wall user kernel <"$work/time"
 awk -v wall="$wall" -v user="$user" -v kernel="$kernel" 'BEGIN {
     printf "%.1f minutes by the clock, %.1f processor minutes\n", wall / 60, (user + kernel) / 60 }'

@@ -47,8 +47,8 @@ import entered
 import rust_source
 
 NOT_PRODUCT = ("cases_common", "cases_files", "cases_stage", "cases_parts", "cases_plans",
-               "cases_disks", "cases_program", "cases_words", "cases_host",
-               "tests_threads", "hose_star")
+               "cases_disks", "cases_program", "cases_host", "cases_lead", "tests_threads",
+               "hose_star")
 PARTS = definitions.ENDINGS
 MOST_BODY = 40
 CRATES = definitions.crates_of(TOP)

@@ -13,7 +13,7 @@ usage: statement.py [COMMAND] [--html FILE]    the statement as a text, or as a 
        statement.py --files                    which files of definitions have what, and which
                                                definitions stand in the other's place
 
-COMMAND is run, audit, gen, prove, check, price, ship, follow, move, serve or host: what its outcome reaches,
+COMMAND is run, audit, gen, prove, check, price, ship, follow, move, cut, serve or host: what its outcome reaches,
 alone. Lines are those of definitions, without comments and blank lines, and with the heads of the
 modules around them; `--count` tells the others apart. Definitions of proofs alone stand in the
 folder specs/steps/ of their crate. Ends with status 1 where a name is not found, and tells it.
@@ -35,7 +35,7 @@ CALLS = [("call", "hosed", "lib", "offline_ended"), ("call", "hosed", "lib", "ho
 OUTCOMES = {"run": "RunOutcome", "audit": "AuditOutcome", "gen": "GenOutcome",
             "prove": "ProveOutcome", "check": "CheckOutcome", "price": "PriceOutcome",
             "ship": "ShipOutcome", "follow": "FollowOutcome",
-            "move": "MoveOutcome", "serve": "ServeOutcome", "host": "HostOutcome"}
+            "move": "MoveOutcome", "cut": "CutOutcome", "serve": "ServeOutcome", "host": "HostOutcome"}
 
 
 class Statement:

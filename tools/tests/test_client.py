@@ -38,7 +38,8 @@ REPLIES = [
     ("bye", client.Bye()),
     ("ending at 3", client.Ending(3)),
     ("figures connections 1 ever 2 lines 3 admitted 4 refused 5 released 6 down 7 up 8 disk 9 "
-     "memory 10 lost 11 at 12", client.Figures(1, 2, 3, 4, 5, 6, 7, 8, 9, 10, 11, 12)),
+     "memory 10 lost 11 timed 12 took 13 over-100us 14 over-1ms 15 over-10ms 16 over-100ms 17 "
+     "over-1s 18 over-10s 19 synced 20 at 21", client.Figures(*range(1, 22))),
     ("refused at 1 side a b", client.Refused(1, ("a", "b"))),
     ("stale 3 4", client.Stale(3, 4)),
     ("newest 5 at 7", client.Newest(5, 7)),

@@ -49,7 +49,7 @@ def told():
         watched.close()
     report = standby.Report()
     report.have = 1
-    host = server_state.of_host(client.Figures(*range(12)))
+    host = server_state.of_host(client.Figures(*range(21)), 1000.0)
     return text + figures.exposed([*host, *front.families(desk), *report.families()])
 
 

@@ -6,10 +6,12 @@ import unittest
 from unittest import mock
 
 import server_state
+from replies import read_reply
 from tests.fake_server import FakeServer
 
 FIGURES = (b"figures connections 1 ever 2 lines 3 admitted 4 refused 5 released 6 down 7 up 8 disk 9 "
-           b"memory 10 lost 11 at 12\n")
+           b"memory 10 lost 11 timed 3 took 4000000 over-100us 3 over-1ms 2 over-10ms 1 over-100ms 1 "
+           b"over-1s 1 over-10s 0 synced 1500 at 12\n")
 WELCOME, LINK = b"welcome at 0\n", b"link 0 a b capacity 9 cost 1 load 0 at 0\n"
 LOCKS = """1: FLOCK  ADVISORY  WRITE 77 {other} 0 EOF
 2: FLOCK  ADVISORY  WRITE 78 {one} 0 EOF
@@ -97,6 +99,20 @@ class Hosts(unittest.TestCase):
             self.assertEqual(self.samples(question), {("hosed_up",): 0})
         self.assertEqual(server.lines, ["hello operator", "figures", "hello operator", "figures",
                                         "figures"])
+
+    def test_how_long_a_host_took(self):
+        """Of three orders one took more than a second, one more, and none more, than a millisecond:
+        so much is below each bound."""
+        told = read_reply(FIGURES.decode().rstrip())
+        families = {family.name: family for family in server_state.of_host(told, 1000.0)}
+        times = families["hosed_host_reply_seconds"]
+        self.assertEqual([(sample.end, sample.labels.get("le"), str(sample.value))
+                          for sample in times.samples], [
+            ("_bucket", "0.0001", "0"), ("_bucket", "0.001", "1"), ("_bucket", "0.01", "2"),
+            ("_bucket", "0.1", "2"), ("_bucket", "1.0", "2"), ("_bucket", "10.0", "3"),
+            ("_bucket", "+Inf", "3"), ("_sum", None, "0.004000"), ("_count", None, "3")])
+        synced = families["hosed_host_last_sync_time_seconds"].samples
+        self.assertEqual([sample.value for sample in synced], ["998.500"])
 
     def test_nobody_is_there(self):
         question = server_state.HostQuestion("/nowhere/socket", 5)
