@@ -7,10 +7,10 @@
 //! compared with the file `stdout` of this crate. `cases_files` reads the files, and `cases_stage`
 //! compares what comes of a case.
 //!
-//! First each word that it is run with is printed on a line, as `hosed_program::program_words` takes
-//! them: what the system hands a program is told by no clause, and the stored run of the program has
-//! a few words. Here the file `args` has 68, as many as any command takes, and the file `stdout` the
-//! same, but for a word that is too long, in place of which stands an empty one.
+//! First each word that it is run with is printed on a line, as `hosed_program::program_words`
+//! takes them: what the system hands a program is told by no clause, and the stored run of the
+//! program has a few words. Here the file `args` has 68, as many as any command takes, and the file
+//! `stdout` the same, but for a word that is too long, in place of which stands an empty one.
 #![tactic(auto)]
 
 mod conversation;

@@ -171,7 +171,8 @@ fn write_at<N: Connections, A: HostAnswers>(
     place: usize,
 )
     requires { A.fits answers.old }
-    ensures keeps { (heard : ℕ) → KeepsAll N.Connections A.HostAnswers (AllFinished true) (AllFinished true)
+    ensures keeps { (heard : ℕ)
+        → KeepsAll N.Connections A.HostAnswers (AllFinished true) (AllFinished true)
         (hall network.old answers.old seats.old.items heard)
         (hall network.new answers.new seats.new.items heard) }
     ensures ends { A.ends answers.new ≡ A.ends answers.old }

@@ -99,7 +99,8 @@ fn read<N: Connections, A: HostAnswers>(
     piece: &mut [u8],
 )
     requires { A.fits answers.old }
-    ensures keeps { Keeps N.Connections A.HostAnswers (Calm heard seat.old.kept) (Calm heard seat.new.kept)
+    ensures keeps { Keeps N.Connections A.HostAnswers (Calm heard seat.old.kept)
+        (Calm heard seat.new.kept)
         place heard (at network.old answers.old seat.old seat.old.kept)
         (at network.new answers.new seat.new seat.new.kept) }
     ensures fits { A.fits answers.new }
@@ -147,7 +148,8 @@ fn take_turn<N: Connections, A: HostAnswers>(
 )
     requires fits { A.fits answers.old }
     requires sits { seat.old.lost ≡ false }
-    ensures keeps { Keeps N.Connections A.HostAnswers (Calm heard seat.old.kept) (Freed heard seat.new.kept)
+    ensures keeps { Keeps N.Connections A.HostAnswers (Calm heard seat.old.kept)
+        (Freed heard seat.new.kept)
         place heard (at network.old answers.old seat.old seat.old.kept)
         (at network.new answers.new seat.new seat.new.kept) }
     ensures fits { A.fits answers.new }
@@ -216,7 +218,8 @@ pub fn take_kept<N: Connections, A: HostAnswers>(
     output: usize,
 )
     requires { A.fits answers.old }
-    ensures keeps { Keeps N.Connections A.HostAnswers (Calm heard seat.old.kept) (Freed heard seat.new.kept)
+    ensures keeps { Keeps N.Connections A.HostAnswers (Calm heard seat.old.kept)
+        (Freed heard seat.new.kept)
         place heard (at network.now answers.old seat.old seat.old.kept)
         (at network.now answers.new seat.new seat.new.kept) }
     ensures ends { A.ends answers.new ≡ false → A.ends answers.old ≡ false }
@@ -263,8 +266,8 @@ fn take_piece<N: Connections, A: HostAnswers>(
     piece: &[u8],
 )
     requires { A.fits answers.old }
-    ensures keeps { Keeps N.Connections A.HostAnswers (Freed heard []) (Freed heard seat.new.kept) place
-        heard (at network.now answers.old seat.old piece.now)
+    ensures keeps { Keeps N.Connections A.HostAnswers (Freed heard []) (Freed heard seat.new.kept)
+        place heard (at network.now answers.old seat.old piece.now)
         (at network.now answers.new seat.new seat.new.kept) }
     ensures fits { A.fits answers.new }
 {

@@ -111,8 +111,8 @@ pub record IsServed {L R : Type 0} (text : R → List ℕ) (heard : ℕ) (life :
   pub sent : life.sent ++ unsent ≡ texts_of text free
 
 -- what a host is about: what a call on its network does, and what is shown to one that sends bytes;
--- what is kept where lines were answered; what bytes of a line say, by whether the line is the first
--- of its connection and by the door that this came by; and the text of a reply
+-- what is kept where lines were answered; what bytes of a line say, by whether the line is the
+-- first of its connection and by the door that this came by; and the text of a reply
 pub record Terms (N B L R : Type 0) : Type 1 where
   pub did : N → List Happening → N → Type 0
   pub saw : N → B → N → Type 0
@@ -133,7 +133,8 @@ MayHappen story (Heard upto) = ⊤
 MayHappen story Stopped = ⊤
 
 -- Where bytes were sent, all lines that were answered before stood in what was kept then.
-abbrev pub IsKept : {N B L R : Type 0} → Terms N B L R → List (Step L R) → N → Happening → N → Type 0
+abbrev pub IsKept : {N B L R : Type 0} → Terms N B L R → List (Step L R) → N → Happening → N
+    → Type 0
 IsKept terms story was (Came door place) now = ⊤
 IsKept terms story was (Got place bytes) now = ⊤
 IsKept {N} {B} terms story was (Sent place bytes) now =
@@ -198,8 +199,8 @@ IsStopped {L} {R} story = (before after : List (Step L R))
 -- A host came from one network to another by a story, whose exchanges, all of them in their order,
 -- come to this; and it came to rest, where lines may be left if no line is answered any more. Where
 -- lines are answered still, its network told it to stop.
-pub record IsHosted {N B L R : Type 0} (terms : Terms N B L R) (comes : List (Exchange L R) → Type 0)
-    (ended : Bool) (first last : N) : Type 0 where
+pub record IsHosted {N B L R : Type 0} (terms : Terms N B L R)
+    (comes : List (Exchange L R) → Type 0) (ended : Bool) (first last : N) : Type 0 where
   pub story : List (Step L R)
   pub hosts : Hosts terms first story last
   pub comes_to : comes (exchanges story)
