@@ -2,11 +2,12 @@
 use Rattle.std.specs.Prelude.{ℕ, List}
 
 -- A connection that ended: the bytes that were taken from its input, those that were left there,
--- the bytes that its output was given, and how often each of them failed. At its start nothing was
--- taken or given, and nothing had failed.
+-- those that were left there when it was asked last, the bytes that its output was given, and how
+-- often each of them failed. At its start nothing was taken or given, and nothing had failed.
 pub record Connection : Type 0 where
   pub taken : List ℕ
   pub left : List ℕ
+  pub asked : List ℕ
   pub given : List ℕ
   pub reading : ℕ
   pub writing : ℕ

@@ -1,7 +1,7 @@
 // Where connections arrive: the contract of a door, which a borrow of one meets too.
 ghost use Rattle.std.specs.Prelude.{◌≡◌, ℕ, Option, Some, ◌∷◌, MatchOption, MatchResult};
 ghost use Rattle.hose_io.specs.Connections.{Connection, Connections};
-ghost use Rattle.hose_io.specs.steps.Connections.{Accepts, AreAccounted, AreUsedUp, ComesBack, IsConnection, MayComeBack, connection_of};
+ghost use Rattle.hose_io.specs.steps.Connections.{Accepts, AreAccounted, AreUsedUp, ComesBack, HasEnded, IsConnection, MayComeBack};
 ghost use Rattle.hose_io.specs.Frame.{Frame, Met};
 
 use crate::{Failed, Sink, Source};
@@ -62,9 +62,7 @@ pub trait Door {
     /// Ends a connection.
     fn done(input: Self::In, output: Self::Out) -> Self::Done
         requires { (Self.In.frame input).number ≡ (Self.Out.frame output).number }
-        ensures { came_to result
-            ≡ connection_of (Self.In.content input) (Self.Out.content output)
-            (Self.In.frame input).faults (Self.Out.frame output).faults };
+        ensures { HasEnded Self.In.Source Self.Out.Sink input output (came_to result) };
 
     /// Takes back a connection that it accepted and that ended.
     fn back(&mut self, done: Self::Done)

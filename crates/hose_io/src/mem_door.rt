@@ -1,6 +1,6 @@
 // Connections in memory.
 ghost use Rattle.std.specs.Prelude.{◌≡◌, ◌↔◌, ◌<◌, ◌+◌, Option, None, Some, List, [], ◌∷◌, ◌++◌, All, IfOk, IsErr, OnOk, OnErr, MatchOption, MatchResult, Contains, length};
-ghost use Rattle.hose_io.specs.steps.Connections.{Accepts, AreAccounted, AreUsedUp, ComesBack, IsConnection, MayComeBack, connection_of};
+ghost use Rattle.hose_io.specs.steps.Connections.{Accepts, AreAccounted, AreUsedUp, ComesBack, HasEnded, IsConnection, MayComeBack};
 ghost use Rattle.hose_io.specs.steps.DoorState.{IsFresh, IsHandedOut, door_after_call, door_after_fault, door_after_open, door_after_return, connections_of, mem_door_frame, mem_sink, mem_source, outcome};
 ghost use Rattle.hose_io.specs.steps.Faults.{no_faults};
 ghost use Rattle.hose_io.specs.Frame.{Met};
@@ -232,9 +232,7 @@ impl Door for MemDoor {
 
     fn done(input: MemSource, output: MemSink) -> MemDone
         requires { input.number ≡ output.number }
-        ensures came_to { Some (outcome result)
-            ≡ connection_of (Some input.content) (Some output.given)
-            input.faults.count output.faults.count }
+        ensures ended { HasEnded mem_source mem_sink input output (Some (outcome result)) }
 
         ensures done { result ≡ record {
           number = input.number;

@@ -2,7 +2,7 @@
 ghost use Rattle.std.specs.Prelude.{◌≡◌, ◌↔◌, ◌<◌, ◌≤◌, ℕ, Option, Ok, List, [], ◌∷◌, ◌++◌, IfOk, IsErr, OnOk, OnErr, MatchResult, Contains, length, min, take};
 ghost use Rattle.hose_io.specs.steps.Faults.{no_faults};
 ghost use Rattle.hose_io.specs.Frame.{Frame, Met};
-ghost use Rattle.hose_io.specs.steps.SourceState.{SourceState, mem_source_frame, source_after_taking, source_after_fault};
+ghost use Rattle.hose_io.specs.steps.SourceState.{SourceState, WasAsked, mem_source_frame, source_after_taking, source_after_fault};
 ghost use Rattle.hose_io.specs.Stream.{Stream, Gives, IsAtEnd};
 
 use crate::{Failed, FailingCalls, Faults, Source};
@@ -15,6 +15,8 @@ use std::marker::Model;
 pub struct MemSource {
     bytes: Vec<u8>,
     taken: usize,
+    // How many were taken when it was asked last.
+    asked: usize,
     piece: u64,
     faults: Faults,
     failing: FailingCalls,
@@ -29,6 +31,7 @@ impl Model for MemSource {
 
     ghost view = { λ s. record {
       content = record { taken = take s.taken s.bytes.items; left = drop s.taken s.bytes.items };
+      asked = drop s.asked s.bytes.items;
       piece = s.piece;
       faults = s.faults;
       failing = s.failing;
@@ -44,6 +47,7 @@ impl MemSource {
         requires { 1 ≤ piece }
         ensures { IfOk result (λ source. source ≡ record {
           content = record { taken = []; left = bytes.now };
+          asked = bytes.now;
           piece = piece;
           faults = no_faults;
           failing = [];
@@ -53,6 +57,7 @@ impl MemSource {
         Ok(MemSource {
             bytes: Vec::from_slice(alloc, bytes)?,
             taken: 0,
+            asked: 0,
             piece,
             faults: Faults::none(),
             failing: FailingCalls::new(alloc),
@@ -107,11 +112,13 @@ impl MemSource {
 
 impl Source for MemSource {
     ghost use Rattle.std.specs.Prelude.{Some};
-    ghost use Rattle.hose_io.specs.steps.SourceState.{mem_source_frame};
+    ghost use Rattle.hose_io.specs.steps.SourceState.{WasAsked, mem_source_frame};
 
     ghost frame = { mem_source_frame };
 
     ghost content = { λ s. Some s.content };
+
+    ghost went = { WasAsked };
 
     fn take(&mut self, into: &mut [u8]) -> Result<usize, Failed>
         requires { 0 < length into.old }
@@ -121,6 +128,7 @@ impl Source for MemSource {
             (λ _. Some self.new.content ≡ Some self.old.content) }
         ensures none_only_at_end { result ≡ Ok 0 → IsAtEnd (Some self.old.content) }
         ensures met { Met (mem_source_frame self.old) (mem_source_frame self.new) result }
+        ensures went { WasAsked self.old self.new }
 
         ensures fails { IsErr result ↔ Contains self.old.failing 1 }
         ensures amount { IfOk result
@@ -129,6 +137,7 @@ impl Source for MemSource {
             (λ k. self.new ≡ source_after_taking self.old k)
             (λ _. self.new ≡ source_after_fault self.old) }
     {
+        self.asked = self.taken;
         if self.failing.next() {
             return Err(self.faults.fail());
         }

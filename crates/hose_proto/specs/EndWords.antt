@@ -1,11 +1,10 @@
 -- Endpoints as words by their form alone, whatever nodes there are.
 use Rattle.std.specs.Prelude.{◌≡◌, ◌≢◌, ℕ, ◌<◌, ◌≤◌, ◌==◌, List, [], ◌++◌, All, AllPairs, codes, decimal, get_or, length}
 use Rattle.std.specs.List.{before_first}
-use Rattle.hose_words.specs.Form.{Form, list}
 use Rattle.hose_graph.specs.Limit.{IsUpTo}
 use Rattle.hose_graph.specs.Name.{IsName}
 use Rattle.hose_graph.specs.Network.{Network, IsNodeOf, name_of}
-use Rattle.hose_graph.specs.Limits.{least_ends, most_ends, most_rate}
+use Rattle.hose_graph.specs.Limits.{most_ends, most_rate}
 
 -- a name and a rate: `NAME:RATE`
 abbrev pub named_rate : List ℕ → ℕ → List ℕ
@@ -25,15 +24,6 @@ pub record AreNewEndWords (words : List (List ℕ)) : Type 0 where
   pub few : length words ≤ most_ends
   pub ends : All IsEndWord words
   pub distinct : AllPairs (λ one other. name_in one ≢ name_in other) words
-
--- words of all endpoints of a hose
-pub record AreEndWords (words : List (List ℕ)) : Type 0 where
-  pub enough : least_ends ≤ length words
-  pub are : AreNewEndWords words
-
--- `NAME:RATE ..`, two endpoints at least, each with a name that no earlier word has
-abbrev pub end_words_form : Form
-end_words_form = list (λ word. word) AreNewEndWords least_ends
 
 -- ---- nodes
 

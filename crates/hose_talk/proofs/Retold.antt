@@ -13,7 +13,7 @@ module _ {L A B R S O : Type 0} (source : SourceGhosts S) (sink : SinkGhosts O) 
     (says : (stops : List ℕ → List ℕ → List ℕ → Type 0) (lines : List L) → terms.tells stops lines → tells stops lines) (follows : (lines : List L) (replies : List R) → terms.comes lines replies last → comes lines replies last') (same : terms.over last ≡ over last') where
   -- the same replies on other terms
   abbrev other : Terms L B R
-  other = record { tells = tells; comes = comes; over = over; text = terms.text }
+  other = record { tells = tells; cut = terms.cut; comes = comes; over = over; text = terms.text }
 
   up_to : (stops : List ℕ → List ℕ → List ℕ → Type 0) (puts : List R → Type 0) → TalksUpTo terms last stops puts → TalksUpTo other last' stops puts
   up_to stops puts talks = record { lines = talks.lines; replies = talks.replies; said = says stops talks.lines talks.said; comes = follows talks.lines talks.replies talks.comes; out = talks.out }

@@ -1,5 +1,5 @@
 -- Lines of a talk, one after another.
-use Rattle.std.proofs.Common.{◌≡◌, ◌≢◌, ◌∙◌, ◌↔◌, length, length-append, ℕ, ◌≤◌, ◌<◌, ◌+◌, arith, List, [], ◌∷◌, ◌++◌, None, Some, Result, Ok, Err, true, false, refl, sym, ap, subst, take}
+use Rattle.std.proofs.Common.{◌≡◌, ◌≢◌, ◌⊎◌, ◌∙◌, ◌↔◌, length, length-append, ℕ, ◌≤◌, ◌<◌, ◌+◌, arith, List, [], ◌∷◌, ◌++◌, None, Some, Result, Ok, Err, true, false, refl, sym, ap, subst, take}
 use Rattle.std.specs.List.{flat_map}
 use Rattle.hose_io.specs.Stream.{Grows}
 use Rattle.hose_io.specs.Writing.{GrowsInPart}
@@ -11,7 +11,9 @@ use Rattle.hose_words.specs.steps.Lines.{IsNext, Reader}
 use Rattle.hose_words.specs.steps.Reading.{ReadsOn}
 use Rattle.hose_words.specs.Reading.{WhereTold}
 use Rattle.hose_words.specs.Saying.{IsAllTaken, SayLines}
-use Rattle.hose_words.proofs.OnReading.{WhereTold-map}
+use Rattle.hose_words.proofs.OnReading.{WhereTold-both, WhereTold-map}
+use Rattle.hose_words.proofs.Asking.{asked_before}
+use Rattle.hose_words.specs.Asking.{IsAskedBefore}
 use Rattle.hose_words.specs.steps.Saying.{SaysUpTo, StopsReading}
 use Rattle.hose_words.specs.declared.lines.TheConstants.{INPUT_LIMIT}
 use Rattle.hose_words.specs.declared.lines.Line.{Line}
@@ -20,7 +22,7 @@ use Rattle.hose_words.specs.declared.lines.LineFault.TheVariants as line_fault
 use Rattle.hose_words.proofs.Saying.{flat_map-last, met_fault, rose_now, said_all, said_more, said_none, said_until, takes_line}
 use Rattle.hose_talk.specs.steps.Said.{ComesOn}
 use Rattle.hose_talk.specs.Talk.{AllOut, IsLeftNear, LastCut, Talk, TalksUpTo, most_ahead, talk}
-use Rattle.hose_talk.specs.steps.Talk.{Exchanges, HasTalked, KeepsFault, TakesReply, TalksByReader, terms_of}
+use Rattle.hose_talk.specs.steps.Talk.{Exchanges, HasTalked, IsCutByReader, KeepsFault, TakesReply, TalksByReader, terms_of}
 use Rattle.hose_talk.specs.steps.TalkFaults.{of_line}
 use Rattle.hose_talk.specs.declared.answers.Answers.{Ghosts}
 use Rattle.hose_talk.specs.declared.talking.TalkEnd.TheVariants as talk_end
@@ -43,6 +45,14 @@ said_near : {S L : Type 0} (source : SourceGhosts S) (Says : List L → List ℕ
     → WhereTold (source.content start.source) (source.content now.source) (λ was left. SayLines Says (start.pending ++ was) lines (now.pending ++ left)) → SaysUpTo source start now Says lines IsLeftNear
 said_near source Says start now lines near said = WhereTold-map (source.content start.source) (source.content now.source) _ _ said (λ was left says. (now.pending ++ left, says, ((now.pending, refl), omega (arith, near, length-append now.pending left))))
 
+-- the reply to the last of the lines is cut off
+said_cut : {S L : Type 0} (source : SourceGhosts S) (Says : List L → List ℕ → L → Type 0) (start now : Reader S) (lines : List L) → length now.pending ≤ most_ahead
+    → WhereTold (source.content start.source) (source.content now.source) (λ was left.
+    ((now.source ≡ start.source) × (length (now.pending ++ left) < length (start.pending ++ was))) ⊎ IsAskedBefore source now.source (start.pending ++ was) (now.pending ++ left))
+    → WhereTold (source.content start.source) (source.content now.source) (λ was left. SayLines Says (start.pending ++ was) lines (now.pending ++ left)) → SaysUpTo source start now Says lines (IsCutByReader source start now)
+said_cut source Says start now lines near asked said = WhereTold-map (source.content start.source) (source.content now.source) _ _ (WhereTold-both (source.content start.source) (source.content now.source) _ _ asked said)
+    (λ was left both. (now.pending ++ left, both.1, (((now.pending, refl), omega (arith, near, length-append now.pending left)), both.0)))
+
 module _ {A R S O : Type 0} (by : Ghosts A R) (source : SourceGhosts S) (sink : SinkGhosts O) where
   -- a line that was read was answered
   pub answered_line : (old new : Talk (Reader S) O A) (shown : Line) (reply : R) (puts : List ℕ → Type 0) → IsNext source old.lines new.lines (Ok (Some shown)) → ((from : by.origin) → ComesOn (by.says (by.about old.by)) (by.comes from) shown old.by new.by reply)
@@ -54,6 +64,7 @@ module _ {A R S O : Type 0} (by : Ghosts A R) (source : SourceGhosts S) (sink : 
         (more.0, takes_line source old.lines new.lines shown (λ bytes. by.says (by.about old.by) lines bytes more.0) next more.1, more.2);
     out = subst (λ (subject : by.subject). puts (by.text subject reply)) about out;
     near = near;
+    asked = next.asked;
     progress = next.progress;
   }
 
@@ -85,7 +96,7 @@ module _ {A R S O : Type 0} (by : Ghosts A R) (source : SourceGhosts S) (sink : 
       text = by.text (by.about start.by)
 
       abbrev UpTo : (List ℕ → List ℕ → List ℕ → Type 0) → (List R → Type 0) → Type 0
-      UpTo = TalksUpTo (terms_of by from start.by (λ stops lines. SaysUpTo source start.lines new.lines Says lines stops)) new.by
+      UpTo = TalksUpTo (terms_of by from start.by (IsCutByReader source start.lines new.lines) (λ stops lines. SaysUpTo source start.lines new.lines Says lines stops)) new.by
 
       -- a line more is answered
       pub talked_more : Taken (Grows (sink.content now.output) (sink.content new.output)) → HasTalked by source sink from start new
@@ -102,14 +113,14 @@ module _ {A R S O : Type 0} (by : Ghosts A R) (source : SourceGhosts S) (sink : 
           }
 
       -- a line more is taken, and its reply is cut off
-      talked_cut : Taken (GrowsInPart (sink.content now.output) (sink.content new.output)) → UpTo IsLeftNear (LastCut text sink start.output new.output)
-      talked_cut taken =
+      talked_cut : ReadsOn source now.lines new.lines → Taken (GrowsInPart (sink.content now.output) (sink.content new.output)) → UpTo (IsCutByReader source start.lines new.lines) (LastCut text sink start.output new.output)
+      talked_cut reads taken =
           let more = taken.answers from talked.lines talked.replies talked.comes in
           let out = subst (λ (subject : by.subject). GrowsInPart (sink.content now.output) (sink.content new.output) (by.text subject taken.reply)) about taken.out in
           record {
             lines = talked.lines ++ more.0 ∷ [];
             replies = talked.replies ++ taken.reply ∷ [];
-            said = said_near source Says start.lines new.lines _ taken.near
+            said = said_cut source Says start.lines new.lines _ taken.near (asked_before source start.lines now.lines new.lines (λ bytes. by.says (by.about now.by) talked.lines bytes more.0) still.reads more.1 still.none reads.after_end taken.asked)
                 (said_more source Says start.lines now.lines new.lines talked.lines talked.said still.reads more.0 (λ bytes. by.says (by.about now.by) talked.lines bytes more.0) more.1 (λ bytes is. subst (λ (subject : by.subject). by.says subject talked.lines bytes more.0) about is));
             comes = more.2;
             out = (
@@ -146,7 +157,7 @@ module _ {A R S O : Type 0} (by : Ghosts A R) (source : SourceGhosts S) (sink : 
       pub talks_fault : (why : TalkFault) → ReadsOn source now.lines new.lines → Exchanges by source sink now new (Err why) → TalksByReader by source sink from start new (Err why)
       talks_fault talk_fault.Read reads line = ((until line_fault.Read line.0 line.2 line.3, still_open line.3), rw (source_held source sink start.lines now.lines start.output now.output still) at line.1, ap sink.frame line.2 ∙ still.held)
       talks_fault talk_fault.TooLong reads line = ((until line_fault.TooLong line.0 line.1 line.2, still_open line.2), held_on reads (λ read. cc (line.0.kept, read)), ap sink.frame line.1 ∙ still.held)
-      talks_fault talk_fault.Write reads line = (talked_cut line.0, held_on reads (λ read. cc (line.1, read)), rw still.held at line.2)
+      talks_fault talk_fault.Write reads line = (talked_cut reads line.0, held_on reads (λ read. cc (line.1, read)), rw still.held at line.2)
 
       -- no line is left
       pub talks_all : ReadsOn source now.lines new.lines → Exchanges by source sink now new (Ok false) → TalksByReader by source sink from start new (Ok talk_end.Input)

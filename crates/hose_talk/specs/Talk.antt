@@ -5,6 +5,7 @@ use Rattle.hose_io.specs.Frame.{Rose}
 use Rattle.hose_io.specs.Stream.{Grows, Stream}
 use Rattle.hose_io.specs.declared.sink.Sink.{Ghosts as SinkGhosts}
 use Rattle.hose_io.specs.declared.source.Source.{Ghosts as SourceGhosts}
+use Rattle.hose_words.specs.Asking.{IsAskedBefore}
 use Rattle.hose_words.specs.Lines.{StopsAfterLines}
 use Rattle.hose_words.specs.Reading.{WhereTold}
 use Rattle.hose_words.specs.Saying.{IsAllTaken, IsLeftOver, SayLines}
@@ -50,10 +51,18 @@ abbrev pub IsLeftNear : List ℕ → List ℕ → List ℕ → Type 0
 IsLeftNear text rest left =
     IsLeftOver text rest left × (length rest ≤ length left + most_ahead)
 
--- the terms of a talk: what its text tells, what lines and their replies come to, whether no line
--- is answered any more, and the text of a reply
+-- The reply to the last line was cut off, and the source, which is so now, was asked last before
+-- that line had ended: so no reply is kept back for more of the source.
+abbrev pub IsCutNear : {S : Type 0} → SourceGhosts S → S → List ℕ → List ℕ → List ℕ → Type 0
+IsCutNear source now text rest left =
+    IsLeftNear text rest left × IsAskedBefore source now text rest
+
+-- the terms of a talk: what its text tells, how that stands to what is left where a reply is cut
+-- off, what lines and their replies come to, whether no line is answered any more, and the text of
+-- a reply
 pub record Terms (L A R : Type 0) : Type 1 where
   pub tells : Telling L
+  pub cut : List ℕ → List ℕ → List ℕ → Type 0
   pub comes : List L → List R → A → Type 0
   pub over : A → Bool
   pub text : R → List ℕ
@@ -107,5 +116,5 @@ module _ {L A R S O : Type 0} (source : SourceGhosts S) (sink : SinkGhosts O)
   TalksTo (Err talk_fault.TooLong) = TalksOut (StopsAfterLines line_fault.TooLong) false
       × ReadingWorked × WritingWorked
   TalksTo (Err talk_fault.Write) =
-      TalksUpTo terms new.by IsLeftNear (LastCut terms.text sink old.output new.output)
+      TalksUpTo terms new.by terms.cut (LastCut terms.text sink old.output new.output)
       × ReadingWorked × Rose (sink.frame old.output) (sink.frame new.output)

@@ -9,7 +9,9 @@ use Rattle.hose_graph.specs.Name.{IsName, is_name_byte}
 use Rattle.hose_graph.specs.Network.{Network, IsNetwork, IsLink, name_of}
 use Rattle.hose_graph.specs.declared.topology.Link.{Link}
 use Rattle.hose_topo.specs.Canonical.{node_line, link_line, canonical_text}
-use Rattle.hose_topo.specs.TopologyText.{AddsNode, AddsLink, AddsLine, AddLines, no_more, one_more, no_network, IsTopologyText, link_words}
+use Rattle.hose_topo.specs.TopologyText.{AddsLine, AddLines, no_more, one_more, no_network, IsTopologyText}
+use Rattle.hose_topo.specs.steps.TopologyText.{AddsLink, AddsNode, link_words}
+use Rattle.hose_topo.proofs.LinesTold.{adds_told, end_told}
 use Rattle.hose_topo.proofs.FirstLineText.{after_feed, spelled_line}
 
 -- some number of lines add to a network, one after the other
@@ -75,7 +77,7 @@ add_nodes network last left_over text before (name ∷ after) is whole more =
     let line : (codes "node" ++ 32 ∷ name) ++ 10 ∷ (flat_map node_line after ++ text) ≡ flat_map node_line (name ∷ after) ++ text = simp append_assoc in
     subst (λ t. AddsAll (record { nodes = before; links = [] }) t last left_over) line
     (line_then _ _ last (codes "node" ++ 32 ∷ name) (flat_map node_line after ++ text) left_over (codes "node" ∷ name ∷ []) (simp append-nil) (node_words name named) (omega (arith, named.short))
-    (inr (inl (adds_node network before name after is whole))) rest)
+    (adds_told _ _ _ (inr (inl (adds_node network before name after is whole)))) rest)
 
 -- ---- links
 
@@ -145,7 +147,7 @@ add_links network left_over before (link ∷ after) is whole =
     let line : link_body network link ++ 10 ∷ (flat_map (link_line network) after ++ left_over) ≡ flat_map (link_line network) (link ∷ after) ++ left_over = simp append_assoc in
     subst (λ t. AddsAll (record { nodes = network.nodes; links = before }) t network left_over) line
     (line_then _ _ network (link_body network link) (flat_map (link_line network) after ++ left_over) left_over (all_words network link) (simp (append_assoc, append-nil)) (are_words network link is can)
-    (link_short network link is can) (inr (inr adds)) rest)
+    (link_short network link is can) (adds_told _ _ _ (inr (inr adds))) rest)
 
 -- ---- the whole text
 
@@ -163,6 +165,6 @@ canonical_reads network rest is some =
       words = codes "end" ∷ [];
       lines = subst (λ t. AddLines no_network t all.0 network left_over) text all.1;
       line = spelled_line (codes "end") rest (codes "end" ∷ []) refl end_words (omega arith);
-      is_end = (refl, some);
+      is_end = end_told network _ (refl, some);
       left = sym (after_feed (codes "end") rest (line_no_feed (codes "end") (codes "end" ∷ []) refl end_words));
     }

@@ -1,5 +1,6 @@
 pub mod CanonicalText
 pub mod FirstLineText
+mod LinesTold
 pub mod LinkLine
 pub mod NamesTold
 pub mod TopologyLines

@@ -5,7 +5,7 @@ use Rattle.std.proofs.lemmas.Fmt.{decimal_injective}
 use Rattle.hose_graph.specs.Network.{Network, IsLink, name_of}
 use Rattle.hose_graph.specs.declared.topology.Link.{Link}
 use Rattle.hose_graph.proofs.NodesByName.{same_name}
-use Rattle.hose_topo.specs.TopologyText.{TellsLink, link_words}
+use Rattle.hose_topo.specs.steps.TopologyText.{TellsLink, link_words}
 
 -- the first word of a link line
 pub link_first : (network : Network) (words : List (List ℕ)) (link : Link) → TellsLink network words link → (rest : List (List ℕ)) × (words ≡ codes "link" ∷ rest)

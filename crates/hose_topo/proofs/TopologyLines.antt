@@ -5,7 +5,9 @@ use Rattle.std.proofs.lemmas.List.{get_or_default}
 use Rattle.std.proofs.lemmas.List.Quantifiers.{all_pairs_push}
 use Rattle.hose_words.specs.Lines.{is_line_feed}
 use Rattle.hose_graph.specs.Network.{Network}
+use Rattle.hose_topo.specs.steps.TopologyText.{AddsByKind, IsLastLine}
 use Rattle.hose_topo.specs.TopologyText.{IsPassedOver, AddsLine, EndsText, HasLine, AddLines, no_more, one_more, no_network, IsTopologyText}
+use Rattle.hose_topo.proofs.LinesTold.{adds_back, end_back}
 use Rattle.hose_topo.proofs.LinkLine.{link_first, same_link}
 
 -- no two nodes have one name
@@ -29,37 +31,46 @@ node_no_link : (words rest others : List (List ℕ)) → words ≡ codes "node" 
 node_no_link words rest others node link = omega (arith, ap (λ (w : List (List ℕ)). get_or (get_or w 0 []) 0 0) (sym node ∙ link))
 
 -- a line adds one thing at most
-pub adds_same : (network : Network) (words : List (List ℕ)) (one two : Network) → HasDistinctNames network → AddsLine network words one → AddsLine network words two → one ≡ two
-adds_same network words one two differ (inl first) (inl second) = first.1 ∙ sym second.1
-adds_same network words one two differ (inl first) (inr (inl second)) = absurd (passes_no_node words (second.name ∷ []) second.line first.0)
-adds_same network words one two differ (inl first) (inr (inr second)) = let line = link_first network words second.link second.tells in absurd (passes_no_link words line.0 line.1 first.0)
-adds_same network words one two differ (inr (inl first)) (inl second) = absurd (passes_no_node words (first.name ∷ []) first.line second.0)
-adds_same network words one two differ (inr (inr first)) (inl second) = let line = link_first network words first.link first.tells in absurd (passes_no_link words line.0 line.1 second.0)
-adds_same network words one two differ (inr (inl first)) (inr (inl second)) =
+kind_same : (network : Network) (words : List (List ℕ)) (one two : Network) → HasDistinctNames network → AddsByKind network words one → AddsByKind network words two → one ≡ two
+kind_same network words one two differ (inl first) (inl second) = first.1 ∙ sym second.1
+kind_same network words one two differ (inl first) (inr (inl second)) = absurd (passes_no_node words (second.name ∷ []) second.line first.0)
+kind_same network words one two differ (inl first) (inr (inr second)) = let line = link_first network words second.link second.tells in absurd (passes_no_link words line.0 line.1 first.0)
+kind_same network words one two differ (inr (inl first)) (inl second) = absurd (passes_no_node words (first.name ∷ []) first.line second.0)
+kind_same network words one two differ (inr (inr first)) (inl second) = let line = link_first network words first.link first.tells in absurd (passes_no_link words line.0 line.1 second.0)
+kind_same network words one two differ (inr (inl first)) (inr (inl second)) =
     let line = sym first.line ∙ second.line in
     let name : first.name ≡ second.name = cc in
     first.added ∙ ap (λ n. record network { nodes = network.nodes ++ n ∷ [] }) name ∙ sym second.added
-adds_same network words one two differ (inr (inl first)) (inr (inr second)) = let link = link_first network words second.link second.tells in absurd (node_no_link words (first.name ∷ []) link.0 first.line link.1)
-adds_same network words one two differ (inr (inr first)) (inr (inl second)) = let link = link_first network words first.link first.tells in absurd (node_no_link words (second.name ∷ []) link.0 second.line link.1)
-adds_same network words one two differ (inr (inr first)) (inr (inr second)) =
+kind_same network words one two differ (inr (inl first)) (inr (inr second)) = let link = link_first network words second.link second.tells in absurd (node_no_link words (first.name ∷ []) link.0 first.line link.1)
+kind_same network words one two differ (inr (inr first)) (inr (inl second)) = let link = link_first network words first.link first.tells in absurd (node_no_link words (second.name ∷ []) link.0 second.line link.1)
+kind_same network words one two differ (inr (inr first)) (inr (inr second)) =
     let link = same_link network differ first.link second.link first.is_link second.is_link words first.tells second.tells in
     first.added ∙ ap (λ l. record network { links = network.links ++ l ∷ [] }) link ∙ sym second.added
+
+pub adds_same : (network : Network) (words : List (List ℕ)) (one two : Network) → HasDistinctNames network → AddsLine network words one → AddsLine network words two → one ≡ two
+adds_same network words one two differ first second = kind_same network words one two differ (adds_back network words one first) (adds_back network words two second)
 
 link_no_end : (words rest : List (List ℕ)) → words ≡ codes "link" ∷ rest → words ≡ codes "end" ∷ [] → ⊥
 link_no_end words rest link end = omega (arith, ap (λ (w : List (List ℕ)). get_or (get_or w 0 []) 0 0) (sym link ∙ end))
 
 -- a line that adds, or is passed over, does not end the text
-pub adds_no_end : (network : Network) (words : List (List ℕ)) (next : Network) → AddsLine network words next → EndsText network words → ⊥
-adds_no_end network words next (inl passed) end = passes_no_end words [] end.0 passed.0
-adds_no_end network words next (inr (inl adds)) end = let line = sym adds.line ∙ end.0 in cc
-adds_no_end network words next (inr (inr adds)) end = let link = link_first network words adds.link adds.tells in link_no_end words link.0 link.1 end.0
+kind_no_end : (network : Network) (words : List (List ℕ)) (next : Network) → AddsByKind network words next → IsLastLine network words → ⊥
+kind_no_end network words next (inl passed) end = passes_no_end words [] end.0 passed.0
+kind_no_end network words next (inr (inl adds)) end = let line = sym adds.line ∙ end.0 in cc
+kind_no_end network words next (inr (inr adds)) end = let link = link_first network words adds.link adds.tells in link_no_end words link.0 link.1 end.0
 
 -- names stay distinct
-pub distinct_more : (network : Network) (words : List (List ℕ)) (next : Network) → HasDistinctNames network → AddsLine network words next → HasDistinctNames next
-distinct_more network words next differ (inl passed) = rw passed.1 differ
-distinct_more network words next differ (inr (inl adds)) =
+kind_distinct : (network : Network) (words : List (List ℕ)) (next : Network) → HasDistinctNames network → AddsByKind network words next → HasDistinctNames next
+kind_distinct network words next differ (inl passed) = rw passed.1 differ
+kind_distinct network words next differ (inr (inl adds)) =
     rw adds.added (all_pairs_push ◌≢◌ network.nodes adds.name differ (λ k d below same. adds.is_new (k, below, get_or_default network.nodes k adds.name d below ∙ same)))
-distinct_more network words next differ (inr (inr adds)) = rw adds.added differ
+kind_distinct network words next differ (inr (inr adds)) = rw adds.added differ
+
+pub adds_no_end : (network : Network) (words : List (List ℕ)) (next : Network) → AddsLine network words next → EndsText network words → ⊥
+adds_no_end network words next adds end = kind_no_end network words next (adds_back network words next adds) (end_back network words end)
+
+pub distinct_more : (network : Network) (words : List (List ℕ)) (next : Network) → HasDistinctNames network → AddsLine network words next → HasDistinctNames next
+distinct_more network words next differ adds = kind_distinct network words next differ (adds_back network words next adds)
 
 -- a text has one first line at most
 pub line_same : (text : List ℕ) (one two : List (List ℕ)) → HasLine text one → HasLine text two → one ≡ two

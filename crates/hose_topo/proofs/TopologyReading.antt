@@ -1,6 +1,7 @@
 -- How far the reading of a topology has come, and what the next line makes of that.
 use Rattle.std.proofs.Common.{◌≡◌, ◌∙◌, ℕ, ◌+◌, ◌≤◌, List, ◌++◌, Bor, Option, None, Some, Result, Ok, Err, inl, inr, refl, sym, ap, subst, arith, length}
 use Rattle.std.specs.List.{after_first}
+use Rattle.hose_io.specs.Stream.{Stream}
 use Rattle.hose_io.specs.declared.source.Source.{Ghosts}
 use Rattle.hose_words.specs.Words.{words_of}
 use Rattle.hose_words.specs.Lines.{StopsAt, StopsAfterLines, is_line_feed}
@@ -16,11 +17,14 @@ use Rattle.hose_graph.specs.Network.{Network, IsNetwork}
 use Rattle.hose_words.specs.declared.lines.LineFault.TheVariants.{Read, TooLong}
 use Rattle.hose_topo.specs.steps.Reading.{fault_of}
 use Rattle.hose_topo.specs.steps.Taken.{TakesRead, TakesNext}
-use Rattle.hose_topo.specs.TopologyText.{HasLine, AddLines, no_more, no_network, IsTopologyText, IsWrongLine, IsWrongAt}
+use Rattle.hose_words.proofs.Shapes.{wrong_of_form}
+use Rattle.hose_topo.specs.TopologyText.{HasLine, AddLines, no_more, no_network, IsTopologyText, IsWrongLine, IsWrongAt, line_shape}
+use Rattle.hose_topo.specs.steps.TopologyText.{line_grammar}
+use Rattle.hose_topo.proofs.LinesTold.{adds_told, end_told}
 use Rattle.hose_topo.specs.declared.line.Taken.{Taken}
 use Rattle.hose_topo.specs.declared.line.Taken.TheVariants.{Added, End, Wrong}
 use Rattle.hose_topo.proofs.TopologyLines.{AddLines-push, no_topology, topology_unique}
-use Rattle.hose_topo.proofs.WrongWord.{wrong_line}
+use Rattle.hose_topo.proofs.WrongWord.{agrees_line, wrong_line}
 
 -- ---- what a line is that was given
 
@@ -33,15 +37,22 @@ HasLine-shown shown text rest gives = record {
 }
 
 -- a line that was read as wrong is wrong
-is_wrong : (read : Option Line) (text rest : List ℕ) (was now : Network) (word : ℕ) → GivesLine read text rest → TakesRead (Ok read) (Ok (Wrong word)) was now → IsWrongLine was text word
-is_wrong None text rest was now word gives takes = inl (gives.0, takes.0)
-is_wrong (Some Long) text rest was now word gives takes = inr (inl (gives.1, takes.0))
-is_wrong (Some (Text shown)) text rest was now word gives takes = inr (inr (words_of shown.now, HasLine-shown shown text rest gives, takes.0, takes.1))
+is_wrong : (read : Option Line) (text rest : List ℕ) (was now : Network) (word : ℕ) → IsNetwork was → GivesLine read text rest → TakesRead (Ok read) (Ok (Wrong word)) was now → IsWrongLine was text word
+is_wrong None text rest was now word is gives takes = inl (gives.0, takes.0)
+is_wrong (Some Long) text rest was now word is gives takes = inr (inl (gives.1, takes.0))
+is_wrong (Some (Text shown)) text rest was now word is gives takes =
+    inr (inr (words_of shown.now, HasLine-shown shown text rest gives, takes.0, wrong_of_form (line_shape was) (line_grammar was) (agrees_line was is) (words_of shown.now) word takes.1))
 
 -- whatever was given, what stands after the first line is left
 left_after : (read : Option Line) (text rest : List ℕ) → GivesLine read text rest → rest ≡ after_first is_line_feed text
 left_after None text rest gives = rw (gives.0, gives.1) refl
 left_after (Some line) text rest gives = gives.2
+
+-- what holds of whatever is left holds where it is told
+pub told_all : (old new : Option Stream) (P : List ℕ → List ℕ → Type 0) → ((before after : List ℕ) → P before after) → WhereTold old new P
+told_all None new P holds = tt
+told_all (Some old) None P holds = tt
+told_all (Some old) (Some new) P holds = holds old.left new.left
 
 -- faults of reading are told apart by what they are called
 pub fault_of_is : (one other : LineFault) → fault_of one ≡ fault_of other → one ≡ other
@@ -90,7 +101,7 @@ module _ {S : Type 0} (source : Ghosts S) where
     on = ReadsOn-then source old now new has.on (ReadsOn-next source now new _ given);
     fault = given.fault.1 ∙ (sym given.fault.0 ∙ has.fault);
     lines = told_line old now new count was (Some (Text shown)) _ has given (λ before between after lines gives.
-        subst (AddLines no_network (old.pending ++ before) (count + 1) next) (sym gives.2) (AddLines-push (words_of shown.now) next lines (HasLine-shown shown _ _ gives) adds));
+        subst (AddLines no_network (old.pending ++ before) (count + 1) next) (sym gives.2) (AddLines-push (words_of shown.now) next lines (HasLine-shown shown _ _ gives) (adds_told was (words_of shown.now) next adds)));
     bytes = omega (arith, has.bytes, given.progress);
     few = omega (arith, has.bytes, given.progress, given.limit);
   }
@@ -107,7 +118,7 @@ module _ {S : Type 0} (source : Ghosts S) where
         words = words_of shown.now;
         lines = rw takes.1 lines;
         line = HasLine-shown shown _ _ gives;
-        is_end = rw takes.1 takes.0;
+        is_end = rw takes.1 (end_told was (words_of shown.now) takes.0);
         left = gives.2;
       })
   ended old now new count was next has (Ok (Some Long), given, takes) = absurd takes
@@ -135,23 +146,23 @@ module _ {S : Type 0} (source : Ghosts S) where
   stopped old now new count was next fault has (Ok (Some Long), given, takes) none = absurd takes
   stopped old now new count was next fault has (Ok None, given, takes) none = absurd takes
 
-  pub wrong : (old now new : Reader S) (count word : ℕ) (was next : Network) → HasRead old now count was → TakesNext source now new (Ok (Wrong word)) was next
+  pub wrong : (old now new : Reader S) (count word : ℕ) (was next : Network) → IsNetwork was → HasRead old now count was → TakesNext source now new (Ok (Wrong word)) was next
       → WhereTold (source.content old.source) (source.content new.source) (λ before after. IsWrongAt (old.pending ++ before) (count + 1) word (new.pending ++ after))
-  wrong old now new count word was next has (Ok read, given, takes) =
+  wrong old now new count word was next is has (Ok read, given, takes) =
       told_line old now new count was read _ has given (λ before between after lines gives. record {
         network = was;
         count = count;
         here = now.pending ++ between;
         lines = lines;
         is_line = refl;
-        wrong = is_wrong read _ _ was next word gives takes;
+        wrong = is_wrong read _ _ was next word is gives takes;
         left = left_after read _ _ gives;
       })
-  wrong old now new count word was next has (Err fault, given, takes) = absurd takes
+  wrong old now new count word was next is has (Err fault, given, takes) = absurd takes
 
   pub no_text : (old now new : Reader S) (count word : ℕ) (was next : Network) → IsNetwork was → HasRead old now count was → TakesNext source now new (Ok (Wrong word)) was next
       → WhereTold (source.content old.source) (source.content new.source) (λ before _. (network : Network) (rest : List ℕ) → IsTopologyText (old.pending ++ before) network rest → ⊥)
   no_text old now new count word was next is has (Ok read, given, takes) =
       told_line old now new count was read _ has given (λ before between after lines gives.
-      no_topology (old.pending ++ before) (now.pending ++ between) count was lines (wrong_line was (now.pending ++ between) word is (is_wrong read _ _ was next word gives takes)))
+      no_topology (old.pending ++ before) (now.pending ++ between) count was lines (wrong_line was (now.pending ++ between) word is (is_wrong read _ _ was next word is gives takes)))
   no_text old now new count word was next is has (Err fault, given, takes) = absurd takes

@@ -6,8 +6,8 @@ ghost use Rattle.hose_words.specs.Words.{words_of};
 ghost use Rattle.hose_graph.specs.Limit.{IsUpTo};
 ghost use Rattle.hose_graph.specs.Network.{IsLink, IsNetwork, IsNodeOf, HasLinkRoom, HasNodeRoom, name_of};
 ghost use Rattle.hose_topo.specs.steps.Taken.{TakesWords};
-ghost use Rattle.hose_topo.specs.TopologyText.{AddsLink, AddsNode, IsNewName, IsOtherNode, MayCome, TellsLink, kind_word, line_form, link_form, node_form, number_form};
-ghost use Rattle.hose_topo.specs.steps.TopologyText.{TellsLine};
+ghost use Rattle.hose_topo.specs.TopologyText.{IsNewName, IsOtherNode, MayCome, kind_word};
+ghost use Rattle.hose_topo.specs.steps.TopologyText.{AddsLink, AddsNode, TellsLine, TellsLink, line_form, link_form, node_form, number_form};
 
 use hose_graph::{
     Link, MOST_CAPACITY, MOST_COST, MOST_LENGTH, MOST_LINKS, MOST_NODES, Name, Topology,

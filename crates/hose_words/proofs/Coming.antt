@@ -1,5 +1,5 @@
 -- How far a call of `next` has come, and what it answers from there.
-use Rattle.std.proofs.Common.{◌≡◌, ◌≢◌, ℕ, ◌+◌, ◌^◌, ◌<◌, ◌≤◌, Bool, true, false, IsTrue, IsFalse, nat_lt, eqb, cond, List, [], ◌∷◌, ◌++◌, length, sym, ap, ◌∙◌, refl, arith, inl, inr, ⊎_elim, Option, None, Some, IfSome, OnSome, Ok, Err, MatchBool, All, Contains}
+use Rattle.std.proofs.Common.{◌≡◌, ◌≢◌, ◌⊎◌, ℕ, ◌+◌, ◌^◌, ◌<◌, ◌≤◌, Bool, true, false, IsTrue, IsFalse, nat_lt, eqb, cond, List, [], ◌∷◌, ◌++◌, length, sym, ap, ◌∙◌, refl, arith, inl, inr, ⊎_elim, Option, None, Some, IfSome, OnSome, Ok, Err, MatchBool, All, Contains}
 use Rattle.std.specs.Bool.{OnTrue}
 use Rattle.std.specs.List.{position_or_len}
 use Rattle.std.proofs.lemmas.List.{append-nil, append_assoc, length-append, length-drop, nil_from_length}
@@ -14,8 +14,8 @@ use Rattle.hose_io.specs.steps.Stream.{Appends}
 use Rattle.hose_io.specs.declared.source.Source.{Ghosts}
 use Rattle.hose_words.specs.steps.Buffer.{CutsLine}
 use Rattle.hose_words.specs.steps.Intake.{found_of, found_at_end, ShowsFound, TakesBytes, MeetsEnd, IsIntake}
-use Rattle.hose_words.specs.Lines.{is_line_feed, IsAfterLines, StopsAt}
-use Rattle.hose_words.specs.steps.Lines.{Reader, GivesLine, IsDropped, IsNext}
+use Rattle.hose_words.specs.Lines.{is_line_feed, IsAfterLines, PassesOver, StopsAt}
+use Rattle.hose_words.specs.steps.Lines.{Reader, GivesLine, IsAskedInLine, IsDropped, IsNext, WhereAsked}
 use Rattle.hose_words.specs.declared.intake.FoundLine.TheVariants as found
 use Rattle.hose_words.specs.declared.lines.Line.{Line}
 use Rattle.hose_words.specs.declared.lines.LineFault.{LineFault}
@@ -29,6 +29,12 @@ pub told : (o n : Option Stream) (bytes : List ℕ) (P : List ℕ → List ℕ �
 told None n bytes P gives holds = tt
 told (Some o) None bytes P gives holds = tt
 told (Some o) (Some n) bytes P gives holds = rw gives.left (holds n.left)
+
+-- the same, of a source that was asked then
+told_then : (o n : Option Stream) (bytes : List ℕ) (P : List ℕ → List ℕ → Type 0) → Gives o n bytes → ((rest : List ℕ) → P (bytes ++ rest) rest) → WhereAsked o n P
+told_then None n bytes P gives holds = tt
+told_then (Some o) None bytes P gives holds = absurd gives
+told_then (Some o) (Some n) bytes P gives holds = rw gives.left (holds n.left)
 
 -- what holds of all that may be left holds of nothing, where a source met its end
 pub told_at_end : (o m n : Option Stream) (bytes : List ℕ) (P : List ℕ → List ℕ → Type 0) → Gives o m bytes → IsAtEnd m → n ≡ m → P (bytes ++ []) [] → IfSome o (λ before. IfSome n (λ after. P before.left after.left))
@@ -84,6 +90,12 @@ module _ {S : Type 0} (source : Ghosts S) where
     -- nothing was asked for where a line was pending whole, or after the end
     pub whole_pending : Contains old.pending 10 → now.source ≡ old.source
     pub after_end : IsTrue old.ended → now.source ≡ old.source
+    pub asked : (now.source ≡ old.source) ⊎ IsAskedInLine source old now
+
+  -- the source that was asked is the one that there is now
+  asked_there : (old r now : Reader S) → now.source ≡ r.source → (r.source ≡ old.source) ⊎ IsAskedInLine source old r → (now.source ≡ old.source) ⊎ IsAskedInLine source old now
+  asked_there old r now source' (inl same) = inl (source' ∙ same)
+  asked_there old r now source' (inr is) = inr (record { asked = is.asked; went = rw source' is.went; part = is.part })
 
   -- a call begins
   pub HasCome-none : (reader : Reader S) → reader.fault ≡ None → reader.taken ≤ 2 ^ 30 → OnTrue reader.ended (IsAtEnd (source.content reader.source)) → HasCome reader reader false
@@ -104,6 +116,7 @@ module _ {S : Type 0} (source : Ghosts S) where
     gone = none_yet;
     whole_pending = λ _. refl;
     after_end = λ _. refl;
+    asked = inl refl;
   }
 
   -- no line is pending whole, and what was too long was dropped
@@ -132,6 +145,7 @@ module _ {S : Type 0} (source : Ghosts S) where
     gone = rw source' h.gone;
     whole_pending = λ line. source' ∙ h.whole_pending line;
     after_end = λ over. source' ∙ h.after_end over;
+    asked = asked_there old r now source' h.asked;
   }
 
   pub HasPassed-from : (old r now : Reader S) (was is_long is_over : Bool) (pending : List ℕ) → HasCome old r was → IsPlain r.pending → pending ≡ r.pending
@@ -167,6 +181,19 @@ module _ {S : Type 0} (source : Ghosts S) where
   IsDropped-from true dropped long = inr long
   IsDropped-from false dropped none = inl none
 
+  -- where more is asked for, no line of what was to come had ended
+  asked_now : (old r now : Reader S) (is_long : Bool) → HasPassed old r is_long → source.went r.source now.source → IsAskedInLine source old now
+  asked_now old r now is_long p went = record {
+    asked = r.source;
+    went = went;
+    part = told_then (source.content old.source) (source.content r.source) p.come.bytes (λ before left. PassesOver (old.pending ++ before) left) p.come.gives
+        (λ rest. (old.pending ++ p.come.bytes, sym (append_assoc old.pending p.come.bytes rest), seen old r is_long p));
+  }
+
+  asked_or_not : (old r now : Reader S) (is_long : Bool) → HasPassed old r is_long → (now.source ≡ r.source) ⊎ source.went r.source now.source → (now.source ≡ old.source) ⊎ IsAskedInLine source old now
+  asked_or_not old r now is_long p (inl same) = asked_there old r now same p.come.asked
+  asked_or_not old r now is_long p (inr went) = inr (asked_now old r now is_long p went)
+
   pub HasCome-more : (old r now : Reader S) (is_long : Bool) → HasPassed old r is_long → TakesBytes source r now → HasCome old now is_long
   HasCome-more old r now is_long p t =
       let h = p.come in
@@ -188,6 +215,7 @@ module _ {S : Type 0} (source : Ghosts S) where
         gone = call_more h.gone t.went;
         whole_pending = λ line. absurd (none_whole old r is_long p line);
         after_end = λ over. absurd (cc (over, h.ended, t.before_end.0));
+        asked = inr (asked_now old r now is_long p t.went);
       }
 
   -- a source that was asked gave nothing
@@ -204,6 +232,7 @@ module _ {S : Type 0} (source : Ghosts S) where
         ended = ended;
         frame = frame;
         gone = HasGone-once source went;
+        asked = inr went;
         not_asked = λ over. absurd (cc (over, before));
       }
 
@@ -248,6 +277,7 @@ module _ {S : Type 0} (source : Ghosts S) where
         stays = Stays-same (rw source' h.frame);
         unfailed = λ _. rw source' h.frame;
         gone = rw source' h.gone;
+        asked = asked_there old r now source' h.asked;
       }
 
   pub IsNext-last : (old r m now : Reader S) (is_long : Bool) (shown : Option Line) → HasPassed old r is_long → IsIntake source r m (Ok false)
@@ -275,6 +305,7 @@ module _ {S : Type 0} (source : Ghosts S) where
         stays = Stays-same (end.frame ∙ h.frame);
         unfailed = λ _. end.frame ∙ h.frame;
         gone = HasGone-then h.gone end.gone;
+        asked = asked_or_not old r (record { source = m.source; pending = []; taken = m.taken; fault = m.fault; ended = m.ended }) is_long p end.asked;
       })
 
   pub IsNext-fault : (old r now : Reader S) (is_long : Bool) (fault : LineFault) → HasPassed old r is_long → IsIntake source r now (Err fault) → IsNext source old now (Err fault)
@@ -299,6 +330,7 @@ module _ {S : Type 0} (source : Ghosts S) where
         stays = rw h.frame at met.4;
         unfailed = λ other. absurd (other refl);
         gone = call_more h.gone met.7;
+        asked = inr (asked_now old r now is_long p met.7);
       }
   IsNext-fault old r now is_long TooLong p met =
       let h = p.come in
@@ -333,4 +365,5 @@ module _ {S : Type 0} (source : Ghosts S) where
         stays = Stays-same (met.5 ∙ h.frame);
         unfailed = λ _. met.5 ∙ h.frame;
         gone = call_more h.gone met.7;
+        asked = inr (asked_now old r now is_long p met.7);
       }

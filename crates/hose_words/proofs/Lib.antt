@@ -1,3 +1,4 @@
+pub mod Asking
 pub mod BufferLemmas
 pub mod Coming
 pub mod DecimalLemmas
@@ -10,6 +11,7 @@ pub mod Listing
 pub mod OnReading
 pub mod Passing
 pub mod Saying
+pub mod Shapes
 pub mod Spaced
 pub mod Until
 pub mod WordLemmas

@@ -1,5 +1,5 @@
 -- The words of a line, from its front.
-use Rattle.std.proofs.Common.{◌≡◌, ℕ, ◌+◌, ◌-◌, ◌<◌, ◌≤◌, Bool, true, false, nat_lt, eqb, not, List, [], ◌∷◌, length, get_or, take, drop, sym, ap, ◌∙◌, arith, ⊎_elim}
+use Rattle.std.proofs.Common.{◌≡◌, ℕ, ◌+◌, ◌<◌, ◌≤◌, Bool, true, false, nat_lt, eqb, not, List, [], ◌∷◌, length, get_or, take, drop, sym, ap, ◌∙◌, arith, ⊎_elim}
 use Rattle.std.specs.List.{position_or_len, slice_split, filter, All}
 use Rattle.std.proofs.lemmas.List.{drop_more, drop_all, take_all, length-take-le}
 use Rattle.std.proofs.lemmas.List.Sums.{prefix_len-le-length, passes_at_first, fails_before_first, count_by-le-length, length-filter}

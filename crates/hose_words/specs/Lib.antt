@@ -1,8 +1,10 @@
+pub mod Asking
 pub mod Form
 pub mod Grammar
 pub mod Limits
 pub mod Lines
 pub mod Reading
 pub mod Saying
+pub mod Shapes
 pub mod Words
 pub mod steps

@@ -45,17 +45,29 @@ AreUsedUp told = IfSome told (λ all. all.coming ≡ [])
 
 -- ---- ending one
 
--- what a connection comes to, where its input and its output tell
-abbrev pub connection_of : Option Stream → Option (List ℕ) → ℕ → ℕ → Option Connection
-connection_of None output reading writing = None
-connection_of (Some input) None reading writing = None
-connection_of (Some input) (Some given) reading writing = Some (record {
+-- what a connection comes to whose input had this left when it was asked last, where its input and
+-- its output tell
+abbrev pub connection_of : List ℕ → Option Stream → Option (List ℕ) → ℕ → ℕ → Option Connection
+connection_of asked None output reading writing = None
+connection_of asked (Some input) None reading writing = None
+connection_of asked (Some input) (Some given) reading writing = Some (record {
   taken = input.taken;
   left = input.left;
+  asked = asked;
   given = given;
   reading = reading;
   writing = writing;
 })
+
+-- A connection with this input and this output came to this. What its input had left when it was
+-- asked last is told of whatever it was then.
+pub record HasEnded {S O : Type 0} (source : SourceGhosts S) (sink : SinkGhosts O) (input : S)
+    (output : O) (connection : Option Connection) : Type 0 where
+  pub asked : List ℕ
+  pub is : connection ≡ connection_of asked (source.content input) (sink.content output)
+      (source.frame input).faults (sink.frame output).faults
+  pub was : (before : S) → source.went before input
+      → IfSome (source.content before) (λ stream. asked ≡ stream.left)
 
 -- a connection may come back: it is told where the door tells, and is not one too many
 abbrev pub MayComeBack : Option Connections → Option Connection → Type 0

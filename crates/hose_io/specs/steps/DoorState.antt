@@ -1,11 +1,11 @@
 -- What contracts see of a door in memory, and what each of its calls does to that.
-use Rattle.std.specs.Prelude.{◌≡◌, ℕ, ◌+◌, List, [], ◌∷◌, ◌++◌, map, Option, Some, ⊤}
+use Rattle.std.specs.Prelude.{◌≡◌, ℕ, ◌+◌, List, [], ◌∷◌, ◌++◌, map, Option, Some}
 use Rattle.hose_io.specs.Connections.{Connection, Connections}
 use Rattle.hose_io.specs.steps.FailingCalls.{later_calls}
 use Rattle.hose_io.specs.steps.Faults.{faults_frame, no_faults, one_fault}
 use Rattle.hose_io.specs.Frame.{Frame}
 use Rattle.hose_io.specs.steps.SinkState.{SinkState, fresh_sink, mem_sink_frame as sink_frame}
-use Rattle.hose_io.specs.steps.SourceState.{SourceState, mem_source_frame as source_frame}
+use Rattle.hose_io.specs.steps.SourceState.{SourceState, WasAsked, mem_source_frame as source_frame}
 use Rattle.hose_io.specs.declared.faults.Faults.{Faults}
 use Rattle.hose_io.specs.declared.sink.Sink.{Ghosts as SinkGhosts}
 use Rattle.hose_io.specs.declared.source.Source.{Ghosts as SourceGhosts}
@@ -37,7 +37,7 @@ abbrev pub mem_source : SourceGhosts SourceState
 mem_source = record {
   frame = source_frame;
   content = λ source. Some source.content;
-  went = λ _ _. ⊤;
+  went = WasAsked;
 }
 
 -- a sink in memory, as a sink
@@ -59,6 +59,7 @@ abbrev pub outcome : DoneState → Connection
 outcome done = record {
   taken = done.input.content.taken;
   left = done.input.content.left;
+  asked = done.input.asked;
   given = done.output.given;
   reading = done.input.faults.count;
   writing = done.output.faults.count;

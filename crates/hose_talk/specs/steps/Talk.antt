@@ -1,11 +1,12 @@
 -- What a talk comes to: steps of proofs.
-use Rattle.std.specs.Prelude.{◌≡◌, ℕ, ◌+◌, ◌<◌, ◌≤◌, Bool, true, false, IsFalse, List, [], ◌∷◌, ◌++◌, length, None, Some, Result, Ok, Err}
+use Rattle.std.specs.Prelude.{◌≡◌, ◌⊎◌, ℕ, ◌+◌, ◌<◌, ◌≤◌, Bool, true, false, IsFalse, List, [], ◌∷◌, ◌++◌, length, None, Some, Result, Ok, Err}
 use Rattle.hose_io.specs.Frame.{Rose}
 use Rattle.hose_io.specs.Stream.{Grows}
 use Rattle.hose_io.specs.Writing.{GrowsInPart}
 use Rattle.hose_io.specs.declared.sink.Sink.{Ghosts as SinkGhosts}
 use Rattle.hose_io.specs.declared.source.Source.{Ghosts as SourceGhosts}
-use Rattle.hose_words.specs.steps.Lines.{Reader}
+use Rattle.hose_words.specs.Asking.{IsAskedBefore}
+use Rattle.hose_words.specs.steps.Lines.{IsAskedInLine, Reader}
 use Rattle.hose_words.specs.Reading.{WhereTold}
 use Rattle.hose_words.specs.Saying.{SayLines}
 use Rattle.hose_words.specs.steps.Saying.{IsOver, SaysUpTo, StopsReading, TakesLine}
@@ -14,7 +15,7 @@ use Rattle.hose_talk.specs.declared.answers.Answers.{Ghosts}
 use Rattle.hose_talk.specs.declared.talking.TalkEnd.{TalkEnd}
 use Rattle.hose_talk.specs.declared.talking.TalkFault.{TalkFault}
 use Rattle.hose_talk.specs.declared.talking.TalkFault.TheVariants as talk_fault
-use Rattle.hose_talk.specs.Talk.{AllOut, Talk, talk, TalksTo, Telling, TellsOf, Terms, most_ahead}
+use Rattle.hose_talk.specs.Talk.{AllOut, IsCutNear, IsLeftNear, Talk, talk, TalksTo, Telling, TellsOf, Terms, most_ahead}
 
 -- ---- where a talk is
 
@@ -37,6 +38,8 @@ module _ {A R S O : Type 0} (by : Ghosts A R) (source : SourceGhosts S) (sink : 
         × by.comes from (lines ++ said ∷ []) (replies ++ reply ∷ []) new.by
     pub out : puts (by.text (by.about old.by) reply)
     pub near : length new.lines.pending ≤ most_ahead
+    pub asked : (new.lines.source ≡ old.lines.source)
+        ⊎ IsAskedInLine source old.lines new.lines
     pub progress : length new.lines.pending + old.lines.taken
         < length old.lines.pending + new.lines.taken
 
@@ -58,11 +61,21 @@ module _ {A R S O : Type 0} (by : Ghosts A R) (source : SourceGhosts S) (sink : 
 
 -- ---- all lines
 
--- the terms of who answers, from an origin on, as it was at first, where a text tells this
-abbrev pub terms_of : {A R : Type 0} (by : Ghosts A R) → by.origin → A → Telling by.said
-    → Terms by.said A R
-terms_of by from first tells = record {
+-- A reply was cut off in a talk over a reader: the last line had not ended when the source was asked
+-- last in it, or the source was not asked, and yet a line was taken.
+abbrev pub IsCutByReader : {S : Type 0} → SourceGhosts S → Reader S → Reader S → List ℕ → List ℕ
+    → List ℕ → Type 0
+IsCutByReader source old new text rest left = IsLeftNear text rest left
+    × (((new.source ≡ old.source) × (length rest < length text))
+    ⊎ IsAskedBefore source new.source text rest)
+
+-- the terms of who answers, from an origin on, as it was at first, where a text tells this, and
+-- stands so to what is left where a reply is cut off
+abbrev pub terms_of : {A R : Type 0} (by : Ghosts A R) → by.origin → A
+    → (List ℕ → List ℕ → List ℕ → Type 0) → Telling by.said → Terms by.said A R
+terms_of by from first cut tells = record {
   tells = tells;
+  cut = cut;
   comes = by.comes from;
   over = by.over;
   text = by.text (by.about first);
@@ -84,14 +97,14 @@ module _ {A R S O : Type 0} (by : Ghosts A R) (source : SourceGhosts S) (sink : 
   abbrev pub TalksByReader : Talk (Reader S) O A → Talk (Reader S) O A → Result TalkEnd TalkFault
       → Type 0
   TalksByReader old new = TalksTo source sink
-      (terms_of by from old.by
+      (terms_of by from old.by (IsCutByReader source old.lines new.lines)
       (λ stops lines. SaysUpTo source old.lines new.lines (by.says (by.about old.by)) lines stops))
       (over_source old) (over_source new)
 
   -- what a talk comes to, from its origin on, over all that an input is to give
   abbrev pub TalksByInput : Talk S O A → Talk S O A → Result TalkEnd TalkFault → Type 0
   TalksByInput old new = TalksTo source sink
-      (terms_of by from old.by
+      (terms_of by from old.by (IsCutNear source new.lines)
       (TellsOf (by.says (by.about old.by)) (source.content old.lines) (source.content new.lines)))
       old new
 

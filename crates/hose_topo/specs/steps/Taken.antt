@@ -9,14 +9,15 @@ use Rattle.hose_words.specs.declared.lines.Line.{Line}
 use Rattle.hose_words.specs.declared.lines.Line.TheVariants.{Text, Long}
 use Rattle.hose_words.specs.declared.lines.LineFault.{LineFault}
 use Rattle.hose_graph.specs.Network.{Network}
-use Rattle.hose_topo.specs.TopologyText.{AddsLine, EndsText, IsPassedOver, line_grammar}
+use Rattle.hose_topo.specs.TopologyText.{IsPassedOver}
+use Rattle.hose_topo.specs.steps.TopologyText.{AddsByKind, IsLastLine, line_grammar}
 use Rattle.hose_topo.specs.declared.line.Taken.{Taken}
 use Rattle.hose_topo.specs.declared.line.Taken.TheVariants.{Added, End, Wrong}
 
 -- a line of these words
 abbrev pub TakesWords : Taken → Network → List (List ℕ) → Network → Type 0
-TakesWords Added was words now = AddsLine was words now
-TakesWords End was words now = EndsText was words × (now ≡ was)
+TakesWords Added was words now = AddsByKind was words now
+TakesWords End was words now = IsLastLine was words × (now ≡ was)
 TakesWords (Wrong word) was words now =
     (¬ IsPassedOver words) × IsFirstNotAllowed (line_grammar was) [] words word × (now ≡ was)
 

@@ -1,5 +1,5 @@
 -- What a reader keeps beside its source, and what one turn of its loop does.
-use Rattle.std.specs.Prelude.{◌≡◌, ◌+◌, ◌<◌, ◌≤◌, ℕ, Bool, true, IsTrue, IsFalse, ◌||◌, not, ◌&&◌, ◌==◌, nat_lt, if◌then◌else◌, List, [], ◌∷◌, ◌++◌, length, Option, None, Some, Result, Ok, Err, MatchResult, ⊤}
+use Rattle.std.specs.Prelude.{◌≡◌, ◌⊎◌, ◌+◌, ◌<◌, ◌≤◌, ℕ, Bool, true, IsTrue, IsFalse, ◌||◌, not, ◌&&◌, ◌==◌, nat_lt, if◌then◌else◌, List, [], ◌∷◌, ◌++◌, length, Option, None, Some, Result, Ok, Err, MatchResult, ⊤}
 use Rattle.std.specs.Bool.{MatchBool}
 use Rattle.hose_io.specs.steps.Calls.{HasGone}
 use Rattle.hose_io.specs.Frame.{Rose, Stays}
@@ -86,6 +86,7 @@ module _ {S : Type 0} (source : Ghosts S) (old new : Reader S) where
     pub ended : IsTrue new.ended
     pub frame : source.frame new.source ≡ source.frame old.source
     pub gone : HasGone source old.source new.source
+    pub asked : (new.source ≡ old.source) ⊎ source.went old.source new.source
     pub not_asked : IsTrue old.ended → new.source ≡ old.source
 
   -- a call failed, or the byte past the limit was taken

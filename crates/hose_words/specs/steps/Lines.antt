@@ -1,16 +1,16 @@
 -- Lines of a source, as a reader gives them: steps of proofs.
-use Rattle.std.specs.Prelude.{◌≡◌, ◌≢◌, ◌⊎◌, ◌↔◌, ◌+◌, ◌<◌, ◌≤◌, ℕ, Bool, IsTrue, IsFalse, List, [], ◌∷◌, ◌++◌, length, Contains, ⊤, Option, None, Some, IfSome, OnSome, Result, Err, IsErr, IfOk, MatchResult}
+use Rattle.std.specs.Prelude.{◌≡◌, ◌≢◌, ◌⊎◌, ◌↔◌, ◌+◌, ◌<◌, ◌≤◌, ℕ, Bool, IsTrue, IsFalse, List, [], ◌∷◌, ◌++◌, length, Contains, ⊤, Option, None, Some, IfSome, IsSomeAnd, OnSome, Result, Err, IsErr, IfOk, MatchResult}
 use Rattle.std.specs.List.{before_first, after_first}
 use Rattle.hose_io.specs.steps.Calls.{HasGone}
 use Rattle.hose_io.specs.Frame.{Rose, Stays}
-use Rattle.hose_io.specs.Stream.{Gives}
+use Rattle.hose_io.specs.Stream.{Gives, Stream}
 use Rattle.hose_io.specs.declared.source.Source.{Ghosts}
 use Rattle.hose_words.specs.Limits.{input_limit, line_limit}
 use Rattle.hose_words.specs.declared.lines.Line.{Line}
 use Rattle.hose_words.specs.declared.lines.Line.TheVariants.{Text, Long}
 use Rattle.hose_words.specs.declared.lines.LineFault.{LineFault}
 use Rattle.hose_words.specs.declared.lines.LineFault.TheVariants.{Read, TooLong}
-use Rattle.hose_words.specs.Lines.{is_line_feed, IsAfterLines, StopsAt}
+use Rattle.hose_words.specs.Lines.{is_line_feed, IsAfterLines, PassesOver, StopsAt}
 
 -- a reader of lines: its source, the bytes that it took and has not given in a line, how many it
 -- took, the fault that it met, and whether it met the end of its source
@@ -42,6 +42,19 @@ abbrev pub KeepsLine : LineFault → List ℕ → List ℕ → Type 0
 KeepsLine Read line pending = (front : List ℕ) × IsDropped front × (line ≡ front ++ pending)
 KeepsLine TooLong line pending =
     (front : List ℕ) × (byte : ℕ) × IsDropped front × (line ≡ front ++ (pending ++ byte ∷ []))
+
+-- what holds of the bytes that a source had left and of those that it had left when it was asked,
+-- where it tells
+abbrev pub WhereAsked : Option Stream → Option Stream → (List ℕ → List ℕ → Type 0) → Type 0
+WhereAsked old asked P =
+    IfSome old (λ before. IsSomeAnd asked (λ stream. P before.left stream.left))
+
+-- A source of a reader was asked last where no line of what was to come had ended.
+pub record IsAskedInLine {S : Type 0} (source : Ghosts S) (old new : Reader S) : Type 0 where
+  pub asked : S
+  pub went : source.went asked new.source
+  pub part : WhereAsked (source.content old.source) (source.content asked) (λ before left.
+      PassesOver (old.pending ++ before) left)
 
 -- what a call of `next` does to a reader, and what it answers
 pub record IsNext {S : Type 0} (source : Ghosts S) (old new : Reader S)
@@ -86,3 +99,4 @@ pub record IsNext {S : Type 0} (source : Ghosts S) (old new : Reader S)
   -- only a call of the source that fails raises its count
   pub unfailed : result ≢ Err Read → source.frame new.source ≡ source.frame old.source
   pub gone : HasGone source old.source new.source
+  pub asked : (new.source ≡ old.source) ⊎ IsAskedInLine source old new

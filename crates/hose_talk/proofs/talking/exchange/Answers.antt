@@ -2,6 +2,7 @@ use Rattle.std.proofs.Common.{◌≡◌, ◌≤◌, ℕ, Ok, Err, refl, ◌∙�
 use Rattle.std.proofs.lemmas.Result.{err_from_is_err_and}
 use Rattle.hose_io.specs.Stream.{Grows}
 use Rattle.hose_io.specs.Writing.{GrowsInPart}
+use Rattle.hose_words.proofs.OnReading.{ReadsOn-next}
 use Rattle.hose_words.specs.steps.Lines.{IsNext}
 use Rattle.hose_talk.specs.Talk.{most_ahead, talk}
 use Rattle.hose_talk.specs.steps.TalkFaults.{of_line}
@@ -42,3 +43,12 @@ returns-clause-exchanges g c =
       next.fault.1,
       put.met.ok,
     )
+
+pub returns-in_err-line-clause-reads_on : goal.returns-in_err-line-clause-reads_on
+returns-in_err-line-clause-reads_on g c = ReadsOn-next g.S.Source c.args.lines.now c.next.follows.lender-at-none _ c.next.follows.holds-at-none
+
+pub returns-in_err-put-clause-reads_on : goal.returns-in_err-put-clause-reads_on
+returns-in_err-put-clause-reads_on g c = ReadsOn-next g.S.Source c.args.lines.now c.next.follows.lender-at-none _ c.next.follows.holds-at-none
+
+pub returns-clause-reads_on : goal.returns-clause-reads_on
+returns-clause-reads_on g c = ReadsOn-next g.S.Source c.args.lines.now c.next.follows.lender-at-none _ c.next.follows.holds-at-none

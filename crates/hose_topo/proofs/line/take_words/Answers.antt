@@ -2,7 +2,7 @@ use Rattle.std.proofs.Common.{sym, subst}
 use Rattle.hose_words.specs.steps.Cursor.{IsWrong}
 use Rattle.hose_words.proofs.Exits.{still_wrong}
 use Rattle.hose_words.proofs.Forms.{wrong_choice, wrong_chosen}
-use Rattle.hose_topo.specs.TopologyText.{kind_form}
+use Rattle.hose_topo.specs.steps.TopologyText.{kind_form}
 use Rattle.hose_topo.proofs.WrongWord.{kinds_apart}
 use Rattle.hose_topo.proofs.line.take_words.Goals as goal
 

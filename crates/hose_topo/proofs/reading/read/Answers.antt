@@ -1,7 +1,8 @@
 use Rattle.std.proofs.Common.{◌≡◌, Ok, Err, rules}
+use Rattle.std.specs.Prelude.{⊤}
 use Rattle.std.proofs.lemmas.Result.{err_from_is_err_and}
 use Rattle.hose_words.proofs.OnReading.{ReadsOn-start}
-use Rattle.hose_topo.proofs.TopologyReading.{HasRead-start, fault_of_is, reads_on, added, ended, ended_alone, no_text, stopped, wrong}
+use Rattle.hose_topo.proofs.TopologyReading.{HasRead-start, fault_of_is, reads_on, added, ended, ended_alone, no_text, stopped, told_all, wrong}
 use Rattle.hose_topo.proofs.reading.read.Goals as goal
 
 pub returns-in_err-top-clause-reads_on : goal.returns-in_err-top-clause-reads_on
@@ -49,8 +50,18 @@ returns-in-End-clause-topology g c =
 pub returns-in-Wrong-clause-wrong : goal.returns-in-Wrong-clause-wrong
 returns-in-Wrong-clause-wrong g c line word is =
     let l = c.loop-top in
-    let told = wrong g.S.Source c.args.lines.now l.lines c.take_next.new.lines l.line c.in-Wrong.word l.top c.take_next.new.top l.invariant (rw c.in-Wrong.is at c.in_ok-take_next.ensures.takes) in
+    let told = wrong g.S.Source c.args.lines.now l.lines c.take_next.new.lines l.line c.in-Wrong.word l.top c.take_next.new.top c.in_ok-take_next.ensures.network l.invariant (rw c.in-Wrong.is at c.in_ok-take_next.ensures.takes) in
     search rules
+
+pub returns-in_err-take_next-clause-topology : goal.returns-in_err-take_next-clause-topology
+returns-in_err-take_next-clause-topology g c =
+    let told = err_from_is_err_and c.from_residual-in_err-take_next.result c.from_residual-in_err-take_next.ensures.1 in
+    rw told.1 (told_all (g.S.Source.content c.args.lines.now.source) (g.S.Source.content c.take_next.new.lines.source) (λ _ _. ⊤) (λ before after. tt))
+
+pub returns-in_err-take_next-clause-alone : goal.returns-in_err-take_next-clause-alone
+returns-in_err-take_next-clause-alone g c =
+    let told = err_from_is_err_and c.from_residual-in_err-take_next.result c.from_residual-in_err-take_next.ensures.1 in
+    rw told.1 (told_all (g.S.Source.content c.args.lines.now.source) (g.S.Source.content c.take_next.new.lines.source) (λ _ _. ⊤) (λ before after. tt))
 
 pub returns-in_err-take_next-clause-front : goal.returns-in_err-take_next-clause-front
 returns-in_err-take_next-clause-front g c none fault is =
