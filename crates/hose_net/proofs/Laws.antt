@@ -5,9 +5,13 @@ use Rattle.std.proofs.lemmas.Bool.{cases_eq}
 use Rattle.std.specs.List.{fold}
 use Rattle.std.specs.Prelude.{get_or, ⊤}
 use Rattle.std.proofs.lemmas.List.Elements.{All-head, All-nil, All-push, All-tail}
-use Rattle.hose_net.specs.Happening.{Came, Got, Happening, Heard, Left, Refused, Sent, Stopped}
-use Rattle.hose_net.specs.Story.{Answers, Exchange, Happens, Hosts, IsHosted, IsKept, Life, Step, Terms, began, waited, happened, answered, exchanges, heard_in, is_empty, life, lives, newcomer, nobody, texts_of}
-use Rattle.hose_net.proofs.Stories.{exchanges-happens, exchanges-push, life-answers, life-other_answers, life-push, served_now}
+use Rattle.hose_net.specs.Happening.{Came, Closed, Gave, Got, Happening, Late, Left, LinkStep, Linked, Opened, Refused, Sent, Stopped, Took}
+use Rattle.hose_net.specs.declared.hold.Hold.{Hold}
+use Rattle.hose_net.specs.declared.hold.Hold.TheVariants.{Alone, Upto}
+use Rattle.hose_net.specs.declared.hold.Parting.{Parting}
+use Rattle.hose_net.specs.declared.hold.Parting.TheVariants as parting
+use Rattle.hose_net.specs.Story.{Answers, Exchange, Happens, Holds, Hosts, IsHosted, IsKept, IsKeptAtLink, Life, MayHold, PartsFor, Step, Terms, began, waited, happened, answered, held, bound_in, exchanges, is_empty, life, lives, newcomer, nobody, texts_of}
+use Rattle.hose_net.proofs.Stories.{exchanges-happens, exchanges-holds, exchanges-push, life-answers, life-holds, life-other_answers, life-push, served_now}
 
 module _ {L R : Type 0} (text : R → List ℕ) (heard : ℕ) where
   early : (free waiting before after : List (Exchange L R)) (x : Exchange L R) → free ++ waiting ≡ before ++ x ∷ after → All (λ (e : Exchange L R). e.needs ≤ heard) free → length (texts_of text before) < length (texts_of text free) → x.needs ≤ heard
@@ -26,16 +30,17 @@ module _ {L R : Type 0} (P : Exchange L R → Type 0) (place : ℕ) where
   cond_own true x y first second = first
   cond_own false x y first second = second
 
-  own_on : (start : Life L R) (story : List (Step L R)) → All P start.own → All P (exchanges story) → All P (fold (lives place) start story).own
+  pub own_on : (start : Life L R) (story : List (Step L R)) → All P start.own → All P (exchanges story) → All P (fold (lives place) start story).own
   own_on start [] begun all = begun
   own_on start (Happens (Came door at) ∷ story) begun all = own_on (lives place start (Happens (Came door at))) story (cond_own (eqb at place) (newcomer door) start (All-nil P) begun) all
   own_on start (Happens (Got at bytes) ∷ story) begun all = own_on (lives place start (Happens (Got at bytes))) story (cond_own (eqb at place) (record start { given = start.given ++ bytes }) start begun begun) all
   own_on start (Happens (Sent at bytes) ∷ story) begun all = own_on (lives place start (Happens (Sent at bytes))) story (cond_own (eqb at place) (record start { sent = start.sent ++ bytes; refused = false }) start begun begun) all
   own_on start (Happens (Refused at) ∷ story) begun all = own_on (lives place start (Happens (Refused at))) story (cond_own (eqb at place) (record start { refused = true }) start begun begun) all
   own_on start (Happens (Left at) ∷ story) begun all = own_on (lives place start (Happens (Left at))) story (cond_own (eqb at place) (record start { here = false }) start begun begun) all
-  own_on start (Happens (Heard upto) ∷ story) begun all = own_on start story begun all
+  own_on start (Happens (Linked step) ∷ story) begun all = own_on start story begun all
   own_on start (Happens Stopped ∷ story) begun all = own_on start story begun all
   own_on start (Answers exchange ∷ story) begun all = own_on (lives place start (Answers exchange)) story (cond_own (eqb exchange.place place) (record start { own = start.own ++ exchange ∷ [] }) start (All-push P start.own exchange begun (All-head P exchange (exchanges story) all)) begun) (All-tail P exchange (exchanges story) all)
+  own_on start (Holds hold ∷ story) begun all = own_on start story begun all
 
 -- the first of these exchanges is the first of its connection, and no other is
 abbrev pub IsSession : {L R : Type 0} → List (Exchange L R) → Type 0
@@ -57,7 +62,7 @@ module _ {L R : Type 0} where
   session_happens place life (Sent at bytes) session = cond_session (eqb at place) (record life { sent = life.sent ++ bytes; refused = false }) life session session
   session_happens place life (Refused at) session = cond_session (eqb at place) (record life { refused = true }) life session session
   session_happens place life (Left at) session = cond_session (eqb at place) (record life { here = false }) life session session
-  session_happens place life (Heard upto) session = session
+  session_happens place life (Linked step) session = session
   session_happens place life Stopped session = session
 
 module _ {N B L R : Type 0} (terms : Terms N B L R) (first : N) where
@@ -70,12 +75,13 @@ module _ {N B L R : Type 0} (terms : Terms N B L R) (first : N) where
       (λ same. subst (λ (p : ℕ). IsSession (life p (story ++ Answers exchange ∷ [])).own) (sym same) (subst (λ (l : Life L R). IsSession l.own) (sym (life-answers exchange story)) (session_push (life exchange.place story).own exchange is_first (law_first _ _ before exchange.place))))
       (λ apart. subst (λ (l : Life L R). IsSession l.own) (sym (life-other_answers place story exchange apart)) (law_first _ _ before place))
       (cases_eq place exchange.place)
+  law_first _ _ (held {story} hold before may served) place = subst (λ (l : Life L R). IsSession l.own) (sym (life-holds place hold story)) (law_first _ _ before place)
 
-  -- nothing of a reply is sent before all that stood when it was given was heard to be had
-  pub law_waits : (story : List (Step L R)) (now : N) → Hosts terms first story now → (place : ℕ) (before after : List (Exchange L R)) (exchange : Exchange L R) → (life place story).own ≡ before ++ exchange ∷ after → length (texts_of terms.text before) < length (life place story).sent → exchange.needs ≤ heard_in story
+  -- nothing of a reply is sent before all that stood when it was given may be told
+  pub law_waits : (story : List (Step L R)) (now : N) → Hosts terms first story now → (place : ℕ) (before after : List (Exchange L R)) (exchange : Exchange L R) → (life place story).own ≡ before ++ exchange ∷ after → length (texts_of terms.text before) < length (life place story).sent → exchange.needs ≤ bound_in story
   law_waits story now hosts place before after exchange is less =
       let served = served_now terms first story now hosts place in
-      early terms.text (heard_in story) served.free served.waiting before after exchange (sym served.split ∙ is) served.allowed
+      early terms.text (bound_in story) served.free served.waiting before after exchange (sym served.split ∙ is) served.allowed
       (omega (arith, less, ap length served.sent, length-append (life place story).sent served.unsent))
 
   -- if what a line says that came by a door is always such, then so is each exchange
@@ -84,6 +90,7 @@ module _ {N B L R : Type 0} (terms : Terms N B L R) (first : N) where
   all_such Such is _ _ (waited before did) = all_such Such is _ _ before
   all_such Such is _ _ (happened {story} happening free before did kept served) = subst (All (λ (x : Exchange L R). Such x.door x.said)) (sym (exchanges-happens story happening)) (all_such Such is _ _ before)
   all_such Such is _ _ (answered {story} exchange before is_first says served) = subst (All (λ (x : Exchange L R). Such x.door x.said)) (sym (exchanges-push story exchange)) (All-push (λ (x : Exchange L R). Such x.door x.said) (exchanges story) exchange (all_such Such is _ _ before) (is exchange.first exchange.door exchange.line exchange.said says))
+  all_such Such is _ _ (held {story} hold before may served) = subst (All (λ (x : Exchange L R). Such x.door x.said)) (sym (exchanges-holds story hold)) (all_such Such is _ _ before)
 
   -- and so is each exchange of a connection, by the door by which it came
   pub law_door : (Such : ℕ → L → Type 0) → ((is_first : Bool) (door : ℕ) (line : List ℕ) (said : L) → terms.says is_first door line said → Such door said) → (story : List (Step L R)) (now : N) → Hosts terms first story now → (place : ℕ) → All (λ (x : Exchange L R). Such (life place story).door x.said) (life place story).own
@@ -93,22 +100,40 @@ module _ {N B L R : Type 0} (terms : Terms N B L R) (first : N) where
       λ i d below. subst (λ (door : ℕ). Such door (get_or (life place story).own i d).said) (served.lines i d below).0 (own i d below)
 
   -- the same story, of which something weaker is said of what is kept
+  link_on : (Stands : List (Exchange L R) → B → Type 0) → ((xs : List (Exchange L R)) (kept : B) → terms.stands xs kept → Stands xs kept) → (story : List (Step L R)) (was now : N) (step : LinkStep) → IsKeptAtLink terms story was step now → IsKeptAtLink (record terms { stands = Stands }) story was step now
+  link_on Stands to story was now (Opened path) kept = kept
+  link_on Stands to story was now (Gave bytes) kept = tt
+  link_on Stands to story was now (Took bytes) kept = (kept.0, kept.1, to (exchanges story) kept.0 kept.2, kept.3, kept.4)
+  link_on Stands to story was now Closed kept = tt
+  link_on Stands to story was now Late kept = tt
+
   kept_on : (Stands : List (Exchange L R) → B → Type 0) → ((xs : List (Exchange L R)) (kept : B) → terms.stands xs kept → Stands xs kept) → (story : List (Step L R)) (was now : N) (happening : Happening) → IsKept terms story was happening now → IsKept (record terms { stands = Stands }) story was happening now
   kept_on Stands to story was now (Came door place) kept = tt
   kept_on Stands to story was now (Got place bytes) kept = tt
   kept_on Stands to story was now (Sent place bytes) kept = (kept.0, kept.1, to (exchanges story) kept.0 kept.2)
   kept_on Stands to story was now (Refused place) kept = tt
   kept_on Stands to story was now (Left place) kept = tt
-  kept_on Stands to story was now (Heard upto) kept = tt
+  kept_on Stands to story was now (Linked step) kept = link_on Stands to story was now step kept
   kept_on Stands to story was now Stopped kept = tt
+
+  may_on : (Stands : List (Exchange L R) → B → Type 0) (story : List (Step L R)) (hold : Hold) → MayHold terms story hold → MayHold (record terms { stands = Stands }) story hold
+  may_on Stands story Alone may = may
+  may_on Stands story (Upto count) may = may
+
+  parts_on : (Stands : List (Exchange L R) → B → Type 0) (story : List (Step L R)) (why : Parting) → PartsFor terms story why → PartsFor (record terms { stands = Stands }) story why
+  parts_on Stands story parting.Asked parts = tt
+  parts_on Stands story parting.Told parts = parts
+  parts_on Stands story parting.Late parts = parts
+  parts_on Stands story (parting.Ahead count) parts = parts
 
   pub hosts_on : (Stands : List (Exchange L R) → B → Type 0) → ((xs : List (Exchange L R)) (kept : B) → terms.stands xs kept → Stands xs kept) → (story : List (Step L R)) (now : N) → Hosts terms first story now → Hosts (record terms { stands = Stands }) first story now
   hosts_on Stands to _ _ began = began
   hosts_on Stands to _ _ (waited {story} {was} before did) = waited (hosts_on Stands to story was before) did
   hosts_on Stands to _ now (happened {story} {was} happening free before did kept served) = happened happening free (hosts_on Stands to story was before) did (kept_on Stands to story was now happening kept) served
   hosts_on Stands to _ _ (answered {story} {now} exchange before is_first says served) = answered exchange (hosts_on Stands to story now before) is_first says served
+  hosts_on Stands to _ _ (held {story} {now} hold before may served) = held hold (hosts_on Stands to story now before) (may_on Stands story hold may) served
 
   -- the same story, which comes to something weaker, of which something weaker is said of what is
   -- kept
-  pub hosted_on : (Stands : List (Exchange L R) → B → Type 0) (comes ends : List (Exchange L R) → Type 0) (ended : Bool) → ((xs : List (Exchange L R)) (kept : B) → terms.stands xs kept → Stands xs kept) → ((xs : List (Exchange L R)) → comes xs → ends xs) → (last : N) → IsHosted terms comes ended first last → IsHosted (record terms { stands = Stands }) ends ended first last
-  hosted_on Stands comes ends ended kept to last hosted = record { story = hosted.story; hosts = hosts_on Stands kept hosted.story last hosted.hosts; comes_to = to (exchanges hosted.story) hosted.comes_to; settled = hosted.settled; stopped = hosted.stopped }
+  pub hosted_on : (Stands : List (Exchange L R) → B → Type 0) (comes ends : List (Exchange L R) → Type 0) (why : Parting) → ((xs : List (Exchange L R)) (kept : B) → terms.stands xs kept → Stands xs kept) → ((xs : List (Exchange L R)) → comes xs → ends xs) → (last : N) → IsHosted terms comes why first last → IsHosted (record terms { stands = Stands }) ends why first last
+  hosted_on Stands comes ends why kept to last hosted = record { story = hosted.story; hosts = hosts_on Stands kept hosted.story last hosted.hosts; comes_to = to (exchanges hosted.story) hosted.comes_to; settled = hosted.settled; parts = parts_on Stands hosted.story why hosted.parts }

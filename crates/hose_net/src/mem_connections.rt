@@ -1,7 +1,8 @@
 // Connections in memory, which a script drives and which keep all that happened.
 ghost use Rattle.std.specs.Prelude.{◌≡◌, ◌<◌, ◌≤◌, List, [], ◌∷◌, ◌++◌, true, length, map, take, IfOk, IfSome, MatchResult};
 ghost use Rattle.std.specs.Bool.{MatchBool};
-ghost use Rattle.hose_net.specs.Happening.{Came, Got, Left, Sent, Stopped};
+ghost use Rattle.std.specs.String.{string_bytes};
+ghost use Rattle.hose_net.specs.Happening.{Came, Closed, Gave, Got, Late, Left, Linked, Opened, Sent, Stopped, Took};
 ghost use Rattle.hose_net.specs.steps.MemTrace.{Trace, happening_of};
 ghost use Rattle.hose_net.specs.steps.Told.{told_by};
 
@@ -24,8 +25,16 @@ pub enum Act {
     Takes(usize),
     /// The connection at a place ends.
     Ends(usize),
-    /// A standby is heard to have so much.
-    Hears(u64),
+    /// A second passes, and a standby can be reached.
+    Reaches,
+    /// A second passes.
+    Passes,
+    /// The standby gives these bytes, of which those are lost for which a reader has no room.
+    Answers(Vec<u8>),
+    /// The link to the standby ends.
+    Breaks,
+    /// Nothing was heard of the standby for too long.
+    IsLate,
 }
 
 /// What happened, by its door, its place and its bytes.
@@ -36,7 +45,11 @@ pub enum Happened {
     Sent(usize, Vec<u8>),
     Refused(usize),
     Left(usize),
-    Heard(u64),
+    Opened(String),
+    Gave(Vec<u8>),
+    Took(Vec<u8>),
+    Closed,
+    Late,
     Stopped,
 }
 
@@ -120,6 +133,8 @@ impl MemConnections {
                 self.stalled.retain(|at| *at != place);
                 Some(Ready::Place(place))
             }
+            Some(Act::Reaches) | Some(Act::Passes) => Some(Ready::Second),
+            Some(Act::Answers(_)) | Some(Act::Breaks) => Some(Ready::Link),
             _ => None,
         }
     }
@@ -153,6 +168,36 @@ impl MemConnections {
             Err(_) => self.whole = false,
         }
     }
+
+    fn keep_opened(&mut self, path: &str)
+        ensures { self.new.whole ≡ true → (self.old.whole ≡ true)
+            × (self.new.trace ≡ self.old.trace ++ Linked (Opened path.now) ∷ []) }
+    {
+        match String::from_str(self.alloc, path) {
+            Ok(path) => self.keep(Happened::Opened(path)),
+            Err(_) => self.whole = false,
+        }
+    }
+
+    fn keep_gave(&mut self, bytes: &[u8])
+        ensures { self.new.whole ≡ true → (self.old.whole ≡ true)
+            × (self.new.trace ≡ self.old.trace ++ Linked (Gave bytes.now) ∷ []) }
+    {
+        match Vec::from_slice(self.alloc, bytes) {
+            Ok(bytes) => self.keep(Happened::Gave(bytes)),
+            Err(_) => self.whole = false,
+        }
+    }
+
+    fn keep_took(&mut self, bytes: &[u8])
+        ensures { self.new.whole ≡ true → (self.old.whole ≡ true)
+            × (self.new.trace ≡ self.old.trace ++ Linked (Took bytes.now) ∷ []) }
+    {
+        match Vec::from_slice(self.alloc, bytes) {
+            Ok(bytes) => self.keep(Happened::Took(bytes)),
+            Err(_) => self.whole = false,
+        }
+    }
 }
 
 impl Connections for MemConnections {
@@ -169,9 +214,9 @@ impl Connections for MemConnections {
             return Ready::Place(place);
         }
         self.act = self.acts.pop_front();
-        if let Some(Act::Hears(upto)) = self.act {
-            self.keep(Happened::Heard(upto));
-            return Ready::Heard(upto);
+        if let Some(Act::IsLate) = self.act {
+            self.keep(Happened::Late);
+            return Ready::Late;
         }
         if let Some(ready) = self.ready() {
             return ready;
@@ -228,4 +273,41 @@ impl Connections for MemConnections {
     fn close(&mut self, place: usize) {
         self.keep(Happened::Left(place));
     }
+
+    fn open_link(&mut self, path: &str) -> bool {
+        let Some(Act::Reaches) = self.act else {
+            return false;
+        };
+        self.act = None;
+        self.keep_opened(path);
+        true
+    }
+
+    fn read_link(&mut self, into: &mut [u8]) -> Result<usize, Pause> {
+        match self.act.take() {
+            Some(Act::Answers(bytes)) => {
+                let count = bytes.len().min(into.len());
+                into[..count].copy_from_slice(&bytes[..count]);
+                self.keep_gave(&into[..count]);
+                Ok(count)
+            }
+            Some(Act::Breaks) => Err(Pause::Over),
+            _ => Err(Pause::NotNow),
+        }
+    }
+
+    fn write_link<B>(&mut self, bytes: &[u8], _kept: &B) -> Result<usize, Pause> {
+        let count = bytes.len().min(self.room);
+        if count == 0 {
+            return Err(Pause::NotNow);
+        }
+        self.keep_took(&bytes[..count]);
+        Ok(count)
+    }
+
+    fn close_link(&mut self) {
+        self.keep(Happened::Closed);
+    }
+
+    fn expect(&mut self, _seconds: u64) {}
 }

@@ -1,6 +1,7 @@
 -- What connections in memory tell.
 use Rattle.std.specs.Prelude.{Bool, List}
-use Rattle.hose_net.specs.Happening.{Happening, Came, Got, Heard, Left, Refused, Sent, Stopped}
+use Rattle.std.specs.String.{string_bytes}
+use Rattle.hose_net.specs.Happening.{Happening, Came, Closed, Gave, Got, Late, Left, Linked, Opened, Refused, Sent, Stopped, Took}
 use Rattle.hose_net.specs.declared.mem_connections.Happened.{Happened}
 use Rattle.hose_net.specs.declared.mem_connections.Happened.TheVariants as happened
 
@@ -16,5 +17,9 @@ happening_of (happened.Got place bytes) = Got place bytes.items
 happening_of (happened.Sent place bytes) = Sent place bytes.items
 happening_of (happened.Refused place) = Refused place
 happening_of (happened.Left place) = Left place
-happening_of (happened.Heard upto) = Heard upto
+happening_of (happened.Opened path) = Linked (Opened (string_bytes path))
+happening_of (happened.Gave bytes) = Linked (Gave bytes.items)
+happening_of (happened.Took bytes) = Linked (Took bytes.items)
+happening_of happened.Closed = Linked Closed
+happening_of happened.Late = Linked Late
 happening_of happened.Stopped = Stopped

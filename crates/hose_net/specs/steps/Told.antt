@@ -1,6 +1,6 @@
 -- What happens as it is told what is ready, and as a write is not made.
 use Rattle.std.specs.Prelude.{ℕ, List, [], ◌∷◌}
-use Rattle.hose_net.specs.Happening.{Happening, Heard, Refused, Stopped}
+use Rattle.hose_net.specs.Happening.{Happening, Late, Linked, Refused, Stopped}
 use Rattle.hose_net.specs.declared.connections.Pause.{Pause}
 use Rattle.hose_net.specs.declared.connections.Pause.TheVariants as pause
 use Rattle.hose_net.specs.declared.connections.Ready.{Ready}
@@ -10,7 +10,9 @@ use Rattle.hose_net.specs.declared.connections.Ready.TheVariants as ready
 abbrev pub told_by : Ready → List Happening
 told_by (ready.Door door) = []
 told_by (ready.Place place) = []
-told_by (ready.Heard upto) = Heard upto ∷ []
+told_by ready.Link = []
+told_by ready.Second = []
+told_by ready.Late = Linked Late ∷ []
 told_by ready.Stop = Stopped ∷ []
 
 -- what happened, where a write at a place came to this
