@@ -2,22 +2,27 @@
 use Rattle.std.specs.Bool.{MatchBool}
 use Rattle.std.specs.Option.{MatchOption}
 use mathlib.Core.List.{IsPrefix}
-use Rattle.std.specs.Prelude.{IsSome, option_to_list}
-use Rattle.std.proofs.Common.{IsTrue, Option, None, Some, ◌≡◌, ◌≢◌, ◌∙◌, ℕ, ◌+◌, ◌-◌, ◌<◌, ◌≤◌, ⊎_elim, inl, inr, max, arith, slice_index_or, slice_set, length-append, Bool, true, false, List, [], ◌∷◌, ◌++◌, All, map, length, take, drop, refl, sym, ap, subst, append_assoc, rules}
+use Rattle.std.specs.Prelude.{IfSome, IsSome, ⊤, option_to_list}
+use Rattle.std.proofs.Common.{IsTrue, Option, None, Some, ◌≡◌, ◌≢◌, ◌∙◌, ℕ, ◌+◌, ◌-◌, ◌<◌, ◌≤◌, ◌⊎◌, ⊎_elim, inl, inr, arith, slice_index_or, slice_set, length-append, Bool, true, false, List, [], ◌∷◌, ◌++◌, All, map, length, take, drop, refl, sym, ap, subst, append_assoc, rules}
 use Rattle.std.proofs.lemmas.Bool.{cases_Bool, cases_eq, cases_lt, false≢true}
 use Rattle.std.proofs.lemmas.Grind.{flat_map-append}
 use Rattle.std.proofs.lemmas.List.{append-nil, map_push, get_or-append_right, get_or_append_left, get_or-set_other, get_or-set_same, length-set, take-append-drop}
 use Rattle.std.proofs.lemmas.List.Elements.{All-nil, All-push, All-append, All-weaker}
 use Rattle.hose_words.specs.declared.lines.Line.{Line}
 use Rattle.hose_words.specs.steps.Lines.{Shows}
-use Rattle.hose_host.specs.steps.Answering.{AnswersAt}
+use Rattle.hose_host.specs.steps.Answering.{AnswersAt, LeavesPlaces}
 use Rattle.hose_host.specs.declared.answers.HostAnswers.{Ghosts}
 use Rattle.hose_net.specs.declared.connections.Connections.{Ghosts as ConnectionsGhosts}
-use Rattle.hose_net.specs.Happening.{Came, Got, Happening, Heard, Left, Refused, Sent, Stopped}
-use Rattle.hose_net.specs.Story.{Answers, AwaitsMore, Exchange, MayHappen, Happens, IsByDoor, IsHosted, IsKept, IsServed, IsSettled, IsStopped, Life, Step, AllServed, began, waited, happened, answered, exchanges, heard_in, is_empty, life, lines_of, newcomer, texts_of}
-use Rattle.hose_net.proofs.Stories.{IsAt, exchanges-happens, exchanges-push, heard-push, heard-same, life-answers, life-came, life-got, life-heard, life-left, life-other, life-other_answers, life-refused, life-sent, life-stopped, served_heard, served_now, served_stopped, served_too, stopped_now, stopped_on}
-use Rattle.hose_host.specs.steps.Seats.{AllFinished, AtRest, Awaits, Calm, Exact, Finished, FinishedBelow, Freed, FreedBelow, Gone, GrowsByLost, Held, Holds, IsSaid, Keeping, Quiet, Releases, Resting, SeatState, Sits, emptied, fresh_seat, held_of, with_held, with_text}
-use Rattle.hose_host.specs.steps.Keeping.{AllSit, At, GoesOn, GoesOnAt, Hall, Keeps, KeepsAll, Stands, StopsAll, at, hall, terms_of}
+use Rattle.hose_net.specs.Happening.{Came, Closed, Gave, Got, Happening, Late, Left, LinkStep, Linked, Opened, Refused, Sent, Stopped, Took}
+use Rattle.hose_net.specs.declared.hold.Hold.{Hold}
+use Rattle.hose_net.specs.declared.hold.Hold.TheVariants.{Alone, Upto}
+use Rattle.hose_net.specs.declared.hold.Parting.{Parting}
+use Rattle.hose_net.specs.declared.hold.Parting.TheVariants as parting
+use Rattle.hose_net.specs.Story.{Answers, AwaitsMore, Exchange, Holds as HoldsSo, Joins, Link, MayHappen, MayHold, MayLink, Happens, IsByDoor, IsHosted, IsKept, IsKeptAtLink, IsServed, IsSettled, Life, PartsFor, Step, AllServed, began, waited, happened, answered, held as is_held, bound_in, bound_of, exchanges, hold_in, is_empty, leaves_lines, life, lines_of, link_after, link_in, newcomer, no_link, nobody, texts_of}
+use Rattle.hose_net.proofs.Laws.{own_on}
+use Rattle.hose_net.proofs.Stories.{IsAt, bound-answers, bound-happens, bound-holds, exchanges-happens, exchanges-holds, exchanges-push, happened_now, happened_on, hold-push, life-answers, life-came, life-got, life-holds, life-left, life-linked, life-other, life-other_answers, life-refused, life-sent, life-stopped, link-push, link-same, served_holds, served_linked, served_now, served_too}
+use Rattle.hose_host.specs.steps.Seats.{AllFinished, AtRest, Awaits, Calm, Exact, Finished, FinishedBelow, Freed, FreedBelow, Gone, GrowsByLost, Held, Holds, InRound, IsSaid, Keeping, Quiet, Releases, Resting, SeatState, Sits, emptied, fresh_seat, held_of, with_held, with_text}
+use Rattle.hose_host.specs.steps.Keeping.{AllSit, At, GoesOnAt, GoesOnLink, Hall, Host, IsOpen, Keeps, KeepsAll, KeepsHost, KeepsLink, PartsHost, Stands, at, hall, housed, terms_of}
 
 -- one list begins another one, which begins a third
 onward_then : {T : Type 0} (one two three : List T) → IsPrefix one two → IsPrefix two three → IsPrefix one three
@@ -25,6 +30,9 @@ onward_then one two three first then = (first.0 ++ then.0, sym (append_assoc one
 
 onward_same : {T : Type 0} (one : List T) → IsPrefix one one
 onward_same one = ([], append-nil one)
+
+All-left : {T : Type 0} (P : T → Type 0) (xs ys : List T) → All P (xs ++ ys) → All P xs
+All-left P xs ys all = λ i d below. subst P (get_or_append_left xs ys d i below) (all i d (omega (arith, below, length-append xs ys)))
 
 nil_from_map : {A B : Type 0} (f : A → B) (xs : List A) → [] ≡ map f xs → xs ≡ []
 nil_from_map f [] is = refl
@@ -50,6 +58,10 @@ stays_said heard needs text kept old new keeps was said = λ open_still. ⊎_eli
     (λ now. ap (λ (s : SeatState). s.kept) now.2 ∙ keeps was)
     (λ wait. ap (λ (s : SeatState). s.kept) wait.1 ∙ keeps was)
     (said open_still)
+
+joins_more : {L R : Type 0} (hold : Hold) (was count : ℕ) (xs : List (Exchange L R)) → bound_of hold ≡ was → was < count → count < bound_of Alone → Joins hold count xs
+joins_more Alone was count xs is more less = absurd (omega (arith, is, more, less))
+joins_more (Upto before) was count xs is more less = omega (arith, is, more)
 
 module _ {L R : Type 0} (text : R → List ℕ) (heard : ℕ) where
   awaits_map : (waiting : List (Exchange L R)) → AwaitsMore (λ held. held.needs) heard (map (held_of text) waiting) → AwaitsMore (λ exchange. exchange.needs) heard waiting
@@ -193,9 +205,18 @@ module _ {L R : Type 0} (text : R → List ℕ) (heard : ℕ) where
       let exact = sits how.0 in
       subst (λ (s : SeatState). Exact text heard life s coming) (sym how.4) (released life old coming how.1 new.later exact exact.waiting exact.split (sym how.2 ∙ exact.later) how.3)
 
-  -- more was heard
-  pub exact_more : (more : ℕ) (life : Life L R) (seat : SeatState) (coming : List ℕ) → heard ≤ more → Exact text heard life seat coming → Exact text more life seat coming
-  exact_more more life seat coming less exact = record { here = exact.here; by = exact.by; held = exact.held; holds = exact.holds; plain = exact.plain; given = exact.given; free = exact.free; waiting = exact.waiting; split = exact.split; allowed = All-weaker (λ (x : Exchange L R). x.needs ≤ heard) (λ (x : Exchange L R). x.needs ≤ more) (λ x within. omega (arith, within, less)) exact.free exact.allowed; sent = exact.sent; stuck = exact.stuck; later = exact.later }
+  -- replies that need so many entries may be sent, who needed no more or of whom none needs more
+  free_held : (now : ℕ) (own free waiting : List (Exchange L R)) → own ≡ free ++ waiting → (heard ≤ now) ⊎ All (λ (x : Exchange L R). x.needs ≤ now) own → All (λ (x : Exchange L R). x.needs ≤ heard) free → All (λ (x : Exchange L R). x.needs ≤ now) free
+  free_held now own free waiting is may allowed = ⊎_elim
+      (λ less. All-weaker (λ (x : Exchange L R). x.needs ≤ heard) (λ (x : Exchange L R). x.needs ≤ now) (λ x within. omega (arith, within, less)) free allowed)
+      (λ all. All-left (λ (x : Exchange L R). x.needs ≤ now) free waiting (subst (All (λ (x : Exchange L R). x.needs ≤ now)) is all))
+      may
+
+  exact_held : (now : ℕ) (life : Life L R) (seat : SeatState) (coming : List ℕ) → (heard ≤ now) ⊎ All (λ (x : Exchange L R). x.needs ≤ now) life.own → Exact text heard life seat coming → Exact text now life seat coming
+  exact_held now life seat coming may exact = record { here = exact.here; by = exact.by; held = exact.held; holds = exact.holds; plain = exact.plain; given = exact.given; free = exact.free; waiting = exact.waiting; split = exact.split; allowed = free_held now life.own exact.free exact.waiting exact.split may exact.allowed; sent = exact.sent; stuck = exact.stuck; later = exact.later }
+
+  served_held : (now : ℕ) (life : Life L R) → (heard ≤ now) ⊎ All (λ (x : Exchange L R). x.needs ≤ now) life.own → IsServed text heard life → IsServed text now life
+  served_held now life may served = record { rest = served.rest; given = served.given; lines = served.lines; free = served.free; waiting = served.waiting; split = served.split; allowed = free_held now life.own served.free served.waiting served.split may served.allowed; unsent = served.unsent; sent = served.sent }
 
   -- bytes of a line were taken in
   pub sits_taken : (life : Life L R) (old new : SeatState) (bytes coming : List ℕ) → All (λ byte. byte ≢ 10) bytes → ((held : List ℕ) → Holds old held → new.lost ≡ false → Holds new (held ++ bytes)) → (new.lost ≡ false → old.lost ≡ false) → new.output ≡ old.output → new.later ≡ old.later → new.door ≡ old.door → Sits text heard life old (bytes ++ coming) → Sits text heard life new coming
@@ -241,6 +262,9 @@ module _ {L R : Type 0} (text : R → List ℕ) (heard : ℕ) where
         };
   }
 
+pub is_true : (b : Bool) → (b ≡ false → false ≡ true) → b ≡ true
+is_true b none = ⊎_elim (λ yes. yes) (λ no. absurd (false≢true (none no))) (cases_Bool b)
+
 is_empty-push : {T : Type 0} (xs : List T) (x : T) → is_empty (xs ++ x ∷ []) ≡ false
 is_empty-push [] x = refl
 is_empty-push (first ∷ rest) x = refl
@@ -271,7 +295,7 @@ module _ {N A R B : Type 0} (net : ConnectionsGhosts N) (by : Ghosts A R B) (hea
   keeps_then P Q S place old now new begun more = λ first from topic story stands sits so.
       let one = begun first from topic story stands sits so in
       let two = more first from topic one.later one.stands one.sits one.ends in
-      record { later = two.later; onward = onward_then story one.later two.later one.onward two.onward; others = λ other apart. two.others other apart ∙ one.others other apart; stands = two.stands; sits = two.sits; ends = two.ends }
+      record { later = two.later; onward = onward_then story one.later two.later one.onward two.onward; links = two.links ∙ one.links; others = λ other apart. two.others other apart ∙ one.others other apart; stands = two.stands; sits = two.sits; ends = two.ends }
 
   -- more is known before
   pub keeps_from : (P Q S : Life by.said R → SeatState → Type 0) (place : ℕ) (old new : At N A) → ((life : Life by.said R) → P life old.seat → Q life old.seat) → Keeps net by Q S place heard old new → Keeps net by P S place heard old new
@@ -281,16 +305,16 @@ module _ {N A R B : Type 0} (net : ConnectionsGhosts N) (by : Ghosts A R B) (hea
   pub keeps_on : (P Q S : Life by.said R → SeatState → Type 0) (place : ℕ) (old new : At N A) → ((life : Life by.said R) → Q life new.seat → S life new.seat) → Keeps net by P Q place heard old new → Keeps net by P S place heard old new
   keeps_on P Q S place old new goes keeps = λ first from topic story stands sits so.
       let one = keeps first from topic story stands sits so in
-      record { later = one.later; onward = one.onward; others = one.others; stands = one.stands; sits = one.sits; ends = goes (life place one.later) one.ends }
+      record { later = one.later; onward = one.onward; links = one.links; others = one.others; stands = one.stands; sits = one.sits; ends = goes (life place one.later) one.ends }
 
   -- only the seat changes
   pub keeps_seat : (P Q : Life by.said R → SeatState → Type 0) (place : ℕ) (network : N) (by_now : A) (old new : SeatState) (was coming : List ℕ) → ((text : R → List ℕ) (life : Life by.said R) → Sits text heard life old was → Sits text heard life new coming) → ((life : Life by.said R) → P life old → Q life new) → Keeps net by P Q place heard (at network by_now old was) (at network by_now new coming)
   keeps_seat P Q place network by_now old new was coming sits_on goes = λ first from topic story stands sits so.
-      record { later = story; onward = onward_same story; others = λ other apart. refl; stands = stands; sits = sits_on (by.text topic) (life place story) sits; ends = goes (life place story) so }
+      record { later = story; onward = onward_same story; links = refl; others = λ other apart. refl; stands = stands; sits = sits_on (by.text topic) (life place story) sits; ends = goes (life place story) so }
 
   -- nothing changes
   pub keeps_same : (P Q : Life by.said R → SeatState → Type 0) (place : ℕ) (old : At N A) → ((life : Life by.said R) → P life old.seat → Q life old.seat) → Keeps net by P Q place heard old old
-  keeps_same P Q place old goes = λ first from topic story stands sits so. record { later = story; onward = onward_same story; others = λ other apart. refl; stands = stands; sits = sits; ends = goes (life place story) so }
+  keeps_same P Q place old goes = λ first from topic story stands sits so. record { later = story; onward = onward_same story; links = refl; others = λ other apart. refl; stands = stands; sits = sits; ends = goes (life place story) so }
 
   pub quiet_lost : (k : List ℕ) (seat : SeatState) (life : Life by.said R) → seat.lost ≡ true → Quiet heard k life seat
   quiet_lost k seat life lost = record { freed = record { awaits = freed_lost heard seat lost; keeps = λ kept. absurd (false≢true (sym kept ∙ lost)) }; out = λ kept. absurd (false≢true (sym kept ∙ lost)) }
@@ -323,7 +347,7 @@ module _ {N A R B : Type 0} (net : ConnectionsGhosts N) (by : Ghosts A R B) (hea
   pub keeps_kept : (P Q S : Life by.said R → SeatState → Type 0) (k : List ℕ) (place : ℕ) (old : At N A) (network : N) (by_now : A) (seat : SeatState) → ((life : Life by.said R) → Q life seat → Keeping k life seat) → ((life : Life by.said R) → Q life seat → S life seat) → Keeps net by P Q place heard old (at network by_now seat k) → Keeps net by P S place heard old (at network by_now seat seat.kept)
   keeps_kept P Q S k place old network by_now seat is goes keeps = λ first from topic story stands sits so.
       let one = keeps first from topic story stands sits so in
-      record { later = one.later; onward = one.onward; others = one.others; stands = one.stands; sits = λ kept. subst (λ (bytes : List ℕ). Exact (by.text topic) heard (life place one.later) seat bytes) (sym (is (life place one.later) one.ends kept)) (one.sits kept); ends = goes (life place one.later) one.ends }
+      record { later = one.later; onward = one.onward; links = one.links; others = one.others; stands = one.stands; sits = λ kept. subst (λ (bytes : List ℕ). Exact (by.text topic) heard (life place one.later) seat bytes) (sym (is (life place one.later) one.ends kept)) (one.sits kept); ends = goes (life place one.later) one.ends }
 
   pub keeps_freed : (P : Life by.said R → SeatState → Type 0) (k : List ℕ) (place : ℕ) (old : At N A) (network : N) (by_now : A) (seat : SeatState) → Keeps net by P (Freed heard k) place heard old (at network by_now seat k) → Keeps net by P (Freed heard seat.kept) place heard old (at network by_now seat seat.kept)
   keeps_freed P k place old network by_now seat keeps = keeps_kept P (Freed heard k) (Freed heard seat.kept) k place old network by_now seat (λ life so. so.keeps) (λ life so. freed_kept k life seat so) keeps
@@ -357,9 +381,27 @@ module _ {N A R B : Type 0} (net : ConnectionsGhosts N) (by : Ghosts A R B) (hea
   pub keeps_lost : (P Q : Life by.said R → SeatState → Type 0) (place : ℕ) (network : N) (by_now : A) (old new : SeatState) (was coming : List ℕ) → new.lost ≡ true → ((life : Life by.said R) → Q life new) → Keeps net by P Q place heard (at network by_now old was) (at network by_now new coming)
   keeps_lost P Q place network by_now old new was coming lost goes = keeps_seat P Q place network by_now old new was coming (λ text life sits kept. absurd (false≢true (sym kept ∙ lost))) (λ life so. goes life)
 
+  -- nothing happened
+  stands_waited : (first : N) (from : by.origin) (topic : by.subject) (story : List (Step by.said R)) (was now : N) (by_now : A) → net.did was [] now → Stands net by first from topic story heard was by_now → Stands net by first from topic story heard now by_now
+  stands_waited first from topic story was now by_now went stands = record { hosts = waited stands.hosts went; link = stands.link; comes = stands.comes; links = stands.links; about = stands.about; hears = stands.hears; alone = stands.alone; within = stands.within; knows = stands.knows }
+
+  -- who answers has changed, and no line was answered
+  stands_by : (first : N) (from : by.origin) (topic : by.subject) (story : List (Step by.said R)) (network : N) (old now : A) → ((xs : List (Exchange by.said R)) (link : Link) → by.comes from xs link old → by.comes from xs link now) → by.about now ≡ by.about old → by.count now ≡ by.count old → ((place : ℕ) → (life place story).here ≡ true → by.is_new now place ≡ is_empty (life place story).own) → Stands net by first from topic story heard network old → Stands net by first from topic story heard network now
+  stands_by first from topic story network old now comes about count knows stands = record {
+    hosts = stands.hosts;
+    link = stands.link;
+    comes = comes (exchanges story) stands.link stands.comes;
+    links = stands.links;
+    about = about ∙ stands.about;
+    hears = stands.hears;
+    alone = stands.alone;
+    within = subst (λ (n : ℕ). All (λ (x : Exchange by.said R). x.needs ≤ n) (exchanges story)) (sym count) stands.within;
+    knows = knows;
+  }
+
   pub keeps_quiet : (P : Life by.said R → SeatState → Type 0) (place : ℕ) (was now : N) (by_now : A) (seat : SeatState) (coming : List ℕ) → net.did was [] now → Keeps net by P P place heard (at was by_now seat coming) (at now by_now seat coming)
   keeps_quiet P place was now by_now seat coming went = λ first from topic story stands sits so.
-      record { later = story; onward = onward_same story; others = λ other apart. refl; stands = record { hosts = waited stands.hosts went; comes = stands.comes; about = stands.about; hears = stands.hears; knows = stands.knows }; sits = sits; ends = so }
+      record { later = story; onward = onward_same story; links = refl; others = λ other apart. refl; stands = stands_waited first from topic story was now by_now went stands; sits = sits; ends = so }
 
   knows_on : (place : ℕ) (story later : List (Step by.said R)) (was now : A) → ((other : ℕ) → other ≢ place → life other later ≡ life other story) → ((other : ℕ) → other ≢ place → by.is_new now other ≡ by.is_new was other) → ((other : ℕ) → (life other story).here ≡ true → by.is_new was other ≡ is_empty (life other story).own) → ((life place later).here ≡ true → by.is_new now place ≡ is_empty (life place later).own) → (other : ℕ) → (life other later).here ≡ true → by.is_new now other ≡ is_empty (life other later).own
   knows_on place story later was now others frames knows known other here = ⊎_elim
@@ -377,25 +419,34 @@ module _ {N A R B : Type 0} (net : ConnectionsGhosts N) (by : Ghosts A R B) (hea
     lined : (place : ℕ) → All (IsByDoor (life place story).door) (life place story).own
     lined place = (before place).lines
 
-    comes_same : (happening : Happening) → by.comes from (exchanges (story ++ Happens happening ∷ [])) by_now
-    comes_same happening = subst (λ (xs : List (Exchange by.said R)). by.comes from xs by_now) (sym (exchanges-happens story happening)) stands.comes
+    -- something happened
+    stands_on : (happening : Happening) (now : N) (by_new : A) (link : Link) → MayHappen story happening → net.did was (happening ∷ []) now → IsKept (terms_of net by from topic) story was happening now → AllServed (terms_of net by from topic) (story ++ Happens happening ∷ []) → by.comes from (exchanges story) link by_new → ((link_in (story ++ Happens happening ∷ [])).here ≡ true → link ≡ link_in (story ++ Happens happening ∷ [])) → by.about by_new ≡ topic → by.count by_new ≡ by.count by_now → ((place : ℕ) → (life place (story ++ Happens happening ∷ [])).here ≡ true → by.is_new by_new place ≡ is_empty (life place (story ++ Happens happening ∷ [])).own) → Stands net by first from topic (story ++ Happens happening ∷ []) heard now by_new
+    stands_on happening now by_new link free went kept served comes links about count knows = record {
+      hosts = happened happening free stands.hosts went kept served;
+      link = link;
+      comes = subst (λ (xs : List (Exchange by.said R)). by.comes from xs link by_new) (sym (exchanges-happens story happening)) comes;
+      links = links;
+      about = about;
+      hears = bound-happens story happening ∙ stands.hears;
+      alone = λ is. hold-push story (Happens happening) ∙ stands.alone is;
+      within = subst (All (λ (x : Exchange by.said R). x.needs ≤ by.count by_new)) (sym (exchanges-happens story happening)) (subst (λ (n : ℕ). All (λ (x : Exchange by.said R). x.needs ≤ n) (exchanges story)) (sym count) stands.within);
+      knows = knows;
+    }
 
     -- something happened at a place
     went_on : (Q : Life by.said R → SeatState → Type 0) (place : ℕ) (now : N) (happening : Happening) (seat : SeatState) (coming : List ℕ) (new : Life by.said R) → IsAt place happening → MayHappen story happening → net.did was (happening ∷ []) now → IsKept (terms_of net by from topic) story was happening now → life place (story ++ Happens happening ∷ []) ≡ new → (new.here ≡ true → by.is_new by_now place ≡ is_empty new.own) → IsServed (by.text topic) heard new → Sits (by.text topic) heard new seat coming → Q new seat → GoesOnAt net by Q place first from topic story heard (at now by_now seat coming)
     went_on Q place now happening seat coming new here free went kept_then is known served sits so =
         let others : (other : ℕ) → other ≢ place → life other (story ++ Happens happening ∷ []) ≡ life other story = λ other apart. life-other other place story happening here apart in
-        let same : heard_in (story ++ Happens happening ∷ []) ≡ heard_in story = heard-same place story happening here in
+        let same : bound_in (story ++ Happens happening ∷ []) ≡ bound_in story = bound-happens story happening in
+        let linked : link_in (story ++ Happens happening ∷ []) ≡ link_in story = link-same place story happening here in
         record {
           later = story ++ Happens happening ∷ [];
           onward = (Happens happening ∷ [], refl);
+          links = linked;
           others = others;
-          stands = record {
-            hosts = happened happening free stands.hosts went kept_then (served_too (terms_of net by from topic) place story (story ++ Happens happening ∷ []) others same before (subst (λ (h : ℕ). IsServed (by.text topic) h (life place (story ++ Happens happening ∷ []))) (sym (same ∙ stands.hears)) (subst (IsServed (by.text topic) heard) (sym is) served)));
-            comes = comes_same happening;
-            about = stands.about;
-            hears = same ∙ stands.hears;
-            knows = knows_on place story (story ++ Happens happening ∷ []) by_now by_now others (λ other apart. refl) stands.knows (subst (λ (l : Life by.said R). l.here ≡ true → by.is_new by_now place ≡ is_empty l.own) (sym is) known);
-          };
+          stands = stands_on happening now by_now stands.link free went kept_then (served_too (terms_of net by from topic) place story (story ++ Happens happening ∷ []) others same before (subst (λ (h : ℕ). IsServed (by.text topic) h (life place (story ++ Happens happening ∷ []))) (sym (same ∙ stands.hears)) (subst (IsServed (by.text topic) heard) (sym is) served)))
+              stands.comes (λ there. stands.links (ap (λ (l : Link). l.here) (sym linked) ∙ there) ∙ sym linked) stands.about refl
+              (knows_on place story (story ++ Happens happening ∷ []) by_now by_now others (λ other apart. refl) stands.knows (subst (λ (l : Life by.said R). l.here ≡ true → by.is_new by_now place ≡ is_empty l.own) (sym is) known));
           sits = λ kept. subst (λ (l : Life by.said R). Exact (by.text topic) heard l seat coming) (sym is) (sits kept);
           ends = subst (λ (l : Life by.said R). Q l seat) (sym is) so;
         }
@@ -404,23 +455,29 @@ module _ {N A R B : Type 0} (net : ConnectionsGhosts N) (by : Ghosts A R B) (hea
     went_exact Q place now happening seat coming new here free went kept_then is known lines exact so =
         went_on Q place now happening seat coming new here free went kept_then is known (served_exact (by.text topic) heard new seat coming lines exact) (λ kept. exact) so
 
-    answered_on : (Q : Life by.said R → SeatState → Type 0) (now : A) (old mid new : SeatState) (coming : List ℕ) (exchange : Exchange by.said R) → (exact : Exact (by.text topic) heard (life exchange.place story) old (10 ∷ coming)) → exchange.line ≡ exact.held → exchange.door ≡ old.door → exchange.first ≡ by.is_new by_now exchange.place → by.says topic exchange.first exchange.door exchange.line exchange.said → by.comes from (exchanges story ++ exchange ∷ []) now → by.is_new now exchange.place ≡ false → ((other : ℕ) → other ≢ exchange.place → by.is_new now other ≡ by.is_new by_now other) → by.about now ≡ topic
+    answered_on : (Q : Life by.said R → SeatState → Type 0) (now : A) (old mid new : SeatState) (coming : List ℕ) (exchange : Exchange by.said R) → (exact : Exact (by.text topic) heard (life exchange.place story) old (10 ∷ coming)) → exchange.line ≡ exact.held → exchange.door ≡ old.door → exchange.first ≡ by.is_new by_now exchange.place → by.says topic exchange.first exchange.door exchange.line exchange.said → by.comes from (exchanges story ++ exchange ∷ []) stands.link now → by.count by_now ≤ by.count now → exchange.needs ≤ by.count now → by.is_new now exchange.place ≡ false → ((other : ℕ) → other ≢ exchange.place → by.is_new now other ≡ by.is_new by_now other) → by.about now ≡ topic
         → Exact (by.text topic) heard (record (life exchange.place story) { own = (life exchange.place story).own ++ exchange ∷ [] }) mid coming → (new.lost ≡ false → new ≡ mid) → ((life : Life by.said R) → Q life new) → GoesOnAt net by Q exchange.place first from topic story heard (at was now new coming)
-    answered_on Q now old mid new coming exchange exact line door is_first says comes known frames stays there text_is so =
+    answered_on Q now old mid new coming exchange exact line door is_first says comes rises needs known frames stays there text_is so =
         let others : (other : ℕ) → other ≢ exchange.place → life other (story ++ Answers exchange ∷ []) ≡ life other story = λ other apart. life-other_answers other story exchange apart in
-        let same : heard_in (story ++ Answers exchange ∷ []) ≡ heard_in story = heard-push story (Answers exchange) in
+        let same : bound_in (story ++ Answers exchange ∷ []) ≡ bound_in story = bound-answers story exchange in
+        let linked : link_in (story ++ Answers exchange ∷ []) ≡ link_in story = link-push story (Answers exchange) in
         let grown : Life by.said R = record (life exchange.place story) { own = (life exchange.place story).own ++ exchange ∷ [] } in
         let is : life exchange.place (story ++ Answers exchange ∷ []) ≡ grown = life-answers exchange story in
         let lines : All (IsByDoor grown.door) grown.own = All-push (IsByDoor grown.door) (life exchange.place story).own exchange (lined exchange.place) (door ∙ exact.by, subst (All (λ byte. byte ≢ 10)) (sym line) exact.plain) in
         record {
           later = story ++ Answers exchange ∷ [];
           onward = (Answers exchange ∷ [], refl);
+          links = linked;
           others = others;
           stands = record {
             hosts = answered exchange stands.hosts (is_first ∙ stands.knows exchange.place exact.here) says (served_too (terms_of net by from topic) exchange.place story (story ++ Answers exchange ∷ []) others same before (subst (λ (h : ℕ). IsServed (by.text topic) h (life exchange.place (story ++ Answers exchange ∷ []))) (sym (same ∙ stands.hears)) (subst (IsServed (by.text topic) heard) (sym is) (served_exact (by.text topic) heard grown mid coming lines there))));
-            comes = subst (λ (xs : List (Exchange by.said R)). by.comes from xs now) (sym (exchanges-push story exchange)) comes;
+            link = stands.link;
+            comes = subst (λ (xs : List (Exchange by.said R)). by.comes from xs stands.link now) (sym (exchanges-push story exchange)) comes;
+            links = λ there. stands.links (ap (λ (l : Link). l.here) (sym linked) ∙ there) ∙ sym linked;
             about = stays;
             hears = same ∙ stands.hears;
+            alone = λ is. hold-push story (Answers exchange) ∙ stands.alone is;
+            within = subst (All (λ (x : Exchange by.said R). x.needs ≤ by.count now)) (sym (exchanges-push story exchange)) (All-push (λ (x : Exchange by.said R). x.needs ≤ by.count now) (exchanges story) exchange (All-weaker (λ (x : Exchange by.said R). x.needs ≤ by.count by_now) (λ (x : Exchange by.said R). x.needs ≤ by.count now) (λ x within. omega (arith, within, rises)) (exchanges story) stands.within) needs);
             knows = knows_on exchange.place story (story ++ Answers exchange ∷ []) by_now now others frames stands.knows (λ here. known ∙ sym (is_empty-push (life exchange.place story).own exchange) ∙ ap (λ (l : Life by.said R). is_empty l.own) (sym is));
           };
           sits = λ kept. subst (λ (l : Life by.said R). Exact (by.text topic) heard l new coming) (sym is) (subst (λ (seat : SeatState). Exact (by.text topic) heard grown seat coming) (sym (text_is kept)) there);
@@ -431,9 +488,9 @@ module _ {N A R B : Type 0} (net : ConnectionsGhosts N) (by : Ghosts A R B) (hea
   keeps_got place was now by_now seat bytes kept none went = λ first from topic story stands sits so.
       went_exact first from topic story was by_now stands (Freed heard []) place now (Got place bytes) seat bytes (record (life place story) { given = (life place story).given ++ bytes }) refl ((sits kept).here, exact_took (by.text topic) heard (life place story) seat [] none (sits kept)) went tt (life-got place bytes story) (stands.knows place) (lined first from topic story was by_now stands place) (exact_got (by.text topic) heard (life place story) seat bytes (sits kept)) (record { awaits = so.freed.awaits; keeps = so.freed.keeps })
 
-  pub keeps_sent : (k : List ℕ) (place : ℕ) (was now : N) (by_now : A) (seat new : SeatState) (count : ℕ) (kept_now : B) → seat.lost ≡ false → net.did was (Sent place (take count seat.output) ∷ []) now → net.saw B was kept_now now → ((from : by.origin) (xs : List (Exchange by.said R)) → by.comes from xs by_now → by.stands from xs kept_now) → new ≡ record seat { output = drop count seat.output } → Keeps net by (Freed heard k) (Freed heard k) place heard (at was by_now seat k) (at now by_now new k)
+  pub keeps_sent : (k : List ℕ) (place : ℕ) (was now : N) (by_now : A) (seat new : SeatState) (count : ℕ) (kept_now : B) → seat.lost ≡ false → net.did was (Sent place (take count seat.output) ∷ []) now → net.saw B was kept_now now → ((from : by.origin) (xs : List (Exchange by.said R)) (link : Link) → by.comes from xs link by_now → by.stands from xs kept_now) → new ≡ record seat { output = drop count seat.output } → Keeps net by (Freed heard k) (Freed heard k) place heard (at was by_now seat k) (at now by_now new k)
   keeps_sent k place was now by_now seat new count kept_now kept went saw stand is = λ first from topic story stands sits so.
-      went_exact first from topic story was by_now stands (Freed heard k) place now (Sent place (take count seat.output)) new k (record (life place story) { sent = (life place story).sent ++ take count seat.output; refused = false }) refl (sits kept).here went (kept_now, saw, stand from (exchanges story) stands.comes) (life-sent place (take count seat.output) story) (stands.knows place) (lined first from topic story was by_now stands place)
+      went_exact first from topic story was by_now stands (Freed heard k) place now (Sent place (take count seat.output)) new k (record (life place story) { sent = (life place story).sent ++ take count seat.output; refused = false }) refl (sits kept).here went (kept_now, saw, stand from (exchanges story) stands.link stands.comes) (life-sent place (take count seat.output) story) (stands.knows place) (lined first from topic story was by_now stands place)
       (subst (λ (s : SeatState). Exact (by.text topic) heard (record (life place story) { sent = (life place story).sent ++ take count seat.output; refused = false }) s k) (sym is) (exact_sent (by.text topic) heard (life place story) seat count k (sits kept)))
       (subst (λ (s : SeatState). Freed heard k (record (life place story) { sent = (life place story).sent ++ take count seat.output; refused = false }) s) (sym is) (record { awaits = so.awaits; keeps = so.keeps }))
 
@@ -455,34 +512,29 @@ module _ {N A R B : Type 0} (net : ConnectionsGhosts N) (by : Ghosts A R B) (hea
       (finished_lost false (record (life place story) { here = false }) seat lost refl)
 
   -- what is known of a place where no one is comes or goes
-  pub keeps_known : (P : Life by.said R → SeatState → Type 0) (place : ℕ) (network : N) (old now : A) (seat : SeatState) (coming : List ℕ) → ((life : Life by.said R) → P life seat → life.here ≡ false) → ((other : ℕ) → other ≢ place → (by.is_new now other ≡ by.is_new old other) × (by.over now other ≡ by.over old other)) → ((from : by.origin) (xs : List (Exchange by.said R)) → by.comes from xs old → by.comes from xs now) → by.about now ≡ by.about old → Keeps net by P P place heard (at network old seat coming) (at network now seat coming)
-  keeps_known P place network old now seat coming gone frames comes same = λ first from topic story stands sits so. record {
+  pub keeps_known : (P : Life by.said R → SeatState → Type 0) (place : ℕ) (network : N) (old now : A) (seat : SeatState) (coming : List ℕ) → ((life : Life by.said R) → P life seat → life.here ≡ false) → ((other : ℕ) → other ≢ place → (by.is_new now other ≡ by.is_new old other) × (by.over now other ≡ by.over old other)) → ((from : by.origin) (xs : List (Exchange by.said R)) (link : Link) → by.comes from xs link old → by.comes from xs link now) → by.about now ≡ by.about old → by.count now ≡ by.count old → Keeps net by P P place heard (at network old seat coming) (at network now seat coming)
+  keeps_known P place network old now seat coming gone frames comes same count = λ first from topic story stands sits so. record {
     later = story;
     onward = onward_same story;
+    links = refl;
     others = λ other apart. refl;
-    stands = record {
-      hosts = stands.hosts;
-      comes = comes from (exchanges story) stands.comes;
-      about = same ∙ stands.about;
-      hears = stands.hears;
-      knows = knows_on place story story old now (λ other apart. refl) (λ other apart. (frames other apart).0) stands.knows (λ here. absurd (false≢true (sym (gone (life place story) so) ∙ here)));
-    };
+    stands = stands_by first from topic story network old now (λ xs link. comes from xs link) same count (knows_on place story story old now (λ other apart. refl) (λ other apart. (frames other apart).0) stands.knows (λ here. absurd (false≢true (sym (gone (life place story) so) ∙ here)))) stands;
     sits = sits;
     ends = so;
   }
 
   -- a line was answered
-  pub keeps_answered : (place : ℕ) (network : N) (old now : A) (seat new : SeatState) (coming : List ℕ) (shown : Line) (reply : R) → seat.lost ≡ false → ((held : List ℕ) → Holds seat held → Shows shown held) → ((from : by.origin) → AnswersAt (by.comes from) (by.says (by.about old)) place seat.door shown (by.is_new old place) (by.count now) old now reply) → by.is_new now place ≡ false → ((other : ℕ) → other ≢ place → (by.is_new now other ≡ by.is_new old other) × (by.over now other ≡ by.over old other)) → by.about now ≡ by.about old → (new.lost ≡ false → IsSaid heard (by.count now) (by.text (by.about old) reply) (emptied seat) new)
+  pub keeps_answered : (place : ℕ) (network : N) (old now : A) (seat new : SeatState) (coming : List ℕ) (shown : Line) (reply : R) → seat.lost ≡ false → ((held : List ℕ) → Holds seat held → Shows shown held) → ((from : by.origin) (link : Link) → AnswersAt (λ (xs : List (Exchange by.said R)). by.comes from xs link) (by.says (by.about old)) place seat.door shown (by.is_new old place) (by.count now) old now reply) → by.count old ≤ by.count now → by.is_new now place ≡ false → ((other : ℕ) → other ≢ place → (by.is_new now other ≡ by.is_new old other) × (by.over now other ≡ by.over old other)) → by.about now ≡ by.about old → (new.lost ≡ false → IsSaid heard (by.count now) (by.text (by.about old) reply) (emptied seat) new)
       → Keeps net by (Freed heard []) (Freed heard []) place heard (at network old seat (10 ∷ coming)) (at network now new coming)
-  keeps_answered place network old now seat new coming shown reply kept shows comes_on known frames same text_is = λ first from topic story stands sits so.
+  keeps_answered place network old now seat new coming shown reply kept shows comes_on rises known frames same text_is = λ first from topic story stands sits so.
       let exact = sits kept in
-      let next = comes_on from (exchanges story) exact.held (shows exact.held exact.holds) stands.comes in
+      let next = comes_on from stands.link (exchanges story) exact.held (shows exact.held exact.holds) stands.comes in
       let text_at : by.text (by.about old) reply ≡ by.text topic reply = ap (λ (t : by.subject). by.text t reply) stands.about in
       let said : new.lost ≡ false → IsSaid heard (by.count now) (by.text topic reply) (emptied seat) new = λ open_still. subst (λ (t : List ℕ). IsSaid heard (by.count now) t (emptied seat) new) text_at (text_is open_still) in
       let exchange : Exchange by.said R = record { place = place; door = seat.door; first = by.is_new old place; line = exact.held; said = next.0; reply = reply; needs = by.count now } in
       let answered_by : (mid : SeatState) → Exact (by.text topic) heard (record (life place story) { own = (life place story).own ++ exchange ∷ [] }) mid coming → (new.lost ≡ false → new ≡ mid) → GoesOnAt net by (Freed heard []) place first from topic story heard (at network now new coming) = λ mid there same_as.
       answered_on first from topic story network old stands (Freed heard []) now seat mid new coming exchange exact refl refl refl
-      (subst (λ (subject : by.subject). by.says subject (by.is_new old place) seat.door exact.held next.0) stands.about next.1) next.2 known (λ other apart. (frames other apart).0) (same ∙ stands.about) there same_as
+      (subst (λ (subject : by.subject). by.says subject (by.is_new old place) seat.door exact.held next.0) stands.about next.1) next.2 rises (omega arith) known (λ other apart. (frames other apart).0) (same ∙ stands.about) there same_as
       (λ life. record { awaits = freed_said heard (by.count now) (by.text topic reply) seat new so.awaits kept said; keeps = stays_said heard (by.count now) (by.text topic reply) [] seat new so.keeps kept said }) in
       elim (cases_Bool new.lost) [
         | inl lost ↦ answered_by (with_held (emptied seat) (by.count now) (by.text topic reply)) (exact_waits (by.text topic) heard (life place story) seat coming exchange exact refl) (λ open_still. absurd (false≢true (sym open_still ∙ lost)))
@@ -503,55 +555,11 @@ module _ {N A R B : Type 0} (net : ConnectionsGhosts N) (by : Ghosts A R B) (hea
   -- ---- with all seats
 
   pub all_quiet : (Is : ℕ → ℕ → Life by.said R → SeatState → Type 0) (was now : N) (by_now : A) (seats : List SeatState) → net.did was [] now → KeepsAll net by Is Is (hall was by_now seats heard) (hall now by_now seats heard)
-  all_quiet Is was now by_now seats went = λ first from topic story stands sit. record { later = story; onward = onward_same story; stands = record { hosts = waited stands.hosts went; comes = stands.comes; about = stands.about; hears = stands.hears; knows = stands.knows }; sit = sit }
-
-  -- the host was told to stop
-  pub all_stops : (Is : ℕ → ℕ → Life by.said R → SeatState → Type 0) (was now : N) (by_now : A) (seats : List SeatState) → net.did was (Stopped ∷ []) now → StopsAll net by Is Is (hall was by_now seats heard) (hall now by_now seats heard)
-  all_stops Is was now by_now seats went = λ first from topic story stands all. (
-    record {
-      later = story ++ Happens Stopped ∷ [];
-      onward = (Happens Stopped ∷ [], refl);
-      stands = record {
-        hosts = happened Stopped tt stands.hosts went tt (served_stopped (terms_of net by from topic) story (before first from topic story was by_now stands));
-        comes = comes_same first from topic story was by_now stands Stopped;
-        about = stands.about;
-        hears = heard-push story (Happens Stopped) ∙ stands.hears;
-        knows = λ place. subst (λ (l : Life by.said R). l.here ≡ true → by.is_new by_now place ≡ is_empty l.own) (sym (life-stopped place story)) (stands.knows place);
-      };
-      sit = record {
-        sit = λ place seat below. subst (λ (l : Life by.said R). Sits (by.text topic) heard l (slice_index_or seats place seat) (slice_index_or seats place seat).kept) (sym (life-stopped place story)) (all.sit place seat below);
-        rest = λ place seat below. subst (λ (l : Life by.said R). Is place heard l (slice_index_or seats place seat)) (sym (life-stopped place story)) (all.rest place seat below);
-        beyond = λ place past. ap (λ (l : Life by.said R). l.here) (life-stopped place story) ∙ all.beyond place past;
-      };
-    },
-    stopped_now story,
-  )
-
-  pub all_stopped : (Is : ℕ → ℕ → Life by.said R → SeatState → Type 0) (was now : N) (by_now : A) (seats : List SeatState) → net.did was (Stopped ∷ []) now → KeepsAll net by Is Is (hall was by_now seats heard) (hall now by_now seats heard)
-  all_stopped Is was now by_now seats went = λ first from topic story stands all. (all_stops Is was now by_now seats went first from topic story stands all).0
+  all_quiet Is was now by_now seats went = λ first from topic story stands sit. record { later = story; onward = onward_same story; also = refl; stands = stands_waited first from topic story was now by_now went stands; sit = sit }
 
   -- the same is told of all places in other words
   pub all_weaker : (Was Now : ℕ → ℕ → Life by.said R → SeatState → Type 0) (network : N) (by_now : A) (seats : List SeatState) → ((place : ℕ) (life : Life by.said R) (seat : SeatState) → place < length seats → Was place heard life seat → Now place heard life seat) → KeepsAll net by Was Now (hall network by_now seats heard) (hall network by_now seats heard)
-  all_weaker Was Now network by_now seats goes = λ first from topic story stands all. record { later = story; onward = onward_same story; stands = stands; sit = record { sit = all.sit; rest = λ place seat below. goes place (life place story) (slice_index_or seats place seat) below (all.rest place seat below); beyond = all.beyond } }
-
-  -- a standby was heard
-  pub all_heard : (Was : ℕ → ℕ → Life by.said R → SeatState → Type 0) (upto : ℕ) (was now : N) (by_now : A) (seats : List SeatState) → ((place : ℕ) (life : Life by.said R) (seat : SeatState) → Was place heard life seat → Gone life seat) → net.did was (Heard upto ∷ []) now → KeepsAll net by Was (FreedBelow 0) (hall was by_now seats heard) (hall now by_now seats (max heard upto))
-  all_heard Was upto was now by_now seats gone went = λ first from topic story stands all. record {
-    later = story ++ Happens (Heard upto) ∷ [];
-    onward = (Happens (Heard upto) ∷ [], refl);
-    stands = record {
-      hosts = happened (Heard upto) tt stands.hosts went tt (served_heard (terms_of net by from topic) upto story (before first from topic story was by_now stands));
-      comes = comes_same first from topic story was by_now stands (Heard upto);
-      about = stands.about;
-      hears = heard-push story (Happens (Heard upto)) ∙ ap (λ h. max h upto) stands.hears;
-      knows = λ place. subst (λ (l : Life by.said R). l.here ≡ true → by.is_new by_now place ≡ is_empty l.own) (sym (life-heard place upto story)) (stands.knows place);
-    };
-    sit = record {
-      sit = λ place seat below kept. subst (λ (l : Life by.said R). Exact (by.text topic) (max heard upto) l (slice_index_or seats place seat) (slice_index_or seats place seat).kept) (sym (life-heard place upto story)) (exact_more (by.text topic) heard (max heard upto) (life place story) (slice_index_or seats place seat) (slice_index_or seats place seat).kept (omega arith) (all.sit place seat below kept));
-      rest = λ place seat below. (λ lost. ap (λ (l : Life by.said R). l.here) (life-heard place upto story) ∙ gone place (life place story) (slice_index_or seats place seat) (all.rest place seat below) lost, λ none. absurd (omega (arith, none)));
-      beyond = λ place past. ap (λ (l : Life by.said R). l.here) (life-heard place upto story) ∙ all.beyond place past;
-    };
-  }
+  all_weaker Was Now network by_now seats goes = λ first from topic story stands all. record { later = story; onward = onward_same story; also = refl; stands = stands; sit = record { sit = all.sit; rest = λ place seat below. goes place (life place story) (slice_index_or seats place seat) below (all.rest place seat below); beyond = all.beyond } }
 
   -- seats of which no one has one were added
   pub all_grow : (network : N) (by_now : A) (old new : List SeatState) → GrowsByLost old new → KeepsAll net by Resting Resting (hall network by_now old heard) (hall network by_now new heard)
@@ -563,6 +571,7 @@ module _ {N A R B : Type 0} (net : ConnectionsGhosts N) (by : Ghosts A R B) (hea
       record {
         later = story;
         onward = onward_same story;
+        also = refl;
         stands = stands;
         sit = record {
           sit = λ place seat below. ⊎_elim
@@ -586,6 +595,7 @@ module _ {N A R B : Type 0} (net : ConnectionsGhosts N) (by : Ghosts A R B) (hea
       record {
         later = one.later;
         onward = one.onward;
+        also = one.links;
         stands = one.stands;
         sit = record {
           sit = λ other seat below. ⊎_elim
@@ -625,23 +635,261 @@ module _ {N A R B : Type 0} (net : ConnectionsGhosts N) (by : Ghosts A R B) wher
   all_then P Q S one two three begun more = λ first from topic story stands sit.
       let then = begun first from topic story stands sit in
       let last = more first from topic then.later then.stands then.sit in
-      record { later = last.later; onward = onward_then story then.later last.later then.onward last.onward; stands = last.stands; sit = last.sit }
+      record { later = last.later; onward = onward_then story then.later last.later then.onward last.onward; also = last.also ∙ then.also; stands = last.stands; sit = last.sit }
 
-  -- where one of two calls was told to stop, both were
-  pub all_then_stops : (P Q S : ℕ → ℕ → Life by.said R → SeatState → Type 0) (one two three : Hall N A) → KeepsAll net by P Q one two → StopsAll net by Q S two three → StopsAll net by P S one three
-  all_then_stops P Q S one two three begun more = λ first from topic story stands sit.
-      let then = begun first from topic story stands sit in
-      let last = more first from topic then.later then.stands then.sit in
-      (record { later = last.0.later; onward = onward_then story then.later last.0.later then.onward last.0.onward; stands = last.0.stands; sit = last.0.sit }, last.1)
+  -- ---- at the link
 
-  pub all_stops_then : (P Q S : ℕ → ℕ → Life by.said R → SeatState → Type 0) (one two three : Hall N A) → StopsAll net by P Q one two → KeepsAll net by Q S two three → StopsAll net by P S one three
-  all_stops_then P Q S one two three begun more = λ first from topic story stands sit.
-      let then = begun first from topic story stands sit in
-      let last = more first from topic then.0.later then.0.stands then.0.sit in
-      (record { later = last.later; onward = onward_then story then.0.later last.later then.0.onward last.onward; stands = last.stands; sit = last.sit }, stopped_on then.0.later last.onward.0 last.later last.onward.1 then.1)
+  pub link_then : (was mid new : Bool) (n1 n2 n3 : N) (a1 a2 a3 : A) → KeepsLink net by was n1 a1 mid n2 a2 → KeepsLink net by mid n2 a2 new n3 a3 → KeepsLink net by was n1 a1 new n3 a3
+  link_then was mid new n1 n2 n3 a1 a2 a3 begun more = λ heard first from topic story stands there.
+      let one = begun heard first from topic story stands there in
+      let two = more heard first from topic one.later one.stands one.there in
+      record { later = two.later; onward = onward_then story one.later two.later one.onward two.onward; same = λ place. two.same place ∙ one.same place; stands = two.stands; there = two.there }
 
-  pub all_heard_at : (Was : ℕ → ℕ → Life by.said R → SeatState → Type 0) (heard upto now_heard : ℕ) (was now : N) (by_now : A) (seats : List SeatState) → ((place : ℕ) (life : Life by.said R) (seat : SeatState) → Was place heard life seat → Gone life seat) → now_heard ≡ max heard upto → net.did was (Heard upto ∷ []) now → KeepsAll net by Was (FreedBelow 0) (hall was by_now seats heard) (hall now by_now seats now_heard)
-  all_heard_at Was heard upto now_heard was now by_now seats gone is went = subst (λ (h : ℕ). KeepsAll net by Was (FreedBelow 0) (hall was by_now seats heard) (hall now by_now seats h)) (sym is) (all_heard net by heard Was upto was now by_now seats gone went)
+  pub link_quiet : (opened : Bool) (was now : N) (by_now : A) → net.did was [] now → KeepsLink net by opened was by_now opened now by_now
+  link_quiet opened was now by_now went = λ heard first from topic story stands there. record { later = story; onward = onward_same story; same = λ place. refl; stands = stands_waited net by heard first from topic story was now by_now went stands; there = there }
+
+  pub link_same : (opened : Bool) (network : N) (by_now : A) → KeepsLink net by opened network by_now opened network by_now
+  link_same opened network by_now = λ heard first from topic story stands there. record { later = story; onward = onward_same story; same = λ place. refl; stands = stands; there = there }
+
+  pub link_by : (opened : Bool) (network : N) (old now : A) → ((from : by.origin) (xs : List (Exchange by.said R)) (link : Link) → by.comes from xs link old → by.comes from xs link now) → LeavesPlaces by.is_new by.over by.about by.count old now → KeepsLink net by opened network old opened network now
+  link_by opened network old now comes leaves = λ heard first from topic story stands there. record { later = story; onward = onward_same story; same = λ place. refl; stands = stands_by net by heard first from topic story network old now (comes from) leaves.same_about leaves.same_count (λ place here. leaves.same_new place ∙ stands.knows place here) stands; there = there }
+
+  leaves_same : (by_now : A) → LeavesPlaces by.is_new by.over by.about by.count by_now by_now
+  leaves_same by_now = record { same_new = λ place. refl; same_over = λ place. refl; same_about = refl; same_count = refl }
+
+  module _ (heard : ℕ) (first : N) (from : by.origin) (topic : by.subject) (story : List (Step by.said R)) (was : N) (by_now : A) (stands : Stands net by first from topic story heard was by_now) where
+    -- something happened at the link
+    linked_on : (step : LinkStep) (now : N) (by_new : A) (link : Link) (opened : Bool) → MayLink (link_in story) step → net.did was (Linked step ∷ []) now → IsKeptAtLink (terms_of net by from topic) story was step now → by.comes from (exchanges story) link by_new → ((link_in (story ++ Happens (Linked step) ∷ [])).here ≡ true → link ≡ link_in (story ++ Happens (Linked step) ∷ [])) → LeavesPlaces by.is_new by.over by.about by.count by_now by_new → IsOpen net by opened (story ++ Happens (Linked step) ∷ []) → GoesOnLink net by opened first from topic story heard now by_new
+    linked_on step now by_new link opened free went kept comes links leaves there = record {
+      later = story ++ Happens (Linked step) ∷ [];
+      onward = (Happens (Linked step) ∷ [], refl);
+      same = λ place. life-linked place step story;
+      stands = stands_on net by heard first from topic story was by_now stands (Linked step) now by_new link free went kept (served_linked (terms_of net by from topic) step story (before net by heard first from topic story was by_now stands)) comes links (leaves.same_about ∙ stands.about) leaves.same_count
+          (λ place. subst (λ (l : Life by.said R). l.here ≡ true → by.is_new by_new place ≡ is_empty l.own) (sym (life-linked place step story)) (λ here. leaves.same_new place ∙ stands.knows place here));
+      there = there;
+    }
+
+    pushed : (step : LinkStep) → link_in (story ++ Happens (Linked step) ∷ []) ≡ link_after (link_in story) step
+    pushed step = link-push story (Happens (Linked step))
+
+  pub link_opened : (was : Bool) (n1 n2 : N) (a1 a2 : A) (path : List ℕ) → by.standby_at (by.about a1) ≡ Some path → net.did n1 (Linked (Opened path) ∷ []) n2 → ((from : by.origin) (xs : List (Exchange by.said R)) (link : Link) (at : List ℕ) → by.comes from xs link a1 → by.comes from xs (link_after link (Opened at)) a2) → LeavesPlaces by.is_new by.over by.about by.count a1 a2 → KeepsLink net by was n1 a1 true n2 a2
+  link_opened was n1 n2 a1 a2 path is went comes leaves = λ heard first from topic story stands there.
+      let push = pushed heard first from topic story n1 a1 stands (Opened path) in
+      linked_on heard first from topic story n1 a1 stands (Opened path) n2 a2 (record no_link { here = true }) true tt went (ap (λ (t : by.subject). by.standby_at t) (sym stands.about) ∙ is) (comes from (exchanges story) stands.link path stands.comes) (λ _. sym push) leaves (λ _. ap (λ (l : Link). l.here) push)
+
+  pub link_gave : (n1 n2 : N) (a1 a2 : A) (bytes : List ℕ) → net.did n1 (Linked (Gave bytes) ∷ []) n2 → ((from : by.origin) (xs : List (Exchange by.said R)) (link : Link) → by.comes from xs link a1 → by.comes from xs (link_after link (Gave bytes)) a2) → LeavesPlaces by.is_new by.over by.about by.count a1 a2 → KeepsLink net by true n1 a1 true n2 a2
+  link_gave n1 n2 a1 a2 bytes went comes leaves = λ heard first from topic story stands there.
+      let push = pushed heard first from topic story n1 a1 stands (Gave bytes) in
+      let same = stands.links (there refl) in
+      linked_on heard first from topic story n1 a1 stands (Gave bytes) n2 a2 (link_after stands.link (Gave bytes)) true (there refl) went tt (comes from (exchanges story) stands.link stands.comes) (λ _. ap (λ (l : Link). link_after l (Gave bytes)) same ∙ sym push) leaves (λ _. ap (λ (l : Link). l.here) push ∙ there refl)
+
+  pub link_took : (n1 n2 : N) (a1 a2 : A) (unsent : List ℕ) (count : ℕ) (kept : B) → net.did n1 (Linked (Took (take count unsent)) ∷ []) n2 → net.saw B n1 kept n2 → ((from : by.origin) (xs : List (Exchange by.said R)) (link : Link) → by.comes from xs link a1 → by.stands from xs kept) → ((from : by.origin) (xs : List (Exchange by.said R)) (link : Link) (many : ℕ) → by.comes from xs link a1 → (heard : Option ℕ) × by.leads from xs (link_after link (Took (take many unsent))) heard) → ((from : by.origin) (xs : List (Exchange by.said R)) (link : Link) → by.comes from xs link a1 → by.comes from xs (link_after link (Took (take count unsent))) a2) → LeavesPlaces by.is_new by.over by.about by.count a1 a2 → KeepsLink net by true n1 a1 true n2 a2
+  link_took n1 n2 a1 a2 unsent count kept went saw stand leads comes leaves = λ heard first from topic story stands there.
+      let push = pushed heard first from topic story n1 a1 stands (Took (take count unsent)) in
+      let same = stands.links (there refl) in
+      let leads_so = leads from (exchanges story) stands.link count stands.comes in
+      linked_on heard first from topic story n1 a1 stands (Took (take count unsent)) n2 a2 (link_after stands.link (Took (take count unsent))) true (there refl) went
+      (kept, saw, stand from (exchanges story) stands.link stands.comes, leads_so.0, subst (λ (l : Link). by.leads from (exchanges story) (link_after l (Took (take count unsent))) leads_so.0) same leads_so.1)
+      (comes from (exchanges story) stands.link stands.comes) (λ _. ap (λ (l : Link). link_after l (Took (take count unsent))) same ∙ sym push) leaves (λ _. ap (λ (l : Link). l.here) push ∙ there refl)
+
+  pub link_closed : (was : Bool) (n1 n2 : N) (by_now : A) → net.did n1 (Linked Closed ∷ []) n2 → KeepsLink net by was n1 by_now false n2 by_now
+  link_closed was n1 n2 by_now went = λ heard first from topic story stands there.
+      let push = pushed heard first from topic story n1 by_now stands Closed in
+      linked_on heard first from topic story n1 by_now stands Closed n2 by_now stands.link false tt went tt stands.comes (λ here. absurd (false≢true (sym (ap (λ (l : Link). l.here) push) ∙ here))) (leaves_same by_now) (λ here. absurd (false≢true here))
+
+  -- ---- with all seats and the link
+
+  sit_same : (Is : ℕ → ℕ → Life by.said R → SeatState → Type 0) (topic : by.subject) (heard : ℕ) (story later : List (Step by.said R)) (seats : List SeatState) → ((place : ℕ) → life place later ≡ life place story) → AllSit net by Is topic heard story seats → AllSit net by Is topic heard later seats
+  sit_same Is topic heard story later seats same all = record {
+    sit = λ place seat below. subst (λ (l : Life by.said R). Sits (by.text topic) heard l (slice_index_or seats place seat) (slice_index_or seats place seat).kept) (sym (same place)) (all.sit place seat below);
+    rest = λ place seat below. subst (λ (l : Life by.said R). Is place heard l (slice_index_or seats place seat)) (sym (same place)) (all.rest place seat below);
+    beyond = λ place past. ap (λ (l : Life by.said R). l.here) (same place) ∙ all.beyond place past;
+  }
+
+  pub host_link : (Is : ℕ → ℕ → Life by.said R → SeatState → Type 0) (was opened : Bool) (n1 n2 : N) (a1 a2 : A) (seats : List SeatState) (heard : ℕ) → KeepsLink net by was n1 a1 opened n2 a2 → KeepsHost net by Is Is (housed n1 a1 seats heard was) (housed n2 a2 seats heard opened)
+  host_link Is was opened n1 n2 a1 a2 seats heard keeps = λ first from topic story stands there all.
+      let one = keeps heard first from topic story stands there in
+      record { later = one.later; onward = one.onward; also = one.there; stands = one.stands; sit = sit_same Is topic heard story one.later seats one.same all }
+
+  -- and what is kept of them is the same
+  pub host_near : (Is : ℕ → ℕ → Life by.said R → SeatState → Type 0) (was opened : Bool) (n1 n2 : N) (a1 a2 : A) (seats1 seats2 : List SeatState) (heard1 heard2 : ℕ) → KeepsLink net by was n1 a1 opened n2 a2 → seats2 ≡ seats1 → heard2 ≡ heard1 → KeepsHost net by Is Is (housed n1 a1 seats1 heard1 was) (housed n2 a2 seats2 heard2 opened)
+  host_near Is was opened n1 n2 a1 a2 seats1 seats2 heard1 heard2 keeps seats heard =
+      subst (λ (s : List SeatState). KeepsHost net by Is Is (housed n1 a1 seats1 heard1 was) (housed n2 a2 s heard2 opened)) (sym seats)
+      (subst (λ (h : ℕ). KeepsHost net by Is Is (housed n1 a1 seats1 heard1 was) (housed n2 a2 seats1 h opened)) (sym heard)
+      (host_link Is was opened n1 n2 a1 a2 seats1 heard1 keeps))
+
+  -- a link that is said to be open otherwise
+  pub link_to : (was now other : Bool) (n1 n2 : N) (a1 a2 : A) → other ≡ now → KeepsLink net by was n1 a1 now n2 a2 → KeepsLink net by was n1 a1 other n2 a2
+  link_to was now other n1 n2 a1 a2 is keeps = subst (λ (o : Bool). KeepsLink net by was n1 a1 o n2 a2) (sym is) keeps
+
+  pub link_open : (opened : Bool) (n1 n2 : N) (a1 a2 : A) → opened ≡ true → KeepsLink net by true n1 a1 true n2 a2 → KeepsLink net by opened n1 a1 opened n2 a2
+  link_open opened n1 n2 a1 a2 is keeps = subst (λ (o : Bool). KeepsLink net by o n1 a1 o n2 a2) (sym is) keeps
+
+  pub host_all : (P Q : ℕ → ℕ → Life by.said R → SeatState → Type 0) (opened : Bool) (one two : Hall N A) → KeepsAll net by P Q one two → KeepsHost net by P Q (record { hall = one; opened = opened }) (record { hall = two; opened = opened })
+  host_all P Q opened one two keeps = λ first from topic story stands there all.
+      let on = keeps first from topic story stands all in
+      record { later = on.later; onward = on.onward; also = λ is. ap (λ (l : Link). l.here) on.also ∙ there is; stands = on.stands; sit = on.sit }
+
+  pub host_then : (P Q S : ℕ → ℕ → Life by.said R → SeatState → Type 0) (one two three : Host N A) → KeepsHost net by P Q one two → KeepsHost net by Q S two three → KeepsHost net by P S one three
+  host_then P Q S one two three begun more = λ first from topic story stands there sit.
+      let then = begun first from topic story stands there sit in
+      let last = more first from topic then.later then.stands then.also then.sit in
+      record { later = last.later; onward = onward_then story then.later last.later then.onward last.onward; also = last.also; stands = last.stands; sit = last.sit }
+
+  -- a host ends for a reason, after this
+  pub host_parts : (why : Parting) (P Q S : ℕ → ℕ → Life by.said R → SeatState → Type 0) (one two three : Host N A) → KeepsHost net by P Q one two → PartsHost net by why Q S two three → PartsHost net by why P S one three
+  host_parts why P Q S one two three begun more = λ first from topic story stands there sit.
+      let then = begun first from topic story stands there sit in
+      let last = more first from topic then.later then.stands then.also then.sit in
+      (record { later = last.0.later; onward = onward_then story then.later last.0.later then.onward last.0.onward; also = last.0.also; stands = last.0.stands; sit = last.0.sit }, last.1)
+
+  pub host_or_parts : (result : Option Parting) (P Q : ℕ → ℕ → Life by.said R → SeatState → Type 0) (one two three : Host N A) → KeepsHost net by P P one two → MatchOption result (KeepsHost net by P Q two three) (λ why. PartsHost net by why P Q two three) → MatchOption result (KeepsHost net by P Q one three) (λ why. PartsHost net by why P Q one three)
+  host_or_parts None P Q one two three begun more = host_then P P Q one two three begun more
+  host_or_parts (Some why) P Q one two three begun more = host_parts why P P Q one two three begun more
+
+  pub parts_keeps : (why : Parting) (P Q : ℕ → ℕ → Life by.said R → SeatState → Type 0) (one two : Host N A) → PartsHost net by why P Q one two → KeepsHost net by P Q one two
+  parts_keeps why P Q one two parts = λ first from topic story stands there sit. (parts first from topic story stands there sit).0
+
+  -- it was asked to
+  pub asked_parts : (P Q : ℕ → ℕ → Life by.said R → SeatState → Type 0) (one two : Host N A) → KeepsHost net by P Q one two → PartsHost net by parting.Asked P Q one two
+  asked_parts P Q one two keeps = λ first from topic story stands there sit. (keeps first from topic story stands there sit, tt)
+
+  -- a reason that its story shows for ever
+  abbrev Lasts : Parting → Type 0
+  Lasts parting.Asked = ⊤
+  Lasts parting.Told = ⊤
+  Lasts parting.Late = ⊤
+  Lasts (parting.Ahead count) = ⊥
+
+  parts_later : (why : Parting) (from : by.origin) (topic : by.subject) (story later : List (Step by.said R)) → Lasts why → IsPrefix story later → PartsFor (terms_of net by from topic) story why → PartsFor (terms_of net by from topic) later why
+  parts_later parting.Asked from topic story later lasts onward parts = tt
+  parts_later parting.Told from topic story later lasts onward parts = happened_on story onward.0 later Stopped onward.1 parts
+  parts_later parting.Late from topic story later lasts onward parts = (parts.0, happened_on story onward.0 later (Linked Late) onward.1 parts.1)
+  parts_later (parting.Ahead count) from topic story later lasts onward parts = absurd lasts
+
+  pub parts_then : (why : Parting) (P Q S : ℕ → ℕ → Life by.said R → SeatState → Type 0) (one two three : Host N A) → Lasts why → PartsHost net by why P Q one two → KeepsHost net by Q S two three → PartsHost net by why P S one three
+  parts_then why P Q S one two three lasts begun more = λ first from topic story stands there sit.
+      let then = begun first from topic story stands there sit in
+      let last = more first from topic then.0.later then.0.stands then.0.also then.0.sit in
+      (record { later = last.later; onward = onward_then story then.0.later last.later then.0.onward last.onward; also = last.also; stands = last.stands; sit = last.sit }, parts_later why from topic then.0.later last.later lasts last.onward then.1)
+
+  -- something was told to the host, which leaves all connections and the link
+  parts_told : (happening : Happening) (why : Parting) (Is : ℕ → ℕ → Life by.said R → SeatState → Type 0) (n1 n2 : N) (by_now : A) (seats : List SeatState) (heard : ℕ) (opened : Bool) → ((place : ℕ) (story : List (Step by.said R)) → life place (story ++ Happens happening ∷ []) ≡ life place story) → ((story : List (Step by.said R)) → link_in (story ++ Happens happening ∷ []) ≡ link_in story) → ((story : List (Step by.said R)) → MayHappen story happening) → ((from : by.origin) (topic : by.subject) (story : List (Step by.said R)) → IsKept (terms_of net by from topic) story n1 happening n2) → net.did n1 (happening ∷ []) n2 → ((from : by.origin) (topic : by.subject) (story : List (Step by.said R)) → by.about by_now ≡ topic → PartsFor (terms_of net by from topic) (story ++ Happens happening ∷ []) why) → PartsHost net by why Is Is (housed n1 by_now seats heard opened) (housed n2 by_now seats heard opened)
+  parts_told happening why Is n1 n2 by_now seats heard opened same links free kept went parts = λ first from topic story stands there all.
+      let later = story ++ Happens happening ∷ [] in (
+        record {
+          later = later;
+          onward = (Happens happening ∷ [], refl);
+          also = λ is. ap (λ (l : Link). l.here) (links story) ∙ there is;
+          stands = stands_on net by heard first from topic story n1 by_now stands happening n2 by_now stands.link (free story) went (kept from topic story)
+              (λ place. subst (λ (h : ℕ). IsServed (by.text topic) h (life place later)) (sym (bound-happens story happening)) (subst (IsServed (by.text topic) (bound_in story)) (sym (same place story)) (before net by heard first from topic story n1 by_now stands place)))
+              stands.comes (λ is. stands.links (ap (λ (l : Link). l.here) (sym (links story)) ∙ is) ∙ sym (links story)) stands.about refl
+              (λ place. subst (λ (l : Life by.said R). l.here ≡ true → by.is_new by_now place ≡ is_empty l.own) (sym (same place story)) (stands.knows place));
+          sit = sit_same Is topic heard story later seats (λ place. same place story) all;
+        },
+        parts from topic story stands.about,
+      )
+
+  -- the host was told to stop
+  pub parts_stopped : (Is : ℕ → ℕ → Life by.said R → SeatState → Type 0) (n1 n2 : N) (by_now : A) (seats : List SeatState) (heard : ℕ) (opened : Bool) → net.did n1 (Stopped ∷ []) n2 → PartsHost net by parting.Told Is Is (housed n1 by_now seats heard opened) (housed n2 by_now seats heard opened)
+  parts_stopped Is n1 n2 by_now seats heard opened went = parts_told Stopped parting.Told Is n1 n2 by_now seats heard opened (λ place story. life-stopped place story) (λ story. link-push story (Happens Stopped)) (λ story. tt) (λ from topic story. tt) went (λ from topic story about. happened_now story Stopped)
+
+  -- nothing was heard of the standby, and it may not go on alone
+  pub parts_late : (Is : ℕ → ℕ → Life by.said R → SeatState → Type 0) (n1 n2 : N) (by_now : A) (seats : List SeatState) (heard : ℕ) (opened : Bool) → by.goes_alone (by.about by_now) ≡ false → net.did n1 (Linked Late ∷ []) n2 → PartsHost net by parting.Late Is Is (housed n1 by_now seats heard opened) (housed n2 by_now seats heard opened)
+  parts_late Is n1 n2 by_now seats heard opened may_not went = parts_told (Linked Late) parting.Late Is n1 n2 by_now seats heard opened (λ place story. life-linked place Late story) (λ story. link-push story (Happens (Linked Late))) (λ story. tt) (λ from topic story. tt) went (λ from topic story about. (ap (λ (t : by.subject). by.goes_alone t) (sym about) ∙ may_not, happened_now story (Linked Late)))
+
+  -- and it may, or has no more to do
+  pub host_late : (Is : ℕ → ℕ → Life by.said R → SeatState → Type 0) (n1 n2 : N) (by_now : A) (seats : List SeatState) (heard : ℕ) (opened : Bool) → net.did n1 (Linked Late ∷ []) n2 → KeepsHost net by Is Is (housed n1 by_now seats heard opened) (housed n2 by_now seats heard opened)
+  host_late Is n1 n2 by_now seats heard opened went = parts_keeps parting.Asked Is Is (housed n1 by_now seats heard opened) (housed n2 by_now seats heard opened)
+      (parts_told (Linked Late) parting.Asked Is n1 n2 by_now seats heard opened (λ place story. life-linked place Late story) (λ story. link-push story (Happens (Linked Late))) (λ story. tt) (λ from topic story. tt) went (λ from topic story about. tt))
+
+  -- the standby has more entries than the host
+  pub parts_ahead : (Is : ℕ → ℕ → Life by.said R → SeatState → Type 0) (count : ℕ) (network : N) (by_now : A) (seats : List SeatState) (heard : ℕ) (opened : Bool) → opened ≡ true → ((from : by.origin) (xs : List (Exchange by.said R)) (link : Link) → by.comes from xs link by_now → by.is_ahead from xs link count) → PartsHost net by (parting.Ahead count) Is Is (housed network by_now seats heard opened) (housed network by_now seats heard opened)
+  parts_ahead Is count network by_now seats heard opened is ahead = λ first from topic story stands there all. (
+    record { later = story; onward = onward_same story; also = there; stands = stands; sit = all },
+    subst (λ (l : Link). by.is_ahead from (exchanges story) l count) (stands.links (there is)) (ahead from (exchanges story) stands.link stands.comes),
+  )
+
+  -- replies are held otherwise from now on
+  host_held : (Was : ℕ → ℕ → Life by.said R → SeatState → Type 0) (hold : Hold) (was now : ℕ) (network : N) (by_now : A) (seats : List SeatState) (opened : Bool) → ((place : ℕ) (life : Life by.said R) (seat : SeatState) → Was place was life seat → Gone life seat) → bound_of hold ≡ now → (now ≡ bound_of Alone → hold ≡ Alone) → ((first : N) (from : by.origin) (topic : by.subject) (story : List (Step by.said R)) → Stands net by first from topic story was network by_now → IsOpen net by opened story → MayHold (terms_of net by from topic) story hold × ((was ≤ now) ⊎ All (λ (x : Exchange by.said R). x.needs ≤ now) (exchanges story))) → KeepsHost net by Was (FreedBelow 0) (housed network by_now seats was opened) (housed network by_now seats now opened)
+  host_held Was hold was now network by_now seats opened gone is alone may = λ first from topic story stands there all.
+      let later = story ++ HoldsSo hold ∷ [] in
+      let how = may first from topic story stands there in
+      let own : (place : ℕ) → (was ≤ now) ⊎ All (λ (x : Exchange by.said R). x.needs ≤ now) (life place story).own = λ place. ⊎_elim (λ less. inl less) (λ many. inr (own_on (λ (x : Exchange by.said R). x.needs ≤ now) place nobody story (All-nil (λ (x : Exchange by.said R). x.needs ≤ now)) many)) how.1 in
+      let push : link_in later ≡ link_in story = link-push story (HoldsSo hold) in
+      record {
+        later = later;
+        onward = (HoldsSo hold ∷ [], refl);
+        also = λ open_now. ap (λ (l : Link). l.here) push ∙ there open_now;
+        stands = record {
+          hosts = is_held hold stands.hosts how.0 (served_holds (terms_of net by from topic) hold story (λ place. subst (λ (h : ℕ). IsServed (by.text topic) h (life place story)) (sym is) (served_held (by.text topic) was now (life place story) (own place) (served_here net by was first from topic story network by_now stands place))));
+          link = stands.link;
+          comes = subst (λ (xs : List (Exchange by.said R)). by.comes from xs stands.link by_now) (sym (exchanges-holds story hold)) stands.comes;
+          links = λ here. stands.links (ap (λ (l : Link). l.here) (sym push) ∙ here) ∙ sym push;
+          about = stands.about;
+          hears = bound-holds story hold ∙ is;
+          alone = λ most. hold-push story (HoldsSo hold) ∙ alone most;
+          within = subst (All (λ (x : Exchange by.said R). x.needs ≤ by.count by_now)) (sym (exchanges-holds story hold)) stands.within;
+          knows = λ place. subst (λ (l : Life by.said R). l.here ≡ true → by.is_new by_now place ≡ is_empty l.own) (sym (life-holds place hold story)) (stands.knows place);
+        };
+        sit = record {
+          sit = λ place seat below kept. subst (λ (l : Life by.said R). Exact (by.text topic) now l (slice_index_or seats place seat) (slice_index_or seats place seat).kept) (sym (life-holds place hold story)) (exact_held (by.text topic) was now (life place story) (slice_index_or seats place seat) (slice_index_or seats place seat).kept (own place) (all.sit place seat below kept));
+          rest = λ place seat below. (λ lost. ap (λ (l : Life by.said R). l.here) (life-holds place hold story) ∙ gone place (life place story) (slice_index_or seats place seat) (all.rest place seat below) lost, λ none. absurd (omega (arith, none)));
+          beyond = λ place past. ap (λ (l : Life by.said R). l.here) (life-holds place hold story) ∙ all.beyond place past;
+        };
+      }
+
+  -- a standby is heard to have more than before, or all that there is
+  pub host_joins : (Was : ℕ → ℕ → Life by.said R → SeatState → Type 0) (was count : ℕ) (network : N) (by_now : A) (seats : List SeatState) (opened : Bool) → ((place : ℕ) (life : Life by.said R) (seat : SeatState) → Was place was life seat → Gone life seat) → opened ≡ true → count < bound_of Alone → (was < count) ⊎ ((was ≡ bound_of Alone) × (by.count by_now ≤ count)) → ((from : by.origin) (xs : List (Exchange by.said R)) (link : Link) → by.comes from xs link by_now → by.leads from xs link (Some count)) → KeepsHost net by Was (FreedBelow 0) (housed network by_now seats was opened) (housed network by_now seats count opened)
+  host_joins Was was count network by_now seats opened gone is less joins leads = host_held Was (Upto count) was count network by_now seats opened gone refl (λ most. absurd (omega (arith, most, less))) (λ first from topic story stands there.
+      let leads_so = subst (λ (l : Link). by.leads from (exchanges story) l (Some count)) (stands.links (there is)) (leads from (exchanges story) stands.link stands.comes) in
+      ⊎_elim
+      (λ more. ((leads_so, joins_more (hold_in story) was count (exchanges story) stands.hears more less), inl (omega (arith, more))))
+      (λ alone.
+      let all : All (λ (x : Exchange by.said R). x.needs ≤ count) (exchanges story) = All-weaker (λ (x : Exchange by.said R). x.needs ≤ by.count by_now) (λ (x : Exchange by.said R). x.needs ≤ count) (λ x within. omega (arith, within, alone.1)) (exchanges story) stands.within in
+      ((leads_so, subst (λ (h : Hold). Joins h count (exchanges story)) (sym (stands.alone alone.0)) all), inr all))
+      joins)
+
+  -- the host goes on alone
+  pub host_alone : (Was : ℕ → ℕ → Life by.said R → SeatState → Type 0) (was : ℕ) (network : N) (by_now : A) (seats : List SeatState) (opened : Bool) → ((place : ℕ) (life : Life by.said R) (seat : SeatState) → Was place was life seat → Gone life seat) → was ≤ bound_of Alone → by.goes_alone (by.about by_now) ≡ true → KeepsHost net by Was (FreedBelow 0) (housed network by_now seats was opened) (housed network by_now seats (bound_of Alone) opened)
+  host_alone Was was network by_now seats opened gone less may = host_held Was Alone was (bound_of Alone) network by_now seats opened gone refl (λ most. refl) (λ first from topic story stands there. (ap (λ (t : by.subject). by.goes_alone t) (sym stands.about) ∙ may, inl less))
+
+  -- how connections are between rounds
+  pub round_gone : (ended : Bool) (place heard : ℕ) (life : Life by.said R) (seat : SeatState) → InRound ended place heard life seat → Gone life seat
+  round_gone false place heard life seat so = so.gone
+  round_gone true place heard life seat so = so.gone
+
+  pub finished_round : (ended : Bool) (place heard : ℕ) (life : Life by.said R) (seat : SeatState) → Finished true heard life seat → InRound ended place heard life seat
+  finished_round false place heard life seat so = finished_rest net by heard true life seat so
+  finished_round true place heard life seat so = so
+
+  -- all that may be sent is sent, now that replies are held otherwise, which is told
+  pub host_freed : (ended : Bool) (heard : ℕ) (n1 n2 : N) (a1 a2 a3 : A) (seats freed : List SeatState) (opened : Bool) → ((from : by.origin) (xs : List (Exchange by.said R)) (link : Link) → by.comes from xs link a1 → by.comes from xs link a2) → LeavesPlaces by.is_new by.over by.about by.count a1 a2 → KeepsAll net by (FreedBelow 0) (AllFinished true) (hall n1 a2 seats heard) (hall n2 a3 freed heard) → KeepsHost net by (FreedBelow 0) (InRound ended) (housed n1 a1 seats heard opened) (housed n2 a3 freed heard opened)
+  host_freed ended heard n1 n2 a1 a2 a3 seats freed opened comes leaves keeps =
+      let first = housed n1 a1 seats heard opened in
+      let told = housed n1 a2 seats heard opened in
+      let last = housed n2 a3 freed heard opened in
+      host_then (FreedBelow 0) (FreedBelow 0) (InRound ended) first told last
+      (host_link (FreedBelow 0) opened opened n1 n1 a1 a2 seats heard (link_by opened n1 a1 a2 comes leaves))
+      (host_then (FreedBelow 0) (AllFinished true) (InRound ended) told last last
+      (host_all (FreedBelow 0) (AllFinished true) opened told.hall last.hall keeps)
+      (host_all (AllFinished true) (InRound ended) opened last.hall last.hall (all_weaker net by heard (AllFinished true) (InRound ended) n2 a3 freed (λ place life seat below so. finished_round ended place heard life seat so))))
+
+  pub parts_told_ahead : (Is : ℕ → ℕ → Life by.said R → SeatState → Type 0) (result : Option ℕ) (network : N) (by_now : A) (seats : List SeatState) (heard : ℕ) (opened : Bool) → opened ≡ true → ((from : by.origin) (xs : List (Exchange by.said R)) (link : Link) → by.comes from xs link by_now → IfSome result (λ count. by.is_ahead from xs link count)) → IfSome result (λ count. PartsHost net by (parting.Ahead count) Is Is (housed network by_now seats heard opened) (housed network by_now seats heard opened))
+  parts_told_ahead Is None network by_now seats heard opened is ahead = tt
+  parts_told_ahead Is (Some count) network by_now seats heard opened is ahead = parts_ahead Is count network by_now seats heard opened is ahead
+
+  -- connections that are finished are at rest
+  pub host_rests : (one two : Host N A) → KeepsHost net by Resting (AllFinished true) one two → KeepsHost net by Resting Resting one two
+  host_rests one two keeps = host_then Resting (AllFinished true) Resting one two two keeps
+      (host_all (AllFinished true) Resting two.opened two.hall two.hall (all_weaker net by two.hall.heard (AllFinished true) Resting two.hall.network two.hall.by two.hall.seats (λ place life seat below so. finished_rest net by two.hall.heard true life seat so)))
+
+  -- places of which there is none yet
+  pub host_first : (network : N) (by_now : A) (seats : List SeatState) (heard : ℕ) (opened : Bool) (now : Host N A) → seats ≡ [] → heard ≡ 0 → opened ≡ false → KeepsHost net by Resting Resting (housed network by_now seats heard opened) now → KeepsHost net by Resting Resting (housed network by_now [] 0 false) now
+  host_first network by_now seats heard opened now none zero closed keeps =
+      subst (λ (s : List SeatState). KeepsHost net by Resting Resting (housed network by_now s 0 false) now) none
+      (subst (λ (h : ℕ). KeepsHost net by Resting Resting (housed network by_now seats h false) now) zero
+      (subst (λ (o : Bool). KeepsHost net by Resting Resting (housed network by_now seats heard o) now) closed keeps))
 
   settled : (ended : Bool) (heard : ℕ) (topic : by.subject) (story : List (Step by.said R)) (seats : List SeatState) → AllSit net by (AllFinished ended) topic heard story seats → (place : ℕ) → IsSettled (by.text topic) heard ended (life place story)
   settled ended heard topic story seats all place = ⊎_elim
@@ -655,21 +903,14 @@ module _ {N A R B : Type 0} (net : ConnectionsGhosts N) (by : Ghosts A R B) wher
       (cases_lt place (length seats))
 
   -- a whole run
-  module _ (heard : ℕ) (first last : N) (old now : A) (seats : List SeatState) (from : by.origin) (comes : by.comes from [] old) where
-    abbrev Ends : Type 0
-    Ends = GoesOn net by (AllFinished (by.ends now)) first from (by.about old) [] (hall last now seats heard)
-
+  module _ (heard : ℕ) (opened : Bool) (first last : N) (old now : A) (seats : List SeatState) (from : by.origin) (comes : by.comes from [] no_link old) where
     begins : Stands net by first from (by.about old) [] 0 first old
-    begins = record { hosts = began; comes = comes; about = refl; hears = refl; knows = λ place here. absurd (false≢true here) }
+    begins = record { hosts = began; link = no_link; comes = comes; links = λ here. refl; about = refl; hears = refl; alone = λ is. absurd (omega (arith, is)); within = All-nil (λ (x : Exchange by.said R). x.needs ≤ by.count old); knows = λ place here. absurd (false≢true here) }
 
     none_sits : AllSit net by Resting (by.about old) 0 [] []
     none_sits = record { sit = λ place seat below. absurd (omega (arith, below)); rest = λ place seat below. absurd (omega (arith, below)); beyond = λ place past. refl }
 
-    whole : (end : Ends) → (by.ends now ≡ false → IsStopped end.later) → IsHosted (terms_of net by from (by.about old)) (λ xs. by.comes from xs now) (by.ends now) first last
-    whole end stopped = record { story = end.later; hosts = end.stands.hosts; comes_to = end.stands.comes; settled = λ place. subst (λ (h : ℕ). IsSettled (by.text (by.about old)) h (by.ends now) (life place end.later)) (sym end.stands.hears) (settled (by.ends now) heard (by.about old) end.later seats end.sit place); stopped = stopped }
-
-    pub hosted : KeepsAll net by Resting (AllFinished (by.ends now)) (hall first old [] 0) (hall last now seats heard) → (by.ends now ≡ false → StopsAll net by Resting (AllFinished (by.ends now)) (hall first old [] 0) (hall last now seats heard)) → IsHosted (terms_of net by from (by.about old)) (λ xs. by.comes from xs now) (by.ends now) first last
-    hosted keeps stops = ⊎_elim
-        (λ yes. whole (keeps first from (by.about old) [] begins none_sits) (λ no. absurd (false≢true (sym no ∙ yes))))
-        (λ no. let end = stops no first from (by.about old) [] begins none_sits in whole end.0 (λ _. end.1))
-        (cases_Bool (by.ends now))
+    pub hosted : (why : Parting) → PartsHost net by why Resting (AllFinished (leaves_lines why)) (housed first old [] 0 false) (housed last now seats heard opened) → IsHosted (terms_of net by from (by.about old)) (λ xs. (link : Link) × by.comes from xs link now) why first last
+    hosted why parts =
+        let end = parts first from (by.about old) [] begins (λ no. absurd (false≢true no)) none_sits in
+        record { story = end.0.later; hosts = end.0.stands.hosts; comes_to = (end.0.stands.link, end.0.stands.comes); settled = λ place. subst (λ (h : ℕ). IsSettled (by.text (by.about old)) h (leaves_lines why) (life place end.0.later)) (sym end.0.stands.hears) (settled (leaves_lines why) heard (by.about old) end.0.later seats end.0.sit place); parts = end.1 }

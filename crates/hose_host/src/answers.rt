@@ -1,15 +1,18 @@
 // Who answers the lines of many connections.
-ghost use Rattle.std.specs.Prelude.{◌≡◌, ◌≢◌, ℕ, List, Bool, true, false, IfOk};
+ghost use Rattle.std.specs.Prelude.{◌≡◌, ◌≢◌, ◌≤◌, ℕ, List, Bool, Option, Some, true, false, drop, length, option_map, take, IfOk, IfSome};
 ghost use Rattle.hose_io.specs.steps.Writing.{IsPut};
-ghost use Rattle.hose_net.specs.Story.{Exchange};
-ghost use Rattle.hose_host.specs.steps.Answering.{AnswersAt};
+ghost use Rattle.hose_net.specs.Happening.{Gave, Opened, Took};
+ghost use Rattle.hose_net.specs.Story.{Exchange, Link, link_after};
+ghost use Rattle.hose_host.specs.steps.Answering.{AnswersAt, LeavesPlaces, LeavesOthers};
 
 use hose_io::{Failed, Sink};
+use hose_net::Hold;
 use hose_words::Line;
 use std::alloc::AllocError;
 
 /// Who answers the lines of many connections, one after the other. Each connection has a place, and
-/// what is known of it is kept here.
+/// what is known of it is kept here; and so is what is known of the link to a standby, where
+/// replies wait for one.
 pub trait HostAnswers {
     /// What is answered to a line.
     type Reply: Drop;
@@ -32,14 +35,29 @@ pub trait HostAnswers {
     /// The text of a reply.
     ghost text: { subject → Self.Reply → List ℕ };
 
+    /// The path of the standby's Unix socket, if there is a standby.
+    ghost standby_at: { subject → Option (List ℕ) };
+
+    /// Replies are told where the standby is gone, or there is none.
+    ghost goes_alone: { subject → Bool };
+
     /// Where the exchanges begin, as a history.
     ghost origin: { Type 0 };
 
-    /// What all exchanges, of all connections, have come to from there on.
-    ghost comes: { origin → List (Exchange said Self.Reply) → Self → Type 0 };
+    /// What all exchanges, of all connections, and the link to the standby have come to from there
+    /// on.
+    ghost comes: { origin → List (Exchange said Self.Reply) → Link → Self → Type 0 };
 
     /// The lines that were answered stand in what is kept.
     ghost stands: { origin → List (Exchange said Self.Reply) → Self.Kept → Type 0 };
+
+    /// Where these lines were answered, what was sent at a link is what a standby is sent, and by
+    /// what the link gave it is heard to have so many entries.
+    ghost leads: { origin → List (Exchange said Self.Reply) → Link → Option ℕ → Type 0 };
+
+    /// Where these lines were answered, the standby told at a link that it has so many entries,
+    /// which are more than there are.
+    ghost is_ahead: { origin → List (Exchange said Self.Reply) → Link → ℕ → Type 0 };
 
     /// What holds of it before each call.
     ghost fits: { Self → Type 0 };
@@ -59,17 +77,18 @@ pub trait HostAnswers {
     /// How many entries stand.
     ghost count: { Self → ℕ };
 
+    /// What is to be sent to the standby next.
+    ghost unsent: { Self → List ℕ };
+
     /// Someone may come to this door, and will be at this place, where no one is.
     fn begin(&mut self, door: usize, place: usize) -> Result<(), AllocError>
         requires { fits self.old }
         ensures fits { fits self.new }
         ensures begins { IfOk result
             (λ _. (is_new self.new place ≡ true) × (over self.new place ≡ false)) }
-        ensures others { (other : ℕ) → other ≢ place
-            → (is_new self.new other ≡ is_new self.old other)
-            × (over self.new other ≡ over self.old other) }
-        ensures comes { (from : origin) (exchanges : List (Exchange said Self.Reply))
-            → comes from exchanges self.old → comes from exchanges self.new }
+        ensures others { LeavesOthers is_new over place self.old self.new }
+        ensures comes { (from : origin) (exchanges : List (Exchange said Self.Reply)) (link : Link)
+            → comes from exchanges link self.old → comes from exchanges link self.new }
         ensures about { about self.new ≡ about self.old }
         ensures ends { ends self.new ≡ ends self.old }
         ensures count { count self.new ≡ count self.old };
@@ -78,11 +97,9 @@ pub trait HostAnswers {
     fn leave(&mut self, place: usize)
         requires { fits self.old }
         ensures fits { fits self.new }
-        ensures others { (other : ℕ) → other ≢ place
-            → (is_new self.new other ≡ is_new self.old other)
-            × (over self.new other ≡ over self.old other) }
-        ensures comes { (from : origin) (exchanges : List (Exchange said Self.Reply))
-            → comes from exchanges self.old → comes from exchanges self.new }
+        ensures others { LeavesOthers is_new over place self.old self.new }
+        ensures comes { (from : origin) (exchanges : List (Exchange said Self.Reply)) (link : Link)
+            → comes from exchanges link self.old → comes from exchanges link self.new }
         ensures about { about self.new ≡ about self.old }
         ensures ends { ends self.new ≡ ends self.old }
         ensures count { count self.new ≡ count self.old };
@@ -93,14 +110,14 @@ pub trait HostAnswers {
         requires open { over self.old place ≡ false }
         requires goes_on { ends self.old ≡ false }
         ensures fits { fits self.new }
-        ensures answers { (from : origin) → AnswersAt (comes from) (says (about self.old)) place
+        ensures answers { (from : origin) (link : Link) → AnswersAt
+            (λ exchanges. comes from exchanges link) (says (about self.old)) place
             door line.entry (is_new self.old place) (count self.new) self.old self.new result }
         ensures known { is_new self.new place ≡ false }
-        ensures others { (other : ℕ) → other ≢ place
-            → (is_new self.new other ≡ is_new self.old other)
-            × (over self.new other ≡ over self.old other) }
+        ensures others { LeavesOthers is_new over place self.old self.new }
         ensures can_put { can_put self.new result }
-        ensures about { about self.new ≡ about self.old };
+        ensures about { about self.new ≡ about self.old }
+        ensures rises { count self.old ≤ count self.new };
 
     /// Puts the text of a reply out.
     fn put<O: Sink>(&self, output: &mut O, reply: &Self::Reply) -> Result<(), Failed>
@@ -109,8 +126,8 @@ pub trait HostAnswers {
 
     /// What is kept: all lines that were answered stand there.
     fn kept(&self) -> &Self::Kept
-        ensures { (from : origin) (exchanges : List (Exchange said Self.Reply))
-            → comes from exchanges self.now → stands from exchanges result.now };
+        ensures { (from : origin) (exchanges : List (Exchange said Self.Reply)) (link : Link)
+            → comes from exchanges link self.now → stands from exchanges result.now };
 
     /// How many entries stand.
     fn counted(&self) -> u64
@@ -123,4 +140,89 @@ pub trait HostAnswers {
     /// No line of anyone is answered any more.
     fn is_ending(&self) -> bool
         ensures { result ≡ ends self.now };
+
+    /// The path of the standby's Unix socket, if there is a standby.
+    fn standby(&self) -> Option<&str>
+        ensures { option_map (λ path. path.now) result ≡ standby_at (about self.now) };
+
+    /// Whether replies are told where the standby is gone, or there is none.
+    fn may_go_alone(&self) -> bool
+        ensures { result ≡ goes_alone (about self.now) };
+
+    /// For how many seconds nothing may be heard of the standby. The first number bounds how long a
+    /// link that was just opened may take to its first answer.
+    fn patience(&self) -> (u64, u64);
+
+    /// A link to the standby was opened.
+    fn link_opened(&mut self)
+        requires { fits self.old }
+        ensures fits { fits self.new }
+        ensures comes { (from : origin) (exchanges : List (Exchange said Self.Reply)) (link : Link)
+            (path : List ℕ) → comes from exchanges link self.old
+            → comes from exchanges (link_after link (Opened path)) self.new }
+        ensures ends { ends self.new ≡ ends self.old }
+        ensures leaves { LeavesPlaces is_new over about count self.old self.new };
+
+    /// Takes in bytes that the link gave.
+    fn take_in(&mut self, bytes: &[u8])
+        requires { fits self.old }
+        ensures fits { fits self.new }
+        ensures comes { (from : origin) (exchanges : List (Exchange said Self.Reply)) (link : Link)
+            → comes from exchanges link self.old
+            → comes from exchanges (link_after link (Gave bytes.now)) self.new }
+        ensures ends { ends self.new ≡ ends self.old }
+        ensures leaves { LeavesPlaces is_new over about count self.old self.new };
+
+    /// Gathers what is to be sent to the standby next. Where `asks`, it is asked for a sign of
+    /// life.
+    fn gather(&mut self, asks: bool)
+        requires { fits self.old }
+        ensures fits { fits self.new }
+        ensures comes { (from : origin) (exchanges : List (Exchange said Self.Reply)) (link : Link)
+            → comes from exchanges link self.old → comes from exchanges link self.new }
+        ensures ends { ends self.new ≡ ends self.old }
+        ensures leaves { LeavesPlaces is_new over about count self.old self.new };
+
+    /// What is to be sent to the standby next.
+    fn unsent(&self) -> &[u8]
+        ensures is { result.now ≡ unsent self.now }
+        ensures leads { (from : origin) (exchanges : List (Exchange said Self.Reply)) (link : Link)
+            (many : ℕ) → comes from exchanges link self.now → (heard : Option ℕ)
+            × leads from exchanges (link_after link (Took (take many result.now))) heard };
+
+    /// So many bytes of it were sent.
+    fn was_sent(&mut self, sent: usize)
+        requires fits { fits self.old }
+        requires within { sent ≤ length (unsent self.old) }
+        ensures fits { fits self.new }
+        ensures unsent { unsent self.new ≡ drop sent (unsent self.old) }
+        ensures comes { (from : origin) (exchanges : List (Exchange said Self.Reply)) (link : Link)
+            → comes from exchanges link self.old → comes from exchanges
+            (link_after link (Took (take sent (unsent self.old)))) self.new }
+        ensures ends { ends self.new ≡ ends self.old }
+        ensures leaves { LeavesPlaces is_new over about count self.old self.new };
+
+    /// How many entries the standby is heard to have, by the link.
+    fn heard(&self) -> Option<u64>
+        ensures { (from : origin) (exchanges : List (Exchange said Self.Reply)) (link : Link)
+            → comes from exchanges link self.now
+            → IfSome result (λ many. leads from exchanges link (Some many)) };
+
+    /// How many entries the standby told to have, where they are more than there are.
+    fn ahead(&self) -> Option<u64>
+        ensures { (from : origin) (exchanges : List (Exchange said Self.Reply)) (link : Link)
+            → comes from exchanges link self.now
+            → IfSome result (is_ahead from exchanges link) };
+
+    /// Whether the link is of no use any more, by what it gave, and is to be closed.
+    fn is_link_over(&self) -> bool;
+
+    /// Tells a log how replies are held from now on.
+    fn tell_hold(&mut self, hold: Hold)
+        requires { fits self.old }
+        ensures fits { fits self.new }
+        ensures comes { (from : origin) (exchanges : List (Exchange said Self.Reply)) (link : Link)
+            → comes from exchanges link self.old → comes from exchanges link self.new }
+        ensures ends { ends self.new ≡ ends self.old }
+        ensures leaves { LeavesPlaces is_new over about count self.old self.new };
 }

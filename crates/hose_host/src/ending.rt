@@ -1,18 +1,105 @@
 // How a host ends.
 ghost use Rattle.std.specs.Bool.{MatchBool};
-ghost use Rattle.std.specs.Prelude.{◌≡◌, ◌≢◌, ◌↔◌, ◌<◌, ◌≤◌, ◌+◌, ℕ, List, [], ◌∷◌, ◌++◌, true, false, drop, length, max, IfSome, IsTrue, MatchOption};
-ghost use Rattle.hose_net.specs.Story.{IsHosted};
-ghost use Rattle.hose_host.specs.steps.Keeping.{Keeps, KeepsAll, at, hall, terms_of};
-ghost use Rattle.hose_host.specs.steps.Seats.{AllFinished, Anyhow, AtRest, Calm, Finished, FinishedBelow, Freed, FreedBelow, Gone, GrowsByLost, IsSaid, Keeping, Quiet, Resting};
+ghost use Rattle.std.specs.Prelude.{◌≡◌, ◌+◌, ℕ, [], true, false, length, IfSome, MatchOption};
+ghost use Rattle.hose_net.specs.Story.{leaves_lines};
+ghost use Rattle.hose_net.specs.declared.hold.Parting.TheVariants.{Asked, Told};
+ghost use Rattle.hose_host.specs.steps.Keeping.{Host, Keeps, KeepsAll, KeepsHost, PartsHost, at, hall, host_of};
+ghost use Rattle.hose_host.specs.steps.Seats.{AllFinished, AtRest, Finished, FinishedBelow, Resting};
 
-use crate::hosting::greater;
+use crate::linking::{bring, go_alone, listen, pass_second, told_ahead};
 use crate::sending::{free_all, leave, let_go, send};
 use crate::serving::take_kept;
 use crate::{HostAnswers, Places, Seat};
-use hose_net::{Connections, Ready};
+use hose_net::{Connections, Parting, Ready};
 
 /// How many times at most the network is asked at the end who takes more of what is to be sent.
 pub const LAST_ROUNDS: usize = 1_000_000;
+
+// Ends a host for this reason: what may be sent is sent to those who take it. It says why it ended,
+// or, where the standby is not there any more that had more entries, nothing.
+pub fn end<N: Connections, A: HostAnswers>(
+    network: &mut N,
+    answers: &mut A,
+    places: &mut Places,
+    piece: &mut [u8],
+    why: Parting,
+) -> Option<Parting>
+    requires fits { A.fits answers.old }
+    requires asked { why ≡ Asked → A.ends answers.old ≡ true }
+    ensures keeps { (first : Host N A) → PartsHost N.Connections A.HostAnswers why Resting Resting
+        first (host_of network.old answers.old places.old) → MatchOption result
+        (KeepsHost N.Connections A.HostAnswers Resting Resting
+        first (host_of network.new answers.new places.new))
+        (λ now. PartsHost N.Connections A.HostAnswers now Resting (AllFinished (leaves_lines now))
+        first (host_of network.new answers.new places.new)) }
+    ensures asked { IfSome result (λ now. now ≡ Asked → A.ends answers.new ≡ true) }
+    ensures told { IfSome result (λ now. now ≡ Told → A.ends answers.new ≡ false) }
+    ensures fits { A.fits answers.new }
+{
+    match why {
+        Parting::Asked => {
+            finish(network, answers, places, piece);
+            Some(Parting::Asked)
+        }
+        Parting::Told => {
+            finish(network, answers, places, piece);
+            if answers.is_ending() {
+                return Some(Parting::Asked);
+            }
+            Some(Parting::Told)
+        }
+        Parting::Late => {
+            write_all(network, answers, places, piece);
+            Some(Parting::Late)
+        }
+        Parting::Ahead(_) => {
+            write_all(network, answers, places, piece);
+            let Some(count) = told_ahead(network, answers, places) else {
+                return None;
+            };
+            Some(Parting::Ahead(count))
+        }
+    }
+}
+
+// Answers all whole lines that were got, unless no line is answered any more, and sends what is to
+// be sent to those who take it.
+fn finish<N: Connections, A: HostAnswers>(
+    network: &mut N,
+    answers: &mut A,
+    places: &mut Places,
+    piece: &mut [u8],
+)
+    requires { A.fits answers.old }
+    ensures keeps { KeepsHost N.Connections A.HostAnswers Resting (AllFinished (A.ends answers.new))
+        (host_of network.old answers.old places.old) (host_of network.new answers.new places.new) }
+    ensures ends { A.ends answers.new ≡ false → A.ends answers.old ≡ false }
+    ensures fits { A.fits answers.new }
+{
+    let heard = places.heard;
+    finish_all(network, answers, &mut places.seats, &mut places.free, heard);
+    bring(network, answers, places);
+    if answers.is_ending() {
+        write_out(network, answers, places, piece);
+    }
+}
+
+// Sends what may be sent to those who take it; no line is answered any more.
+fn write_all<N: Connections, A: HostAnswers>(
+    network: &mut N,
+    answers: &mut A,
+    places: &mut Places,
+    piece: &mut [u8],
+)
+    requires { A.fits answers.old }
+    ensures keeps { KeepsHost N.Connections A.HostAnswers Resting (AllFinished true)
+        (host_of network.old answers.old places.old) (host_of network.new answers.new places.new) }
+    ensures fits { A.fits answers.new }
+{
+    let heard = places.heard;
+    free_all(network, answers, &mut places.seats, &mut places.free, heard);
+    write_out(network, answers, places, piece);
+}
 
 // Answers all whole lines that were got, at all places, unless no line is answered any more.
 pub fn finish_all<N: Connections, A: HostAnswers>(
@@ -98,29 +185,37 @@ fn is_finished<A: HostAnswers>(answers: &A, seat: &Seat) -> bool
 }
 
 // Sends what is to be sent to those who take it, while the network tells who does.
-pub fn write_out<N: Connections, A: HostAnswers>(
+fn write_out<N: Connections, A: HostAnswers>(
     network: &mut N,
     answers: &mut A,
     places: &mut Places,
+    piece: &mut [u8],
 )
     requires { A.fits answers.old }
-    ensures keeps { KeepsAll N.Connections A.HostAnswers (AllFinished true) (AllFinished true)
-        (hall network.old answers.old places.old.seats.items places.old.heard)
-        (hall network.new answers.new places.new.seats.items places.new.heard) }
+    ensures keeps { KeepsHost N.Connections A.HostAnswers (AllFinished true) (AllFinished true)
+        (host_of network.old answers.old places.old) (host_of network.new answers.new places.new) }
     ensures ends { A.ends answers.new ≡ A.ends answers.old }
     ensures fits { A.fits answers.new }
 {
     network.end_soon();
+    let mut heard = places.heard;
     let mut out = 0;
     for _ in 0..LAST_ROUNDS {
-        out = len_out(&places.seats, out);
+        out = len_out(&places.seats, from_where(out, heard == places.heard));
+        heard = places.heard;
         if out == places.seats.len() {
             return;
         }
-        if !write_round(network, answers, places) {
+        if !write_round(network, answers, places, piece) {
             return;
         }
     }
+}
+
+// From where on there may be someone to whom something is to be sent: where no more was heard, no
+// one is before this place.
+fn from_where(out: usize, same: bool) -> usize {
+    if same { out } else { 0 }
 }
 
 // From this place on, how far to go to the first to whom something is to be sent.
@@ -138,11 +233,11 @@ fn write_round<N: Connections, A: HostAnswers>(
     network: &mut N,
     answers: &mut A,
     places: &mut Places,
+    piece: &mut [u8],
 ) -> bool
     requires { A.fits answers.old }
-    ensures keeps { KeepsAll N.Connections A.HostAnswers (AllFinished true) (AllFinished true)
-        (hall network.old answers.old places.old.seats.items places.old.heard)
-        (hall network.new answers.new places.new.seats.items places.new.heard) }
+    ensures keeps { KeepsHost N.Connections A.HostAnswers (AllFinished true) (AllFinished true)
+        (host_of network.old answers.old places.old) (host_of network.new answers.new places.new) }
     ensures ends { A.ends answers.new ≡ A.ends answers.old }
     ensures fits { A.fits answers.new }
 {
@@ -153,10 +248,19 @@ fn write_round<N: Connections, A: HostAnswers>(
             write_at(network, answers, &mut places.seats, &mut places.free, place);
             true
         }
-        Ready::Heard(upto) => {
-            places.heard = greater(places.heard, upto);
-            let heard = places.heard;
-            free_all(network, answers, &mut places.seats, &mut places.free, heard);
+        Ready::Link => {
+            listen(network, answers, places, piece);
+            true
+        }
+        Ready::Second => {
+            pass_second(network, answers, places);
+            true
+        }
+        Ready::Late => {
+            if !answers.may_go_alone() {
+                return true;
+            }
+            go_alone(network, answers, places);
             true
         }
     }

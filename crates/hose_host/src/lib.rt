@@ -6,6 +6,7 @@ mod coming;
 mod ending;
 mod hosting;
 mod lines;
+mod linking;
 mod places;
 mod seat;
 mod sending;

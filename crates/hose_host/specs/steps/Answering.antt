@@ -1,5 +1,5 @@
 -- How all exchanges come on by a line that is answered.
-use Rattle.std.specs.Prelude.{ℕ, Bool, List, [], ◌∷◌, ◌++◌}
+use Rattle.std.specs.Prelude.{◌≡◌, ◌≢◌, ℕ, Bool, List, [], ◌∷◌, ◌++◌}
 use Rattle.hose_net.specs.Story.{Exchange}
 use Rattle.hose_words.specs.declared.lines.Line.{Line}
 use Rattle.hose_words.specs.steps.Lines.{Shows}
@@ -20,3 +20,16 @@ AnswersAt {L} {R} comes Says place door line first needs old new reply =
       reply = reply;
       needs = needs;
     } ∷ []) new
+
+-- all places but one are as they were: whether a line was answered, and whether one is still
+abbrev pub LeavesOthers : {A : Type 0} → (A → ℕ → Bool) → (A → ℕ → Bool) → ℕ → A → A → Type 0
+LeavesOthers is_new over place old new = (other : ℕ) → other ≢ place
+    → (is_new new other ≡ is_new old other) × (over new other ≡ over old other)
+
+-- all places are as they were, what lines are about and how many entries stand
+pub record LeavesPlaces {A S : Type 0} (is_new over : A → ℕ → Bool) (about : A → S)
+    (count : A → ℕ) (old new : A) : Type 0 where
+  pub same_new : (place : ℕ) → is_new new place ≡ is_new old place
+  pub same_over : (place : ℕ) → over new place ≡ over old place
+  pub same_about : about new ≡ about old
+  pub same_count : count new ≡ count old

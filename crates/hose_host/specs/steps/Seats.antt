@@ -155,6 +155,11 @@ abbrev pub FinishedBelow : {L R : Type 0} → Bool → ℕ → ℕ → ℕ → L
 FinishedBelow ended limit place heard life seat =
     AtRest heard seat.kept life seat × (place < limit → Finished ended heard life seat)
 
+-- how all connections are between the rounds of a host, and as it ends
+abbrev pub InRound : {L R : Type 0} → Bool → ℕ → ℕ → Life L R → SeatState → Type 0
+InRound false place heard life seat = Resting place heard life seat
+InRound true place heard life seat = Finished true heard life seat
+
 -- all connections are finished
 abbrev pub AllFinished : {L R : Type 0} → Bool → ℕ → ℕ → Life L R → SeatState → Type 0
 AllFinished ended place heard life seat = Finished ended heard life seat

@@ -1,25 +1,27 @@
-use Rattle.std.proofs.Common.{[], rules}
-use Rattle.hose_host.specs.steps.Keeping.{hall}
+use Rattle.std.proofs.Common.{[], false}
+use Rattle.hose_net.specs.Story.{leaves_lines}
+use Rattle.hose_host.specs.steps.Keeping.{host_of, housed}
 use Rattle.hose_host.specs.steps.Seats.{AllFinished, Resting}
-use Rattle.hose_host.proofs.Keepings.{all_stops_then, all_then, all_then_stops, hosted}
+use Rattle.hose_host.proofs.Keepings.{host_first, host_parts, host_then, hosted}
 use Rattle.hose_host.proofs.hosting.host.Goals as goal
 
-pub returns-then-not-turn-clause-hosted : goal.returns-then-not-turn-clause-hosted
-returns-then-not-turn-clause-hosted g c = λ from comes.
-    let first = hall c.args.network.now c.args.answers.now [] 0 in
-    let start = hall c.loop.network c.loop.answers c.loop.places.seats.items c.loop.places.heard in
-    let last = hall c.finish.new.network c.finish.new.answers c.finish.new.places.seats.items c.finish.new.places.heard in
-    let round = hall c.turn.new.network c.turn.new.answers c.turn.new.places.seats.items c.turn.new.places.heard in
-    hosted g.N.Connections g.A.HostAnswers c.finish.new.places.heard c.args.network.now c.finish.new.network c.args.answers.now c.finish.new.answers c.finish.new.places.seats.items from comes
-    (all_then g.N.Connections g.A.HostAnswers Resting Resting (AllFinished (g.A.HostAnswers.ends c.finish.new.answers)) first round last
-    (all_then g.N.Connections g.A.HostAnswers Resting Resting Resting first start round c.loop.invariant.keeps c.turn.ensures.keeps)
-    c.finish.ensures.keeps)
-    (λ none. all_stops_then g.N.Connections g.A.HostAnswers Resting Resting (AllFinished (g.A.HostAnswers.ends c.finish.new.answers)) first round last
-    (all_then_stops g.N.Connections g.A.HostAnswers Resting Resting Resting first start round c.loop.invariant.keeps (c.turn.ensures.stops (search rules) (c.finish.ensures.ends none)))
-    c.finish.ensures.keeps)
+pub loop-init : goal.loop-init
+loop-init g c =
+    let places = c.new-places.result in
+    record {
+      keeps = host_first g.N.Connections g.A.HostAnswers c.args.network.now c.args.answers.now places.seats.items places.heard places.opened (host_of c.begin.new.network c.args.answers.now c.begin.new.places) c.new-places.ensures.seats c.new-places.ensures.heard c.new-places.ensures.closed c.begin.ensures;
+      fits = c.requires.fits;
+    }
 
 pub loop-preserved : goal.loop-preserved
 loop-preserved g c = record {
-  keeps = all_then g.N.Connections g.A.HostAnswers Resting Resting Resting (hall c.args.network.now c.args.answers.now [] 0) (hall c.loop.network c.loop.answers c.loop.places.seats.items c.loop.places.heard) (hall c.turn.new.network c.turn.new.answers c.turn.new.places.seats.items c.turn.new.places.heard) c.loop.invariant.keeps c.turn.ensures.keeps;
-  fits = c.turn.ensures.fits;
+  keeps = host_then g.N.Connections g.A.HostAnswers Resting Resting Resting (housed c.args.network.now c.args.answers.now [] 0 false) (host_of c.loop.network c.loop.answers c.loop.places) (host_of c.round.new.network c.round.new.answers c.round.new.places) c.loop.invariant.keeps c.in_default.ensures.keeps;
+  fits = c.round.ensures.fits;
 }
+
+pub returns-in-Some-round-clause-hosted : goal.returns-in-Some-round-clause-hosted
+returns-in-Some-round-clause-hosted g c = λ from comes.
+    let places = c.round.new.places in
+    let why = c.in-Some-round.why in
+    hosted g.N.Connections g.A.HostAnswers places.heard places.opened c.args.network.now c.round.new.network c.args.answers.now c.round.new.answers places.seats.items from comes why
+    (host_parts g.N.Connections g.A.HostAnswers why Resting Resting (AllFinished (leaves_lines why)) (housed c.args.network.now c.args.answers.now [] 0 false) (host_of c.loop.network c.loop.answers c.loop.places) (host_of c.round.new.network c.round.new.answers places) c.loop.invariant.keeps c.in-Some-round.ensures.keeps)

@@ -10,7 +10,7 @@ use Rattle.hose_host.proofs.sending.send_piece.Goals as goal
 pub returns-in-Ok-clause-keeps : goal.returns-in-Ok-clause-keeps
 returns-in-Ok-clause-keeps g c = λ heard kept. keeps_sent g.N.Connections g.A.HostAnswers heard kept c.args.place c.args.network.now c.write.new.self c.args.answers.now c.args.seat.now c.was_sent.new.self c.in-Ok.count c.kept.result.now (cc (c.is_lost.ensures, c.if-is_lost.false))
     (subst (λ (bytes : List ℕ). g.N.Connections.did c.args.network.now (Sent c.args.place (take c.in-Ok.count bytes) ∷ []) c.write.new.self) c.unsent-unsent.ensures c.in-Ok.ensures.did)
-    c.in-Ok.ensures.saw (λ from xs. c.kept.ensures from xs)
+    c.in-Ok.ensures.saw (λ from xs link. c.kept.ensures from xs link)
     c.was_sent.ensures
 
 pub returns-in-Err-NotNow-clause-keeps : goal.returns-in-Err-NotNow-clause-keeps
