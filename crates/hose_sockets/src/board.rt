@@ -1,5 +1,5 @@
-// Which doors and places are to be told next: each stands on the board once at most, so that it is
-// never longer than there are doors and places.
+// Which doors and places are to be told next, and what of the link to a standby: each stands on the
+// board once at most, so that it is hardly longer than there are doors and places.
 use crate::door::Door;
 use crate::stream::Stream;
 use hose_net::Ready;
@@ -11,6 +11,9 @@ use std::fs::Files;
 
 // The token of the first door. Places have smaller ones.
 const DOORS: usize = 1 << 40;
+
+// The token of the link to a standby. Doors have smaller ones.
+const LINK: usize = 1 << 41;
 
 #[derive(Drop)]
 struct DoorAt {
@@ -38,23 +41,22 @@ pub struct Board {
     places: Vec<Place>,
     // The place that was told last.
     told: Option<usize>,
+    is_link_on_board: bool,
     // What is told in this round, and what in the next one.
     now: VecDeque<Ready>,
     next: VecDeque<Ready>,
 }
 
 impl Board {
-    /// No standby is there to be waited for, which is told first.
-    pub fn new(alloc: Global) -> Result<Board, AllocError> {
-        let mut now = VecDeque::new(alloc);
-        now.push_back(Ready::Heard(u64::MAX))?;
-        Ok(Board {
+    pub fn new(alloc: Global) -> Board {
+        Board {
             doors: Vec::new(alloc),
             places: Vec::new(alloc),
             told: None,
-            now,
+            is_link_on_board: false,
+            now: VecDeque::new(alloc),
             next: VecDeque::new(alloc),
-        })
+        }
     }
 
     /// The token of the next door, or of one more than this crate counts.
@@ -131,10 +133,11 @@ impl Board {
         }
     }
 
-    // Room for each door and each place, and one more of them.
+    // Room for each door and each place, one more of them, the link, a second and the standby that
+    // is late.
     fn make_room(&mut self) -> Result<(), AllocError> {
         let wanted = self.doors.len().saturating_add(self.places.len());
-        let wanted = wanted.saturating_add(2);
+        let wanted = wanted.saturating_add(5);
         self.now.reserve(wanted.saturating_sub(self.now.len()))?;
         self.next.reserve(wanted.saturating_sub(self.next.len()))
     }
@@ -191,9 +194,29 @@ impl Board {
         }
     }
 
+    pub fn tell_link(&mut self) {
+        if !self.is_link_on_board {
+            self.is_link_on_board = self.next.push_back(Ready::Link).is_ok();
+        }
+    }
+
+    /// A second has passed.
+    pub fn tell_second(&mut self) {
+        let _ = self.next.push_back(Ready::Second);
+    }
+
+    /// Nothing was heard of the standby for as long as was said; says whether that is told.
+    pub fn tell_late(&mut self) -> bool {
+        self.next.push_back(Ready::Late).is_ok()
+    }
+
     /// Takes in what the system tells.
     pub fn note(&mut self, event: &Event) {
         let number = usize::from(event.token());
+        if number >= LINK {
+            self.tell_link();
+            return;
+        }
         if number >= DOORS {
             self.tell_door(number - DOORS);
             return;
@@ -242,7 +265,8 @@ impl Board {
         match ready {
             Ready::Door(door) => self.leave_door(door),
             Ready::Place(place) => self.leave_place(place),
-            Ready::Heard(_) | Ready::Stop => {}
+            Ready::Link => self.is_link_on_board = false,
+            Ready::Second | Ready::Late | Ready::Stop => {}
         }
         Some(ready)
     }
@@ -263,6 +287,10 @@ impl Board {
 
 pub fn place_token(place: usize) -> Token {
     Token(place)
+}
+
+pub fn link_token() -> Token {
+    Token(LINK)
 }
 
 fn door_token(door: usize) -> Token {

@@ -2,9 +2,11 @@
 ghost use Rattle.std.specs.Prelude.{⊤, IfErr, length};
 ghost use Rattle.hose_net.specs.Doors.{IsAmong};
 
-use crate::board::{Board, place_token};
+use crate::board::{Board, link_token, place_token};
 use crate::door::{Door, fault_at};
+use crate::stream::Stream;
 use hose_net::{Address, Connections, DoorsFault, Pause, Ready};
+use mio::net::UnixStream;
 use mio::{Events, Poll};
 use std::alloc::Global;
 use std::fs::Files;
@@ -28,6 +30,8 @@ const PAUSE_MILLIS: u64 = 100;
 // For so many milliseconds what is left is written before the end.
 const END_MILLIS: u64 = 2_000;
 
+const SECOND_MILLIS: u64 = 1_000;
+
 /// Doors that are open, and the connections that came by them. A connection is found ended or
 /// failed by the call that meets it, and no other is the worse for it.
 ///
@@ -44,6 +48,10 @@ pub struct Sockets<N> {
     // The host ends, and is to stop at this time, or at once where no clock tells it.
     ends: bool,
     end: Option<Instant>,
+    // The link to a standby, when the next second will have passed, and when the standby is late.
+    link: Option<Stream>,
+    second: Option<Instant>,
+    late: Option<Instant>,
     // What keeps the descriptors of standard streams that are closed from being a connection's.
     _kept: Vec<Poll>,
 }
@@ -80,10 +88,13 @@ impl<N: Files + Net + Clock + Drop> Sockets<N> {
             rt,
             poll,
             events: Events::with_capacity(alloc, EVENTS)?,
-            board: Board::new(alloc)?,
+            board: Board::new(alloc),
             retry: None,
             ends: false,
             end: None,
+            link: None,
+            second: None,
+            late: None,
             _kept: kept,
         })
     }
@@ -111,7 +122,12 @@ impl<N: Clock> Sockets<N> {
         if self.board.has_next() {
             return Some(Duration::ZERO);
         }
-        let time = self.end.or(self.retry)?;
+        let waiting = sooner(
+            &self.rt,
+            self.retry,
+            sooner(&self.rt, self.second, self.late),
+        );
+        let time = self.end.or(waiting)?;
         Some(left(&self.rt, time))
     }
 
@@ -122,18 +138,23 @@ impl<N: Clock> Sockets<N> {
         for event in self.events.iter() {
             self.board.note(event);
         }
-        if self.is_time_to_retry() {
+        if is_past(&self.rt, self.retry) {
             self.retry = None;
             self.board.knock();
         }
+        self.look_at_the_clock();
         self.board.turn();
         Ok(())
     }
 
-    fn is_time_to_retry(&self) -> bool {
-        match self.retry {
-            Some(retry) => left(&self.rt, retry).is_zero(),
-            None => false,
+    // Tells that a second has passed, and that the standby is late, where that is so.
+    fn look_at_the_clock(&mut self) {
+        if is_past(&self.rt, self.second) {
+            self.second = after(&self.rt, SECOND_MILLIS);
+            self.board.tell_second();
+        }
+        if is_past(&self.rt, self.late) && self.board.tell_late() {
+            self.late = None;
         }
     }
 
@@ -164,6 +185,26 @@ fn left<N: Clock>(rt: &N, time: Instant) -> Duration {
     }
 }
 
+// Whether a time is there.
+fn is_past<N: Clock>(rt: &N, time: Option<Instant>) -> bool {
+    match time {
+        Some(time) => left(rt, time).is_zero(),
+        None => false,
+    }
+}
+
+// The sooner of two times.
+fn sooner<N: Clock>(rt: &N, one: Option<Instant>, other: Option<Instant>) -> Option<Instant> {
+    let (Some(first), Some(second)) = (one, other) else {
+        return one.or(other);
+    };
+    if left(rt, second) < left(rt, first) {
+        other
+    } else {
+        one
+    }
+}
+
 fn after<N: Clock>(rt: &N, millis: u64) -> Option<Instant> {
     let now = Instant::now(rt).ok()?;
     now.checked_add(Duration::from_millis(millis))
@@ -177,7 +218,7 @@ fn is_no_arrival(error: &io::Error) -> bool {
     )
 }
 
-impl<N: Clock + Drop> Connections for Sockets<N> {
+impl<N: Net + Clock + Drop> Connections for Sockets<N> {
     ghost did = { λ _ _ _. ⊤ };
 
     ghost saw = { λ _ _ _ _. ⊤ };
@@ -188,11 +229,15 @@ impl<N: Clock + Drop> Connections for Sockets<N> {
             if self.is_over() {
                 return Ready::Stop;
             }
-            if let Some(ready) = self.board.take() {
-                return ready;
-            }
-            if self.ask().is_err() {
-                return Ready::Stop;
+            match self.board.take() {
+                // Something was heard since: the standby is late at another time.
+                Some(Ready::Late) if self.late.is_some() => {}
+                Some(ready) => return ready,
+                None => {
+                    if self.ask().is_err() {
+                        return Ready::Stop;
+                    }
+                }
             }
         }
         Ready::Stop
@@ -260,6 +305,56 @@ impl<N: Clock + Drop> Connections for Sockets<N> {
         self.board.unseat(place);
         self.board.knock();
     }
+
+    fn open_link(&mut self, path: &str) -> bool {
+        self.link = self.linked(path).ok();
+        self.link.is_some()
+    }
+
+    fn read_link(&mut self, into: &mut [u8]) -> Result<usize, Pause> {
+        let Some(link) = self.link.as_mut() else {
+            return Err(Pause::Over);
+        };
+        match link.read_piece(into) {
+            Ok(0) => Err(Pause::Over),
+            Ok(count) => {
+                // What is left is told once by the system.
+                self.board.tell_link();
+                Ok(count)
+            }
+            Err(error) => Err(self.pause_of_link(&error)),
+        }
+    }
+
+    fn write_link<B>(&mut self, bytes: &[u8], _kept: &B) -> Result<usize, Pause> {
+        let Some(link) = self.link.as_mut() else {
+            return Err(Pause::Over);
+        };
+        match link.write_piece(bytes) {
+            Ok(0) => Err(Pause::Over),
+            Ok(count) => Ok(count),
+            Err(error) => Err(self.pause_of_link(&error)),
+        }
+    }
+
+    fn close_link(&mut self) {
+        self.link = None;
+    }
+
+    fn expect(&mut self, seconds: u64) {
+        self.late = after(&self.rt, seconds.saturating_mul(SECOND_MILLIS));
+        if self.second.is_none() {
+            self.second = after(&self.rt, SECOND_MILLIS);
+        }
+    }
+}
+
+impl<N: Net> Sockets<N> {
+    fn linked(&mut self, path: &str) -> io::Result<Stream> {
+        let mut link = Stream::Unix(UnixStream::connect(&self.rt, path)?);
+        link.register(self.poll.registry(), link_token())?;
+        Ok(link)
+    }
 }
 
 impl<N> Sockets<N> {
@@ -269,6 +364,18 @@ impl<N> Sockets<N> {
             ErrorKind::WouldBlock => Pause::NotNow,
             ErrorKind::Interrupted => {
                 self.board.tell_place(place);
+                Pause::NotNow
+            }
+            _ => Pause::Over,
+        }
+    }
+
+    // Why a call on the link failed.
+    fn pause_of_link(&mut self, error: &io::Error) -> Pause {
+        match error.kind() {
+            ErrorKind::WouldBlock => Pause::NotNow,
+            ErrorKind::Interrupted => {
+                self.board.tell_link();
                 Pause::NotNow
             }
             _ => Pause::Over,
