@@ -8,7 +8,7 @@ use Rattle.hose_graph.specs.declared.entry.Entry.{Entry}
 use Rattle.hose_lead.specs.steps.Standby.{HandsOut, IsLed, IsOpen, RisesTo, StandbyState, TakesIn}
 use Rattle.hose_lead.specs.steps.Taking.{Knows, Takes}
 use Rattle.hose_lead.proofs.Growing.{handed_at}
-use Rattle.hose_lead.specs.declared.stage.Ending.{Ending}
+use Rattle.hose_lead.specs.declared.stage.Ending.TheVariants.{Stranger}
 use Rattle.hose_lead.specs.declared.stage.Stage.TheVariants.{Ended}
 
 abbrev line_of : List ℕ → List ℕ
@@ -44,8 +44,8 @@ module _ (network : Network) (list : List Entry) (came sent : List ℕ) (old : S
   }
 
   -- a byte too much comes
-  pub led_breaks : (byte : ℕ) (why : Ending) → IsLed network list came sent old → IsLed network list (came ++ byte ∷ []) sent (record old { stage = Ended why })
-  led_breaks byte why led = record {
+  pub led_breaks : (byte : ℕ) → IsLed network list came sent old → IsLed network list (came ++ byte ∷ []) sent (record old { stage = Ended Stranger })
+  led_breaks byte led = record {
     lines = led.lines;
     rest = led.rest ++ byte ∷ [];
     cut = ap (λ (l : List ℕ). l ++ byte ∷ []) led.cut ∙ append_assoc (flat_map line_of led.lines) led.rest (byte ∷ []);
@@ -53,7 +53,7 @@ module _ (network : Network) (list : List Entry) (came sent : List ℕ) (old : S
     coming = λ is. absurd is;
     packets = led.packets;
     handed = led.handed;
-    at = handed_at network list led.lines led.packets old.heard old.stage led.at;
+    at = (handed_at network list led.lines led.packets old.heard old.stage led.at, tt);
     heard = led.heard;
   }
 

@@ -7,8 +7,8 @@ use Rattle.hose_graph.specs.declared.entry.Entry.{Entry}
 use Rattle.hose_follow.specs.Packet.{Packet, packet_bytes}
 use Rattle.hose_follow.specs.Replication.{packet_at}
 use Rattle.hose_lead.specs.steps.History.{IsPacketBehind}
-use Rattle.hose_lead.specs.steps.Probes.{ask_epoch, ask_have, ask_value}
-use Rattle.hose_lead.specs.steps.Standby.{asked_again, EndsFor, entry_more, HandsOut, IsAt, IsFilled, IsLed, IsOpen, StandbyState}
+use Rattle.hose_lead.specs.Leading.{ask_epoch, ask_have, ask_value, asked_again, entry_more}
+use Rattle.hose_lead.specs.steps.Standby.{EndsFor, HandsOut, IsAt, IsFilled, IsLed, IsOpen, StandbyState, TellsWhy}
 use Rattle.hose_lead.proofs.Arriving.{hands_none}
 use Rattle.hose_lead.proofs.Handing.{led_asks, led_ends, led_hands}
 use Rattle.hose_lead.specs.declared.stage.Ending.{Ending}
@@ -91,9 +91,9 @@ module _ (is_of : Network → List Entry → Type 0) (old : StandbyState) where
         why = λ network list is why. tt;
       }
 
-  pub hands_end : (why : Ending) → IsOpen old.stage → ((network : Network) (list : List Entry) → EndsFor network list why) → HandsOut is_of old (record old { stage = Ended why })
-  hands_end why opens ends = record {
-    led = λ network list came sent is led. led_ends network list came sent old why led;
+  pub hands_end : (why : Ending) → IsOpen old.stage → ((network : Network) (list : List Entry) → EndsFor network list why) → ((lines : List (List ℕ)) → TellsWhy lines why) → HandsOut is_of old (record old { stage = Ended why })
+  hands_end why opens ends told = record {
+    led = λ network list came sent is led. led_ends network list came sent old why told led;
     heard = refl;
     ended = λ ended. absurd (ended opens);
     why = λ network list is _. ends network list;

@@ -13,9 +13,9 @@ use Rattle.hose_follow.specs.Answers.{offered_text}
 use Rattle.hose_follow.specs.Packet.{Packet, packet_after, packet_bytes}
 use Rattle.hose_follow.specs.Replication.{packet_at}
 use Rattle.hose_follow.specs.declared.answers.Offered.TheVariants.{Have, Want, Differs}
-use Rattle.hose_lead.specs.steps.History.{IsPacketBehind, IsValueAt}
-use Rattle.hose_lead.specs.steps.Probes.{no_value}
-use Rattle.hose_lead.specs.steps.Standby.{AreHandedOut, nothing_yet, first_probe, both_probes, with_entries, IsAt, IsCompared, IsHeard, Offers, probed, entry_more, asked_again, TellsEpoch}
+use Rattle.hose_lead.specs.Leading.{IsValueAt, no_value, AreHandedOut, nothing_yet, first_probe, both_probes, with_entries, IsCompared, IsHeard, Offers, probed, entry_more, asked_again, TellsEpoch}
+use Rattle.hose_lead.specs.steps.History.{IsPacketBehind}
+use Rattle.hose_lead.specs.steps.Standby.{IsAt}
 use Rattle.hose_lead.specs.declared.stage.Stage.{Stage}
 use Rattle.hose_lead.specs.declared.stage.Stage.TheVariants.{Unasked, AskedEpoch, ToldEpoch, AskedValue, Following, Ended}
 
@@ -61,7 +61,7 @@ module _ (network : Network) (list : List Entry) (lines : List (List ℕ)) where
   handed_at packets heard (ToldEpoch start) at = subst (AreHandedOut network list lines) (sym at.0) first_probe
   handed_at packets heard (AskedValue start) at = subst (AreHandedOut network list lines) (sym at.0) (both_probes start at.2)
   handed_at packets heard (Following start upto) at = with_entries start upto packets at.0 at.1 at.2
-  handed_at packets heard (Ended why) at = at
+  handed_at packets heard (Ended why) at = at.0
 
 -- ---- more entries
 
@@ -130,4 +130,4 @@ module _ (network : Network) (list more : List Entry) where
   at_longer lines packets heard (AskedValue start) at = (at.0, at.1, at.2, omega (arith, at.3, length-append list more))
   at_longer lines packets heard (Following start upto) at =
       (at.0, compared_longer lines start at.1, offers_longer start upto packets at.2, at.3, omega (arith, at.4, length-append list more))
-  at_longer lines packets heard (Ended why) at = handed_longer lines packets at
+  at_longer lines packets heard (Ended why) at = (handed_longer lines packets at.0, at.1)

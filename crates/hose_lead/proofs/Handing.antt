@@ -4,7 +4,7 @@ use Rattle.std.proofs.lemmas.List.Concat.{flat_map-append}
 use Rattle.hose_graph.specs.Network.{Network}
 use Rattle.hose_graph.specs.declared.entry.Entry.{Entry}
 use Rattle.hose_follow.specs.Packet.{Packet, packet_bytes, packets_bytes}
-use Rattle.hose_lead.specs.steps.Standby.{IsAt, IsLed, IsOpen, StandbyState}
+use Rattle.hose_lead.specs.steps.Standby.{IsAt, IsLed, IsOpen, StandbyState, TellsWhy}
 use Rattle.hose_lead.proofs.Growing.{handed_at}
 use Rattle.hose_lead.specs.declared.stage.Ending.{Ending}
 use Rattle.hose_lead.specs.declared.stage.Stage.{Stage}
@@ -36,8 +36,8 @@ module _ (network : Network) (list : List Entry) (came sent : List ℕ) (old : S
   }
 
   -- a connection ends
-  pub led_ends : (why : Ending) → IsLed network list came sent old → IsLed network list came sent (record old { stage = Ended why })
-  led_ends why led = record {
+  pub led_ends : (why : Ending) → ((lines : List (List ℕ)) → TellsWhy lines why) → IsLed network list came sent old → IsLed network list came sent (record old { stage = Ended why })
+  led_ends why told led = record {
     lines = led.lines;
     rest = led.rest;
     cut = led.cut;
@@ -45,7 +45,7 @@ module _ (network : Network) (list : List Entry) (came sent : List ℕ) (old : S
     coming = λ is. absurd is;
     packets = led.packets;
     handed = led.handed;
-    at = handed_at network list led.lines led.packets old.heard old.stage led.at;
+    at = (handed_at network list led.lines led.packets old.heard old.stage led.at, told led.lines);
     heard = led.heard;
   }
 

@@ -6,3 +6,5 @@ pub mod Recents
 pub mod Parts
 pub mod Filling
 pub mod Told
+pub mod Leadings
+pub mod Led

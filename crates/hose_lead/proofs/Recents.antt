@@ -10,7 +10,9 @@ use Rattle.hose_codec.specs.Spelling.{spelling}
 use Rattle.hose_journal.specs.Chain.{chain}
 use Rattle.hose_store.specs.Recovery.{digest_of}
 use Rattle.hose_follow.specs.Packet.{Packet, packet_after, packet_bytes}
-use Rattle.hose_lead.specs.steps.History.{AreKept, IsPacketBehind, IsRecentOf, IsValueAt, KeptPacket, RecentState, kept_size}
+use Rattle.hose_lead.specs.Leading.{IsValueAt}
+use Rattle.hose_lead.specs.LedStore.{KeptPacket, RecentState}
+use Rattle.hose_lead.specs.steps.History.{AreKept, IsPacketBehind, IsRecentOf, kept_size}
 use Rattle.hose_lead.specs.steps.Taking.{Shortens}
 use Rattle.hose_lead.proofs.Growing.{behind_longer, value_longer}
 

@@ -8,9 +8,8 @@ use Rattle.hose_follow.specs.Answers.{offered_text}
 use Rattle.hose_follow.specs.Packet.{Packet}
 use Rattle.hose_follow.specs.declared.answers.Offered.{Offered}
 use Rattle.hose_follow.specs.declared.answers.Offered.TheVariants.{Have, Want, Differs}
-use Rattle.hose_lead.specs.steps.History.{IsValueAt}
-use Rattle.hose_lead.specs.steps.Probes.{no_value}
-use Rattle.hose_lead.specs.steps.Standby.{IsAt, Offers, probed, RisesTo, StandbyState, TellsEpoch}
+use Rattle.hose_lead.specs.Leading.{IsValueAt, no_value, Offers, probed, TellsEpoch}
+use Rattle.hose_lead.specs.steps.Standby.{IsAt, RisesTo, StandbyState, TellsWhy}
 use Rattle.hose_lead.specs.steps.Taking.{Knows, Takes}
 use Rattle.hose_lead.proofs.Growing.{compared_more, handed_at, handed_more, may_heard_more, tells_more}
 use Rattle.hose_lead.specs.declared.stage.Ending.{Ending}
@@ -19,10 +18,10 @@ use Rattle.hose_lead.specs.declared.stage.Stage.TheVariants.{AskedEpoch, ToldEpo
 
 module _ (network : Network) (list : List Entry) (old : StandbyState) where
   -- a connection ends by an answer
-  pub takes_end : (text : List ℕ) (why : Ending) → Takes network list text old (record old { stage = Ended why })
-  takes_end text why = record {
+  pub takes_end : (text : List ℕ) (why : Ending) → ((lines : List (List ℕ)) → TellsWhy (lines ++ text ∷ []) why) → Takes network list text old (record old { stage = Ended why })
+  takes_end text why told = record {
     knows = λ lines packets knows. record {
-      at = handed_more network list lines text packets (handed_at network list lines packets old.heard old.stage knows.at);
+      at = (handed_more network list lines text packets (handed_at network list lines packets old.heard old.stage knows.at), told lines);
       heard = may_heard_more network list lines text old.heard knows.heard;
     };
     same_line = refl;

@@ -6,10 +6,9 @@ use Rattle.hose_graph.specs.Network.{Network}
 use Rattle.hose_graph.specs.declared.entry.Entry.{Entry}
 use Rattle.hose_follow.specs.Answers.{offered_text}
 use Rattle.hose_follow.specs.declared.answers.Offered.TheVariants.{Differs, Have}
-use Rattle.hose_lead.specs.steps.History.{IsValueAt}
+use Rattle.hose_lead.specs.Leading.{IsValueAt, no_value, IsHeard}
 use Rattle.hose_follow.specs.steps.Lines.{HasLine}
-use Rattle.hose_lead.specs.steps.Probes.{no_value}
-use Rattle.hose_lead.specs.steps.Standby.{IsHeard, IsLed, StandbyState}
+use Rattle.hose_lead.specs.steps.Standby.{IsLed, StandbyState}
 use Rattle.hose_lead.proofs.Growing.{at_longer, heard_longer}
 
 module _ (network : Network) (list : List Entry) (came sent : List ℕ) (state : StandbyState) where

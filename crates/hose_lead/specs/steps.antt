@@ -1,5 +1,5 @@
 -- Definitions that no clause of the top calls names yet.
 pub mod History
-pub mod Probes
+pub mod LedStore
 pub mod Standby
 pub mod Taking

@@ -3,7 +3,8 @@ ghost use Rattle.std.specs.Prelude.{◌≡◌, ◌≤◌, List, IfSome, length};
 ghost use Rattle.hose_graph.specs.Network.{Network};
 ghost use Rattle.hose_graph.specs.declared.entry.Entry.{Entry};
 ghost use Rattle.hose_graph.specs.Limits.{most_epoch};
-ghost use Rattle.hose_lead.specs.steps.History.{IsPacketBehind, IsValueAt};
+ghost use Rattle.hose_lead.specs.Leading.{IsValueAt};
+ghost use Rattle.hose_lead.specs.steps.History.{IsPacketBehind};
 
 /// The number of bytes of a chain value.
 pub const VALUE_BYTES: usize = 32;

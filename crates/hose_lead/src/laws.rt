@@ -4,10 +4,9 @@ ghost use Rattle.hose_graph.specs.Network.{Network};
 ghost use Rattle.hose_graph.specs.declared.entry.Entry.{Entry};
 ghost use Rattle.hose_follow.specs.Answers.{offered_text};
 ghost use Rattle.hose_follow.specs.declared.answers.Offered.TheVariants.{Differs, Have};
-ghost use Rattle.hose_lead.specs.steps.History.{IsValueAt};
+ghost use Rattle.hose_lead.specs.Leading.{IsValueAt, no_value, AreHandedOut};
 ghost use Rattle.hose_follow.specs.steps.Lines.{HasLine};
-ghost use Rattle.hose_lead.specs.steps.Probes.{no_value};
-ghost use Rattle.hose_lead.specs.steps.Standby.{AreHandedOut, IsLed, StandbyState};
+ghost use Rattle.hose_lead.specs.steps.Standby.{IsLed, StandbyState};
 
 /// What led to a state, where a history has some entries, led to it where it has more.
 pub fn law_longer()

@@ -4,7 +4,7 @@ ghost use Rattle.hose_graph.specs.Network.{Network};
 ghost use Rattle.hose_graph.specs.declared.entry.Entry.{Entry};
 ghost use Rattle.hose_graph.specs.Limits.{most_epoch};
 ghost use Rattle.hose_follow.specs.Answers.{offered_text};
-ghost use Rattle.hose_lead.specs.steps.Standby.{EndsFor, HandsOut, IfEnded, IsFilled, IsLed, IsOpen, LacksNothing, RisesTo, TakesIn};
+ghost use Rattle.hose_lead.specs.steps.Standby.{EndsFor, HandsOut, IfEnded, IsFilled, IsLed, IsOpen, LacksNothing, RisesTo, TakesIn, TellsWhy};
 ghost use Rattle.hose_lead.specs.steps.Taking.{Takes};
 
 use crate::coming::ComingLine;
@@ -172,8 +172,21 @@ impl Standby {
         self.stage = stage;
     }
 
-    // Ends it.
+    // Ends it where the follower tells that it has so many entries, which are more than there are.
+    fn end_ahead(&mut self, count: u64)
+        ensures is { self.new ≡ record self.old { stage = Stage.Ended (Ending.Ahead count) } }
+        ensures takes { (network : Network) → (list : List Entry) → (next : ℕ) →
+            next ≡ count + 1 →
+            Takes network list (offered_text (Offered.Want next)) self.old self.new }
+    {
+        self.go(Stage::Ended {
+            why: Ending::Ahead { count },
+        });
+    }
+
+    // Ends it for another reason.
     fn end(&mut self, why: Ending)
+        requires { (lines : List (List ℕ)) → TellsWhy lines why }
         ensures is { self.new ≡ record self.old { stage = Stage.Ended why } }
         ensures takes { (network : Network) → (list : List Entry) → (text : List ℕ) →
             Takes network list text self.old self.new }
@@ -436,7 +449,7 @@ impl Standby {
             return;
         };
         if start > history.epoch() {
-            self.end(Ending::Ahead { count: start });
+            self.end_ahead(start);
             return;
         }
         self.go(Stage::ToldEpoch { start });
@@ -524,7 +537,8 @@ impl Standby {
 
 // Why a follower is not followed on that answers so.
 fn ending_of(answer: Offered) -> Ending
-    ensures { (network : Network) → (list : List Entry) → EndsFor network list result }
+    ensures ends { (network : Network) → (list : List Entry) → EndsFor network list result }
+    ensures told { (lines : List (List ℕ)) → TellsWhy lines result }
 {
     match answer {
         Offered::Disk { at } => Ending::Disk { count: at },

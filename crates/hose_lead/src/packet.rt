@@ -3,7 +3,7 @@ ghost use Rattle.std.specs.Prelude.{◌≡◌, ◌≤◌, ◌∷◌, [], IfOk, l
 ghost use Rattle.byteorder.specs.Endian.{big_bytes};
 ghost use Rattle.hose_codec.specs.declared.limits.TheConstants.{MOST_SPELLING};
 ghost use Rattle.hose_follow.specs.Packet.{packet_bytes};
-ghost use Rattle.hose_lead.specs.steps.Probes.{probe};
+ghost use Rattle.hose_lead.specs.Leading.{probe};
 
 use crate::history::VALUE_BYTES;
 use byteorder::{BigEndian, ByteOrder};

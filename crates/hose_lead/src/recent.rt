@@ -7,7 +7,9 @@ ghost use Rattle.hose_codec.specs.declared.limits.TheConstants.{MOST_SPELLING};
 ghost use Rattle.hose_codec.specs.Spelling.{spelling};
 ghost use Rattle.hose_journal.specs.Chain.{chain};
 ghost use Rattle.hose_store.specs.Recovery.{digest_of};
-ghost use Rattle.hose_lead.specs.steps.History.{IsPacketBehind, IsRecentOf, IsValueAt, KeptPacket, kept_size};
+ghost use Rattle.hose_lead.specs.Leading.{IsValueAt};
+ghost use Rattle.hose_lead.specs.LedStore.{KeptPacket};
+ghost use Rattle.hose_lead.specs.steps.History.{IsPacketBehind, IsRecentOf, kept_size};
 ghost use Rattle.hose_lead.specs.steps.Taking.{Shortens};
 
 use crate::history::{History, VALUE_BYTES};
@@ -24,7 +26,7 @@ pub struct Kept {
 }
 
 impl Model for Kept {
-    ghost use Rattle.hose_lead.specs.steps.History.{KeptPacket};
+    ghost use Rattle.hose_lead.specs.LedStore.{KeptPacket};
 
     ghost Value = { KeptPacket };
 
@@ -46,7 +48,8 @@ pub struct RecentPackets {
 impl Model for RecentPackets {
     ghost use Rattle.std.specs.Prelude.{◌≡◌, ◌≤◌};
     ghost use Rattle.hose_graph.specs.Limits.{most_epoch};
-    ghost use Rattle.hose_lead.specs.steps.History.{RecentState, kept_size};
+    ghost use Rattle.hose_lead.specs.LedStore.{RecentState};
+    ghost use Rattle.hose_lead.specs.steps.History.{kept_size};
 
     ghost Value = { RecentState };
 

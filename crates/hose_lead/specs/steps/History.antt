@@ -1,17 +1,13 @@
 -- What is at hand of a history.
-use Rattle.std.specs.Prelude.{◌≡◌, ℕ, ◌+◌, ◌≤◌, List, [], ◌∷◌, Some, length, take, slice_get, ⊤}
+use Rattle.std.specs.Prelude.{◌≡◌, ℕ, ◌+◌, List, [], ◌∷◌, Some, length, slice_get, ⊤}
 use Rattle.hose_graph.specs.Network.{Network}
 use Rattle.hose_graph.specs.declared.entry.Entry.{Entry}
 use Rattle.hose_journal.specs.Chain.{chain}
 use Rattle.hose_store.specs.Recovery.{digest_of}
 use Rattle.hose_follow.specs.Packet.{packet_bytes}
 use Rattle.hose_follow.specs.Replication.{packet_at}
-
--- the value is the chain value of the first so many entries
-pub record IsValueAt (network : Network) (list : List Entry) (count : ℕ) (value : List ℕ)
-    : Type 0 where
-  pub within : count ≤ length list
-  pub is : value ≡ chain (digest_of network) (take count list)
+use Rattle.hose_lead.specs.Leading.{IsValueAt}
+use Rattle.hose_lead.specs.LedStore.{KeptPacket, RecentState}
 
 -- the bytes are those of the packet of the entry behind so many
 pub record IsPacketBehind (network : Network) (list : List Entry) (count : ℕ) (bytes : List ℕ)
@@ -19,11 +15,6 @@ pub record IsPacketBehind (network : Network) (list : List Entry) (count : ℕ) 
   pub entry : Entry
   pub there : slice_get list count ≡ Some entry
   pub is : bytes ≡ packet_bytes (packet_at network list count entry)
-
--- the packet of an entry, and the chain value of those before it
-pub record KeptPacket : Type 0 where
-  pub before : List ℕ
-  pub bytes : List ℕ
 
 -- the packets are those of the entries behind so many, in order
 abbrev pub AreKept : Network → List Entry → ℕ → List KeptPacket → Type 0
@@ -35,14 +26,6 @@ AreKept network list count (kept ∷ more) = IsValueAt network list count kept.b
 abbrev pub kept_size : List KeptPacket → ℕ
 kept_size [] = 0
 kept_size (kept ∷ more) = length kept.bytes + kept_size more
-
--- the last packets of a history, how many bytes they may have, how many entries the history has,
--- and its chain value
-pub record RecentState : Type 0 where
-  pub kept : List KeptPacket
-  pub limit : ℕ
-  pub epoch : ℕ
-  pub value : List ℕ
 
 -- the packets at hand are the last ones of these entries
 pub record IsRecentOf (network : Network) (list : List Entry) (recent : RecentState) : Type 0 where

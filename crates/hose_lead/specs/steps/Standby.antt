@@ -1,14 +1,10 @@
 -- What a leader knows of a follower on one connection, by the bytes that came and were sent there.
-use Rattle.std.specs.Prelude.{◌≡◌, ◌≢◌, ◌⊎◌, ℕ, Bool, false, ◌+◌, ◌<◌, ◌≤◌, List, [], ◌∷◌, ◌++◌, Option, Some, None, IfSome, MatchOption, IsSomeAnd, All, Contains, length, slice_get, ⊤}
+use Rattle.std.specs.Prelude.{◌≡◌, ◌≢◌, ◌⊎◌, ℕ, Bool, false, ◌<◌, ◌≤◌, List, [], ◌∷◌, ◌++◌, Option, None, IfSome, MatchOption, IsSomeAnd, All, length, ⊤}
 use Rattle.std.specs.List.{flat_map}
 use Rattle.hose_graph.specs.Network.{Network}
 use Rattle.hose_graph.specs.declared.entry.Entry.{Entry}
-use Rattle.hose_follow.specs.Answers.{offered_text}
 use Rattle.hose_follow.specs.Packet.{Packet, packets_bytes}
-use Rattle.hose_follow.specs.Replication.{packet_at}
-use Rattle.hose_follow.specs.declared.answers.Offered.TheVariants.{Have, Want, Differs}
-use Rattle.hose_lead.specs.steps.History.{IsValueAt}
-use Rattle.hose_lead.specs.steps.Probes.{ask_epoch, ask_have, no_value, probes_of}
+use Rattle.hose_lead.specs.Leading.{AreHandedOut, IsCompared, IsHeard, IsValueAt, Offers, TellsEpoch, ask_epoch, probes_of}
 use Rattle.hose_lead.specs.declared.stage.Ending.{Ending}
 use Rattle.hose_lead.specs.declared.stage.Ending.TheVariants.{Ahead, Other, Gone, Disk, Memory, Stranger}
 use Rattle.hose_lead.specs.declared.stage.Stage.{Stage}
@@ -34,58 +30,16 @@ LacksNothing list asks (AskedValue start) = ⊤
 LacksNothing list asks (Following start upto) = (length list ≤ upto) × (asks ≡ false)
 LacksNothing list asks (Ended why) = ⊤
 
--- ---- what was heard
-
--- The follower told that it has so many entries, by `want N+1`.
-abbrev pub TellsEpoch : List (List ℕ) → ℕ → Type 0
-TellsEpoch lines count = Contains lines (offered_text (Want (count + 1)))
-
--- The follower was compared: a line tells that it has so many entries, and the chain value that the
--- history has with as many.
-pub record IsCompared (network : Network) (list : List Entry) (lines : List (List ℕ)) (count : ℕ)
-    : Type 0 where
-  pub own : List ℕ
-  pub same : IsValueAt network list count own
-  pub told : Contains lines (offered_text (Differs count own no_value))
-
--- The follower is heard to have so many entries: a line tells it, after one by which it was
--- compared.
-pub record IsHeard (network : Network) (list : List Entry) (lines : List (List ℕ)) (count : ℕ)
-    : Type 0 where
-  pub earlier : List (List ℕ)
-  pub later : List (List ℕ)
-  pub split : lines ≡ earlier ++ later
-  pub start : ℕ
-  pub compared : IsCompared network list earlier start
-  pub told : Contains later (offered_text (Have count))
-  pub within : count ≤ length list
-
--- ---- what is handed out
-
--- After the probes of a follower that has `start` entries these packets were handed out, and so the
--- entries up to a number: each of them once, in order, from the first that the follower lacks on.
-pub data Offers (network : Network) (list : List Entry) (start : ℕ) : ℕ → List Packet → Type 0 where
-  probed : Offers network list start start (probes_of start)
-  entry_more : {upto : ℕ} {packets : List Packet} (entry : Entry)
-      → Offers network list start upto packets → slice_get list upto ≡ Some entry
-      → Offers network list start (upto + 1) (packets ++ packet_at network list upto entry ∷ [])
-  asked_again : {upto : ℕ} {packets : List Packet} → Offers network list start upto packets
-      → Offers network list start upto (packets ++ ask_have ∷ [])
-
--- What was handed out since the connection's beginning: nothing; or the first probe; or the probes
--- of a follower that told how many entries it has, and once it was compared entries of the history,
--- too.
-pub data AreHandedOut (network : Network) (list : List Entry) (lines : List (List ℕ))
-    : List Packet → Type 0 where
-  nothing_yet : AreHandedOut network list lines []
-  first_probe : AreHandedOut network list lines (ask_epoch ∷ [])
-  both_probes : (start : ℕ) → TellsEpoch lines start
-      → AreHandedOut network list lines (probes_of start)
-  with_entries : (start upto : ℕ) (packets : List Packet) → TellsEpoch lines start
-      → IsCompared network list lines start → Offers network list start upto packets
-      → AreHandedOut network list lines packets
-
 -- ---- how far a connection is
+
+-- a line told why a connection has ended, where the follower has more entries
+abbrev pub TellsWhy : List (List ℕ) → Ending → Type 0
+TellsWhy lines (Ahead count) = TellsEpoch lines count
+TellsWhy lines (Other count own ours) = ⊤
+TellsWhy lines (Gone count) = ⊤
+TellsWhy lines (Disk count) = ⊤
+TellsWhy lines Memory = ⊤
+TellsWhy lines Stranger = ⊤
 
 -- what is known at each stage
 abbrev pub IsAt : Network → List Entry → List (List ℕ) → List Packet → Option ℕ → Stage → Type 0
@@ -98,7 +52,8 @@ IsAt network list lines packets heard (AskedValue start) = (packets ≡ probes_o
 IsAt network list lines packets heard (Following start upto) = TellsEpoch lines start
     × IsCompared network list lines start × Offers network list start upto packets
     × (start ≤ upto) × (upto ≤ length list)
-IsAt network list lines packets heard (Ended why) = AreHandedOut network list lines packets
+IsAt network list lines packets heard (Ended why) =
+    AreHandedOut network list lines packets × TellsWhy lines why
 
 -- the connection goes on
 abbrev pub IsOpen : Stage → Type 0

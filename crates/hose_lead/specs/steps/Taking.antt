@@ -3,8 +3,10 @@ use Rattle.std.specs.Prelude.{◌≡◌, ℕ, List, [], ◌∷◌, ◌++◌, IfS
 use Rattle.hose_graph.specs.Network.{Network}
 use Rattle.hose_graph.specs.declared.entry.Entry.{Entry}
 use Rattle.hose_follow.specs.Packet.{Packet}
-use Rattle.hose_lead.specs.steps.History.{IsRecentOf, RecentState}
-use Rattle.hose_lead.specs.steps.Standby.{IsAt, IsHeard, StandbyState}
+use Rattle.hose_lead.specs.LedStore.{RecentState}
+use Rattle.hose_lead.specs.steps.History.{IsRecentOf}
+use Rattle.hose_lead.specs.Leading.{IsHeard}
+use Rattle.hose_lead.specs.steps.Standby.{IsAt, StandbyState}
 
 -- what is known of a connection by its lines and what was handed out
 pub record Knows (network : Network) (list : List Entry) (lines : List (List ℕ))

@@ -1,6 +1,6 @@
 use Rattle.std.proofs.Common.{subst, sym, ap, arith, ◌∙◌, ◌≡◌, ◌+◌, List, ℕ}
 use Rattle.hose_follow.specs.Packet.{packet_bytes}
-use Rattle.hose_lead.specs.steps.Probes.{probe}
+use Rattle.hose_lead.specs.Leading.{probe}
 use Rattle.hose_lead.specs.steps.Standby.{HandsOut}
 use Rattle.hose_lead.proofs.Filling.{hands_by, hands_value, with_unsent}
 use Rattle.hose_lead.specs.declared.stage.Stage.TheVariants.{AskedValue}

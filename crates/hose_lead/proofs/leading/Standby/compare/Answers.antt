@@ -10,7 +10,7 @@ returns-in_default g c = record {
   takes = λ network list is. c.end.ensures.takes network list (offered_text c.args.answer);
   unsent = ap (λ (s : StandbyState). s.unsent) c.end.ensures.is;
   heard = ap (λ (s : StandbyState). s.heard) c.end.ensures.is;
-  why = λ network list is. subst (λ (s : StandbyState). IfEnded network list s.stage) (sym c.end.ensures.is) (c.ending_of.ensures network list);
+  why = λ network list is. subst (λ (s : StandbyState). IfEnded network list s.stage) (sym c.end.ensures.is) (c.ending_of.ensures.ends network list);
 }
 
 pub returns-clause-takes : goal.returns-clause-takes

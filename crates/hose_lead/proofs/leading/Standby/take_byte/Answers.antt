@@ -34,7 +34,7 @@ returns g c =
     let same = c.push.ensures.same (search rules) in
     let all = c.end.ensures.is ∙ ap (λ (s : StandbyState). record s { stage = Ended Stranger }) same in
     record {
-      led = λ network list came sent is led. subst (IsLed network list (came ++ c.args.byte ∷ []) sent) (sym all) (led_breaks network list came sent c.args.self.now c.args.byte Stranger led);
+      led = λ network list came sent is led. subst (IsLed network list (came ++ c.args.byte ∷ []) sent) (sym all) (led_breaks network list came sent c.args.self.now c.args.byte led);
       rises = subst (λ (s : StandbyState). RisesTo c.args.self.now.heard s.heard) (sym all) (rises_same c.args.self.now.heard);
       unsent = ap (λ (s : StandbyState). s.unsent) all;
       ended = λ ended. absurd (ended opens);

@@ -11,7 +11,7 @@ returns-in_default c = record {
   takes = λ network list. c.end.ensures.takes network list (offered_text c.args.answer);
   unsent = ap (λ (s : StandbyState). s.unsent) c.end.ensures.is;
   rises = subst (λ (s : StandbyState). RisesTo c.args.self.now.heard s.heard) (sym c.end.ensures.is) (rises_same c.args.self.now.heard);
-  why = λ network list. subst (λ (s : StandbyState). IfEnded network list s.stage) (sym c.end.ensures.is) (c.ending_of.ensures network list);
+  why = λ network list. subst (λ (s : StandbyState). IfEnded network list s.stage) (sym c.end.ensures.is) (c.ending_of.ensures.ends network list);
 }
 
 pub returns-clause-takes : goal.returns-clause-takes

@@ -1,5 +1,6 @@
 use Rattle.std.proofs.Common.{ap, arith, length}
-use Rattle.hose_lead.specs.steps.History.{kept_size, RecentState, KeptPacket}
+use Rattle.hose_lead.specs.LedStore.{RecentState, KeptPacket}
+use Rattle.hose_lead.specs.steps.History.{kept_size}
 use Rattle.hose_lead.proofs.Recents.{size_more}
 use Rattle.hose_lead.proofs.recent.RecentPackets.append.Goals as goal
 

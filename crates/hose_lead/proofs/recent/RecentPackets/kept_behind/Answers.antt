@@ -1,5 +1,6 @@
 use Rattle.std.proofs.Common.{subst, sym, ap, arith, ◌+◌, ◌≡◌, length}
-use Rattle.hose_lead.specs.steps.History.{AreKept, RecentState}
+use Rattle.hose_lead.specs.LedStore.{RecentState}
+use Rattle.hose_lead.specs.steps.History.{AreKept}
 use Rattle.hose_lead.proofs.Recents.{kept_found}
 use Rattle.hose_lead.proofs.recent.RecentPackets.kept_behind.Goals as goal
 

@@ -1,6 +1,6 @@
 use Rattle.std.proofs.Common.{ap, arith, ◌∙◌, ◌+◌, ◌++◌, ◌∷◌, [], length-append, ℕ, List}
 use Rattle.hose_follow.specs.Packet.{packet_bytes}
-use Rattle.hose_lead.specs.steps.History.{KeptPacket, RecentState}
+use Rattle.hose_lead.specs.LedStore.{KeptPacket, RecentState}
 use Rattle.hose_lead.proofs.Recents.{packet_of, recent_more, recent_none}
 use Rattle.hose_lead.proofs.recent.RecentPackets.push.Goals as goal
 

@@ -1,5 +1,6 @@
 use Rattle.std.proofs.Common.{subst, sym}
-use Rattle.hose_lead.specs.steps.History.{IsValueAt, KeptPacket}
+use Rattle.hose_lead.specs.Leading.{IsValueAt}
+use Rattle.hose_lead.specs.LedStore.{KeptPacket}
 use Rattle.hose_lead.proofs.recent.RecentPacketsHistory.value.Goals as goal
 
 pub returns : goal.returns
