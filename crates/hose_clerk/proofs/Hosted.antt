@@ -6,7 +6,7 @@ use Rattle.std.proofs.lemmas.Bool.{cases_Bool, cases_eq, eq-eqb, false≢true, n
 use mathlib.Core.List.{IsPrefix}
 use Rattle.hose_io.specs.Frame.{Frame, Rose, Stays}
 use Rattle.hose_io.proofs.Frames.{Stays-next, Stays-none, Stays-same}
-use Rattle.hose_net.specs.Story.{Exchange}
+use Rattle.hose_net.specs.Story.{Exchange, Link, no_link}
 use Rattle.hose_graph.specs.Network.{Network}
 use Rattle.hose_graph.specs.declared.command.Reply.{Reply}
 use Rattle.hose_graph.specs.declared.command.Reply.TheVariants.{Disk}
@@ -37,7 +37,9 @@ use Rattle.hose_clerk.specs.Tally.{no_tally, tally_with}
 use Rattle.hose_clerk.specs.declared.tally.Tally.{Tally}
 use Rattle.hose_clerk.specs.declared.sessions.Session.{Session}
 use Rattle.hose_clerk.specs.declared.sessions.Session.TheVariants as session
-use Rattle.hose_clerk.specs.steps.Answering.{AnswersTo, AreSessionsKept, FitsStage, HasAsked, HasHosted, HasReplied, HasStayed, IsBefore, IsSessionKept}
+use Rattle.hose_lead.specs.steps.Standby.{IsLed, StandbyState}
+use Rattle.hose_lead.proofs.Told.{longer}
+use Rattle.hose_clerk.specs.steps.Answering.{AnswersTo, AreSessionsKept, FitsStage, GrowsWith, HasAsked, HasHosted, HasReplied, HasStayed, IsBefore, IsSessionKept}
 use Rattle.hose_clerk.specs.steps.Sessions.{IsPut, LeavesAll, is_new_at, is_over_at, session_at}
 
 -- a line that was answered
@@ -189,6 +191,24 @@ disks_more before middle after xs x (inl told) stays (inl one) = inl (omega (ari
 disks_more before middle after xs x (inl told) stays (inr most) = inr most
 disks_more before middle after xs x (inr most) stays one = inr (omega (arith, most, stays.never_falls))
 
+-- ---- what a link to a standby has come to
+
+-- of what history books are goes on by a step
+of_goes : {K R : Type 0} (books : Ghosts K R) (is_of : K → Network → List Entry → Type 0) → GrowsWith books is_of → (network : Network) (history : List Entry) (old new : K) (answer : Reply) (entry : Option Entry)
+    → Goes books old answer entry new → is_of old network history → is_of new network (history_with history entry (committed_of answer))
+of_goes {K} books is_of grows network history old new answer None goes is = subst (λ (k : K). is_of k network history) (sym goes) is
+of_goes books is_of grows network history old new answer (Some entry) goes is = grows network history old new entry (committed_of answer) goes is
+
+-- and so does what led to a state
+module _ (network : Network) (history : List Entry) (given sent : List ℕ) (state : StandbyState) where
+  led_after : (entry : Entry) (result : Committed) → IsLed network history given sent state → IsLed network (history_after history entry result) given sent state
+  led_after entry Done led = longer network history given sent state (entry ∷ []) led
+  led_after entry Failing led = led
+
+  led_with : (entry : Option Entry) (result : Committed) → IsLed network history given sent state → IsLed network (history_with history entry result) given sent state
+  led_with None result led = led
+  led_with (Some entry) result led = led_after entry result led
+
 -- ---- one line more
 
 -- what a change of books leaves, whether a line changed them or not
@@ -198,7 +218,8 @@ record Changed {K R : Type 0} (books : Ghosts K R) (Kind : EntryKind) (network :
   stays : Stays (books.frame old) (books.frame new)
   told : TellsOne (books.frame old) disks (books.frame new)
 
-module _ {K R : Type 0} (books : Ghosts K R) (since : List Entry) (first old new : K) (xs : List Answered) (sessions : List Session) (tally : Tally) (was : HasHosted books since first old sessions false tally xs) where
+module _ {K R : Type 0} (books : Ghosts K R) (is_of : K → Network → List Entry → Type 0) (since : List Entry) (first old new : K) (xs : List Answered) (sessions : List Session) (tally : Tally) (standby : StandbyState) (link : Link)
+    (was : HasHosted books is_of since first old sessions false tally standby xs link) where
   abbrev network : Network
   network = (books.ledger first).network
 
@@ -266,7 +287,7 @@ module _ {K R : Type 0} (books : Ghosts K R) (since : List Entry) (first old new
     changed stage next never at (inr asked) = ⊎_elim (λ yes. absurd (never yes asked)) (λ no. went stage next no (at no) asked) (cases_Bool x.first)
 
     module _ (one left : Session) (after : List Session) (at : session_at sessions x.place ≡ one) (open_still : is_over_at one ≡ false) (put : IsPut sessions x.place left after) (is_first : x.first ≡ is_new_at one)
-        (answers : AnswersTo books tally old new one x.said x.reply left) (needs : x.needs ≡ (books.ledger new).book.epoch) where
+        (answers : AnswersTo books tally old new one x.said x.reply left) (needs : x.needs ≡ (books.ledger new).book.epoch) (grows : GrowsWith books is_of) where
       abbrev stage : Stage
       stage = stage_before x.first (here.stages x.place)
 
@@ -316,7 +337,17 @@ module _ {K R : Type 0} (books : Ghosts K R) (since : List Entry) (first old new
         sits : (place : ℕ) → Sits (session_at after place) (state.stages place)
         sits place = ⊎_elim (λ same. subst (λ (at : ℕ). Sits (session_at after at) (state.stages at)) same sits_here) (λ apart. sits_there place apart) (cases_eq x.place place)
 
-        hosted_by : HasHosted books since first new after (ends_host x.reply) (tally_with x.reply tally) (xs ++ x ∷ [])
+        history_next : HasStayed old new here.history x.reply replied.next ⊎ HasAsked books old new here.history stage x.said x.reply replied.next → is_of new network replied.next
+        history_next (inl is) = subst (λ (h : List Entry). is_of new network h) (sym is.stays) (subst (λ (k : K). is_of k network here.history) (sym is.same) was.history)
+        history_next (inr asked) = subst (λ (h : List Entry). is_of new network h) (sym asked.leads)
+            (of_goes books is_of grows network here.history old new asked.answer asked.entry asked.goes was.history)
+
+        led_next : HasStayed old new here.history x.reply replied.next ⊎ HasAsked books old new here.history stage x.said x.reply replied.next → IsLed network replied.next link.given link.sent standby
+        led_next (inl is) = subst (λ (h : List Entry). IsLed network h link.given link.sent standby) (sym is.stays) was.led
+        led_next (inr asked) = subst (λ (h : List Entry). IsLed network h link.given link.sent standby) (sym asked.leads)
+            (led_with network here.history link.given link.sent standby asked.entry (committed_of asked.answer) was.led)
+
+        hosted_by : HasHosted books is_of since first new after (ends_host x.reply) (tally_with x.reply tally) standby (xs ++ x ∷ []) link
         hosted_by = record {
           hosted = record {
             state = state;
@@ -332,16 +363,19 @@ module _ {K R : Type 0} (books : Ghosts K R) (since : List Entry) (first old new
           sits = sits;
           ends = refl;
           counted = ap (tally_with x.reply) was.counted;
+          history = history_next replied.changes;
+          led = led_next replied.changes;
         }
 
       -- one line more is answered
-      pub hosted_more : HasHosted books since first new after (ends_host x.reply) (tally_with x.reply tally) (xs ++ x ∷ [])
+      pub hosted_more : HasHosted books is_of since first new after (ends_host x.reply) (tally_with x.reply tally) standby (xs ++ x ∷ []) link
       hosted_more = hosted_by (answers.replied here.history stage was.book is_at)
 
 -- what all lines have come to stays as who is new or over is put at a place
-pub hosted_put : {K R : Type 0} (books : Ghosts K R) (since : List Entry) (first now : K) (place : ℕ) (one : Session) (sessions after : List Session) (ended : Bool) (tally : Tally) (xs : List Answered)
-    → ((network : Network) (history : List Entry) (stage : Stage) → FitsStage network history one stage) → IsPut sessions place one after → HasHosted books since first now sessions ended tally xs → HasHosted books since first now after ended tally xs
-hosted_put books since first now place one sessions after ended tally xs fits put was = record {
+pub hosted_put : {K R : Type 0} (books : Ghosts K R) (is_of : K → Network → List Entry → Type 0) (since : List Entry) (first now : K) (place : ℕ) (one : Session) (sessions after : List Session) (ended : Bool) (tally : Tally) (standby : StandbyState) (xs : List Answered) (link : Link)
+    → ((network : Network) (history : List Entry) (stage : Stage) → FitsStage network history one stage) → IsPut sessions place one after
+    → HasHosted books is_of since first now sessions ended tally standby xs link → HasHosted books is_of since first now after ended tally standby xs link
+hosted_put books is_of since first now place one sessions after ended tally standby xs link fits put was = record {
   hosted = was.hosted;
   book = was.book;
   network = was.network;
@@ -352,18 +386,22 @@ hosted_put books since first now place one sessions after ended tally xs fits pu
       (cases_eq other place);
   ends = was.ends;
   counted = was.counted;
+  history = was.history;
+  led = was.led;
 }
 
 -- and as places are made
-pub hosted_left : {K R : Type 0} (books : Ghosts K R) (since : List Entry) (first now : K) (sessions after : List Session) (ended : Bool) (tally : Tally) (xs : List Answered)
-    → LeavesAll sessions after → HasHosted books since first now sessions ended tally xs → HasHosted books since first now after ended tally xs
-hosted_left books since first now sessions after ended tally xs leaves was = record {
+pub hosted_left : {K R : Type 0} (books : Ghosts K R) (is_of : K → Network → List Entry → Type 0) (since : List Entry) (first now : K) (sessions after : List Session) (ended : Bool) (tally : Tally) (standby : StandbyState) (xs : List Answered) (link : Link)
+    → LeavesAll sessions after → HasHosted books is_of since first now sessions ended tally standby xs link → HasHosted books is_of since first now after ended tally standby xs link
+hosted_left books is_of since first now sessions after ended tally standby xs link leaves was = record {
   hosted = was.hosted;
   book = was.book;
   network = was.network;
   sits = λ place. subst (λ (s : Session). FitsStage (books.ledger now).network was.hosted.state.history s (was.hosted.state.stages place)) (sym (leaves place)) (was.sits place);
   ends = was.ends;
   counted = was.counted;
+  history = was.history;
+  led = was.led;
 }
 
 -- so does what sessions hold
@@ -371,8 +409,9 @@ pub kept_left : (ledger : Ledger) (sessions after : List Session) → LeavesAll 
 kept_left ledger sessions after leaves kept place = subst (IsSessionKept ledger) (sym (leaves place)) (kept place)
 
 -- nothing is answered yet, and no one is there
-pub hosted_none : {K R : Type 0} (books : Ghosts K R) (since : List Entry) (now : K) → IsSound (books.ledger now).network 0 since → HasBookOf 0 since (books.ledger now) → HasHosted books since now now [] false no_tally []
-hosted_none books since now sound book = record {
+pub hosted_none : {K R : Type 0} (books : Ghosts K R) (is_of : K → Network → List Entry → Type 0) (since : List Entry) (now : K) (standby : StandbyState) → IsSound (books.ledger now).network 0 since → HasBookOf 0 since (books.ledger now)
+    → is_of now (books.ledger now).network since → IsLed (books.ledger now).network since [] [] standby → HasHosted books is_of since now now [] false no_tally standby [] no_link
+hosted_none books is_of since now standby sound book history led = record {
   hosted = record {
     state = host_from since;
     steps = refl;
@@ -387,4 +426,6 @@ hosted_none books since now sound book = record {
   sits = λ place. tt;
   ends = refl;
   counted = refl;
+  history = history;
+  led = led;
 }

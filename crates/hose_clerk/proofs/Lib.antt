@@ -1,3 +1,4 @@
 mod Placed
 mod Answered
 pub mod Hosted
+mod Linked

@@ -1,5 +1,5 @@
 -- The texts of the replies of a host.
-use Rattle.std.specs.Prelude.{ℕ, List, ◌++◌, codes, decimal}
+use Rattle.std.specs.Prelude.{ℕ, List, [], ◌++◌, None, Option, Some, codes, decimal}
 use Rattle.hose_graph.specs.Network.{Network}
 use Rattle.hose_proto.specs.ReplyText.{line_of, reply_text}
 use Rattle.hose_clerk.specs.declared.figures.Figures.{Figures}
@@ -46,12 +46,19 @@ times_text times =
     ++ numbered (codes " over-1s ") times.over_1s
     ++ numbered (codes " over-10s ") times.over_10s
 
--- what was counted, how long ago the last sync was, and the epoch
+-- how many entries a standby was heard to have, where replies wait for one, and 1 where the host
+-- goes on without it, else 0
+abbrev pub standby_text : Option ℕ → ℕ → List ℕ
+standby_text None alone = []
+standby_text (Some heard) alone =
+    numbered (codes " standby ") heard ++ numbered (codes " alone ") alone
+
+-- what was counted, how long ago the last sync was, the epoch, and how far a standby is
 abbrev pub figures_text : Figures → List ℕ
 figures_text figures =
     comers_text figures ++ orders_text figures ++ failures_text figures
     ++ times_text figures.times ++ numbered (codes " synced ") figures.since_sync
-    ++ numbered (codes " at ") figures.at
+    ++ numbered (codes " at ") figures.at ++ standby_text figures.standby figures.alone
 
 -- the line that tells what was counted
 abbrev pub figures_line : Figures → List ℕ

@@ -1,7 +1,7 @@
 -- What a host answers to the lines of all its connections, in their order: one history, and a
 -- session for each connection.
-use Rattle.std.specs.Prelude.{◌≡◌, ◌≢◌, ◌⊎◌, ℕ, ◌+◌, ◌-◌, ◌^◌, ◌==◌, ◌≤◌, Bool, true, false, if◌then◌else◌, List, [], ◌∷◌, length, slice_get, take, Some}
-use Rattle.hose_net.specs.Story.{Exchange}
+use Rattle.std.specs.Prelude.{◌≡◌, ◌≢◌, ◌⊎◌, ℕ, ◌+◌, ◌-◌, ◌^◌, ◌==◌, ◌≤◌, Bool, true, false, if◌then◌else◌, List, [], ◌∷◌, length, slice_get, take, Option, Some}
+use Rattle.hose_net.specs.Story.{Exchange, Link}
 use Rattle.hose_graph.specs.Limits.{operator}
 use Rattle.hose_graph.specs.Network.{Network}
 use Rattle.hose_graph.specs.declared.command.Command.{Command}
@@ -16,6 +16,7 @@ use Rattle.hose_law.specs.Script.{one_if_disk}
 use Rattle.hose_law.specs.Transcript.{IsPlainReply, SessionLine, Stage, stage_after}
 use Rattle.hose_law.specs.Transcript.SessionLine.{Greets, Asks}
 use Rattle.hose_law.specs.Transcript.Stage.{Left, Refused, Serving, Waiting}
+use Rattle.hose_lead.specs.Leading.{Leads, TellsAhead}
 use Rattle.hose_clerk.specs.HostLines.{HostLine}
 use Rattle.hose_clerk.specs.HostLines.HostLine.{Counts, Ends, Speaks}
 use Rattle.hose_clerk.specs.Tally.{no_tally, tally_with}
@@ -173,3 +174,20 @@ disks_of (exchange ∷ exchanges) = disks_of exchanges + disks_told exchange.rep
 abbrev pub TellsDisks : ℕ → List (Exchange HostLine HostReply) → ℕ → Type 0
 TellsDisks before exchanges after =
     (before + disks_of exchanges ≤ after) ⊎ (2 ^ 64 - 1 ≤ after)
+
+-- ---- the link to a standby
+
+-- Lines lead a host, from this history on, to where by what the link to its standby gave and was
+-- sent the standby is heard to have so many of the history's entries.
+abbrev pub LeadsBy : Network → List Entry → List (Exchange HostLine HostReply) → Link → Option ℕ
+    → Type 0
+LeadsBy network since exchanges link heard = (state : HostState)
+    × AreHostSteps network exchanges (host_from since) state
+    × Leads network state.history link.given link.sent heard
+
+-- and where the standby told that it has so many entries, more than the history
+abbrev pub IsAheadBy : Network → List Entry → List (Exchange HostLine HostReply) → Link → ℕ
+    → Type 0
+IsAheadBy network since exchanges link count = (state : HostState)
+    × AreHostSteps network exchanges (host_from since) state
+    × TellsAhead state.history link.given count

@@ -4,52 +4,67 @@ ghost use Rattle.hose_graph.specs.declared.entry.Entry.{Entry};
 ghost use Rattle.hose_law.specs.History.{IsSound};
 ghost use Rattle.hose_book.specs.Ledger.{HasBookOf};
 ghost use Rattle.hose_clerk.specs.Tally.{no_tally};
-ghost use Rattle.hose_clerk.specs.steps.Answering.{AreSessionsKept, HasHosted};
+ghost use Rattle.hose_clerk.specs.steps.Answering.{AreSessionsKept, GrowsWith, HasHosted};
+ghost use Rattle.hose_net.specs.Story.{no_link};
 
 use crate::desk::{Desk, topology_of};
 use crate::doors::{DoorRule, rule_of};
 use crate::figures::Figures;
+use crate::linking::{
+    LinkNotes, StandbyAt, ahead_at, ask_if, is_ended, may_go_alone, path_of, patience_with,
+};
 use crate::replies::{HostReply, put_host_reply};
 use crate::sessions::{Session, is_over, make_room, put, take};
 use hose_book::Books;
 use hose_core::Core;
 use hose_host::HostAnswers;
 use hose_io::{Failed, Sink};
+use hose_lead::{History, Standby};
 use hose_log::Log;
+use hose_net::Hold;
 use hose_paths::RowMaker;
 use hose_words::Line;
 use std::alloc::{AllocError, Global};
 
 /// Who answers the lines of all connections by one book: what answers them, the rule of each door,
-/// and how far each session is, by its place.
+/// and how far each session is, by its place; and where replies wait for a standby, how far the
+/// link to it is.
 #[derive(Drop)]
-pub struct Clerk<K: Books + Drop, R: RowMaker + Drop, L: Log> {
+pub struct Clerk<K: Books + History + Drop, R: RowMaker + Drop, L: Log> {
     pub desk: Desk<K, R, L>,
     pub doors: Vec<DoorRule>,
     pub sessions: Vec<Session>,
+    pub awaited: Option<StandbyAt>,
+    pub standby: Standby,
+    pub notes: LinkNotes,
 }
 
-impl<K: Books + Drop, R: RowMaker + Drop, L: Log> Clerk<K, R, L> {
-    /// Who answers by a core, at doors of these rules, and tells the log. No one is there yet.
+impl<K: Books + History + Drop, R: RowMaker + Drop, L: Log> Clerk<K, R, L> {
+    /// Who answers by a core, at doors of these rules, and tells the log; and the standby that
+    /// replies wait for, if there is one. No one is there yet.
     pub fn new(
         alloc: Global,
         core: Core<K>,
         rows: R,
         doors: Vec<DoorRule>,
         log: L,
+        awaited: Option<StandbyAt>,
     ) -> Clerk<K, R, L>
+        requires grows { GrowsWith K.Books K.History.is_of }
         ensures core { result.desk.core ≡ core }
         ensures doors { result.doors.items ≡ doors.items }
         ensures ending { result.desk.is_ending ≡ false }
         ensures tally { result.desk.figures.tally ≡ no_tally }
+        ensures awaited { result.awaited ≡ awaited }
         ensures kept { AreSessionsKept (K.ledger core.books) result.sessions.items }
         // Nothing is answered yet.
         ensures hosted { (since : List Entry) → IsSound (K.ledger core.books).network 0 since
             → HasBookOf 0 since (K.ledger core.books)
-            → HasHosted K.Books since core.books core.books result.sessions.items false no_tally
-            [] }
+            → K.History.is_of core.books (K.ledger core.books).network since
+            → HasHosted K.Books K.History.is_of since core.books core.books result.sessions.items
+            false no_tally result.standby [] no_link }
     {
-        let figures = Figures::new(log.nanos());
+        let figures = Figures::new(log.nanos(), awaited.is_some());
         Clerk {
             desk: Desk {
                 alloc,
@@ -61,6 +76,9 @@ impl<K: Books + Drop, R: RowMaker + Drop, L: Log> Clerk<K, R, L> {
             },
             doors,
             sessions: Vec::new(alloc),
+            awaited,
+            standby: Standby::new(alloc),
+            notes: LinkNotes::new(),
         }
     }
 
@@ -72,6 +90,9 @@ impl<K: Books + Drop, R: RowMaker + Drop, L: Log> Clerk<K, R, L> {
             desk,
             doors: _doors,
             sessions: _sessions,
+            awaited: _awaited,
+            standby: _standby,
+            notes: _notes,
         } = self;
         let Desk {
             alloc: _alloc,
@@ -86,44 +107,61 @@ impl<K: Books + Drop, R: RowMaker + Drop, L: Log> Clerk<K, R, L> {
     }
 }
 
-impl<K: Books + Drop, R: RowMaker + Drop, L: Log> HostAnswers for Clerk<K, R, L> {
+impl<K: Books + History + Drop, R: RowMaker + Drop, L: Log> HostAnswers for Clerk<K, R, L> {
     type Reply = HostReply;
 
     type Kept = K;
 
-    ghost use Rattle.std.specs.Prelude.{List};
+    ghost use Rattle.std.specs.Prelude.{Bool, List, Option, ℕ};
     ghost use Rattle.hose_graph.specs.Network.{Network};
     ghost use Rattle.hose_graph.specs.declared.entry.Entry.{Entry};
     ghost use Rattle.hose_clerk.specs.HostLines.{HostLine, SaysAt};
     ghost use Rattle.hose_clerk.specs.HostReplies.{host_text};
     ghost use Rattle.hose_clerk.specs.declared.doors.DoorRule.{DoorRule};
-    ghost use Rattle.hose_clerk.specs.steps.Answering.{AreSessionsKept, HasHosted, NamesOf};
+    ghost use Rattle.hose_clerk.specs.Hosting.{IsAheadBy, LeadsBy};
+    ghost use Rattle.hose_clerk.specs.steps.Answering.{AreSessionsKept, GrowsWith, HasHosted, NamesOf};
     ghost use Rattle.hose_clerk.specs.steps.Hosting.{AreHosted};
+    ghost use Rattle.hose_clerk.specs.steps.Linking.{goes_alone, path_at};
     ghost use Rattle.hose_clerk.specs.steps.Sessions.{is_new_at, is_over_at, session_at};
 
     ghost said = { HostLine };
 
-    // the network, and the rules of the doors
-    ghost subject = { Network × List DoorRule };
+    // the network, the rules of the doors, the path of a standby, and whether replies are told
+    // without it
+    ghost subject = { Network × List DoorRule × Option (List ℕ) × Bool };
 
-    ghost about = { λ clerk. ((K.ledger clerk.desk.core.books).network, clerk.doors.items) };
+    ghost about = { λ clerk. (
+      (K.ledger clerk.desk.core.books).network,
+      clerk.doors.items,
+      path_at clerk.awaited,
+      goes_alone clerk.awaited,
+    ) };
 
     ghost says = { λ about. SaysAt about.0 about.1 };
 
     ghost text = { λ about reply. host_text about.0 reply };
 
+    ghost standby_at = { λ about. about.2 };
+
+    ghost goes_alone = { λ about. about.3 };
+
     // a history, and who answers from there on
     ghost origin = { List Entry × Self };
 
-    ghost comes = { λ from exchanges clerk. HasHosted K.Books from.0 from.1.desk.core.books
-        clerk.desk.core.books clerk.sessions.items clerk.desk.is_ending clerk.desk.figures.tally
-        exchanges };
+    ghost comes = { λ from exchanges link clerk. HasHosted K.Books K.History.is_of from.0
+        from.1.desk.core.books clerk.desk.core.books clerk.sessions.items clerk.desk.is_ending
+        clerk.desk.figures.tally clerk.standby exchanges link };
 
     ghost stands = { λ from exchanges books. AreHosted K.Books
         (K.ledger from.1.desk.core.books).network from.0 from.1.desk.core.books books exchanges };
 
+    ghost leads = { λ from. LeadsBy (K.ledger from.1.desk.core.books).network from.0 };
+
+    ghost is_ahead = { λ from. IsAheadBy (K.ledger from.1.desk.core.books).network from.0 };
+
     ghost fits = { λ clerk.
-        AreSessionsKept (K.ledger clerk.desk.core.books) clerk.sessions.items };
+        AreSessionsKept (K.ledger clerk.desk.core.books) clerk.sessions.items
+        × GrowsWith K.Books K.History.is_of };
 
     ghost can_put = { λ clerk reply. NamesOf (K.ledger clerk.desk.core.books).network reply };
 
@@ -134,6 +172,8 @@ impl<K: Books + Drop, R: RowMaker + Drop, L: Log> HostAnswers for Clerk<K, R, L>
     ghost ends = { λ clerk. clerk.desk.is_ending };
 
     ghost count = { λ clerk. (K.ledger clerk.desk.core.books).book.epoch };
+
+    ghost unsent = { λ clerk. clerk.standby.unsent };
 
     fn begin(&mut self, _door: usize, place: usize) -> Result<(), AllocError> {
         make_room(&mut self.sessions, place)?;
@@ -175,5 +215,67 @@ impl<K: Books + Drop, R: RowMaker + Drop, L: Log> HostAnswers for Clerk<K, R, L>
 
     fn is_ending(&self) -> bool {
         self.desk.is_ending
+    }
+
+    fn standby(&self) -> Option<&str> {
+        path_of(&self.awaited)
+    }
+
+    fn may_go_alone(&self) -> bool {
+        may_go_alone(&self.awaited)
+    }
+
+    fn patience(&self) -> (u64, u64) {
+        patience_with(&self.awaited)
+    }
+
+    fn link_opened(&mut self) {
+        self.standby = Standby::new(self.desk.alloc);
+    }
+
+    fn take_in(&mut self, bytes: &[u8]) {
+        self.standby.take_in(self.desk.core.books(), bytes);
+        self.desk.figures.hear(self.standby.heard());
+        self.notes
+            .tell_ending(self.desk.alloc, &mut self.desk.log, self.standby.stage());
+    }
+
+    fn gather(&mut self, asks: bool) {
+        ask_if(&mut self.standby, asks);
+        // Where memory is wanting it is tried again.
+        let _filled = self.standby.fill(self.desk.core.books());
+        self.notes
+            .tell_ending(self.desk.alloc, &mut self.desk.log, self.standby.stage());
+    }
+
+    fn unsent(&self) -> &[u8] {
+        self.standby.unsent()
+    }
+
+    fn was_sent(&mut self, sent: usize) {
+        self.standby.was_sent(sent);
+    }
+
+    fn heard(&self) -> Option<u64> {
+        self.standby.heard()
+    }
+
+    fn ahead(&self) -> Option<u64> {
+        let count = ahead_at(self.standby.stage())?;
+        // Entries may have come since.
+        if count <= self.counted() {
+            return None;
+        }
+        Some(count)
+    }
+
+    fn is_link_over(&self) -> bool {
+        is_ended(self.standby.stage())
+    }
+
+    fn tell_hold(&mut self, hold: Hold) {
+        self.desk.figures.hold(hold);
+        self.notes
+            .tell_hold(self.desk.alloc, &mut self.desk.log, hold);
     }
 }

@@ -1,7 +1,7 @@
 // What there was since the start, counted.
-ghost use Rattle.std.specs.Prelude.{◌≡◌};
+ghost use Rattle.std.specs.Prelude.{◌≡◌, Some};
 ghost use Rattle.hose_io.specs.steps.Gather.{IsAdded};
-ghost use Rattle.hose_clerk.specs.HostReplies.{comers_text, failures_text, figures_text, orders_text, times_text};
+ghost use Rattle.hose_clerk.specs.HostReplies.{comers_text, failures_text, figures_text, orders_text, standby_text, times_text};
 ghost use Rattle.hose_clerk.specs.Tally.{no_tally, tally_with};
 
 use crate::replies::HostReply;
@@ -9,6 +9,7 @@ use crate::sessions::Session;
 use crate::tally::Tally;
 use crate::times::Times;
 use hose_io::{Gather, Sink};
+use hose_net::Hold;
 
 /// What there was since the start. Each count stays at the type's end.
 #[derive(Clone, Copy, Debug, PartialEq, Eq)]
@@ -25,13 +26,18 @@ pub struct Figures {
     pub times: Times,
     /// How many milliseconds ago the last sync was when they are told.
     pub since_sync: u64,
+    /// How many entries a standby was heard to have, where replies wait for one.
+    pub standby: Option<u64>,
+    /// 1 where the host goes on without it, else 0.
+    pub alone: u64,
     /// The epoch at which they are told.
     pub at: u64,
 }
 
 impl Figures {
-    /// Those of the start, at so many nanoseconds of a clock.
-    pub fn new(now: u64) -> Figures
+    /// Those of the start, at so many nanoseconds of a clock, where replies wait for a standby or
+    /// for none.
+    pub fn new(now: u64, is_awaited: bool) -> Figures
         ensures { result.tally ≡ no_tally }
     {
         Figures {
@@ -41,6 +47,8 @@ impl Figures {
             lost: 0,
             times: Times::new(now),
             since_sync: 0,
+            standby: is_awaited.then_some(0),
+            alone: 0,
             at: 0,
         }
     }
@@ -57,6 +65,8 @@ impl Figures {
             lost,
             times: self.times,
             since_sync: self.times.since_sync(now),
+            standby: self.standby,
+            alone: self.alone,
             at,
         }
     }
@@ -80,6 +90,25 @@ impl Figures {
         }
     }
 
+    /// A standby is heard to have so many entries, where it is heard.
+    pub fn hear(&mut self, heard: Option<u64>)
+        ensures { self.new.tally ≡ self.old.tally }
+    {
+        if heard.is_some() {
+            self.standby = heard;
+        }
+    }
+
+    /// How replies are held from now on.
+    pub fn hold(&mut self, hold: Hold)
+        ensures { self.new.tally ≡ self.old.tally }
+    {
+        self.alone = match hold {
+            Hold::Alone => 1,
+            Hold::Upto(_) => 0,
+        };
+    }
+
     /// One line more, with this reply.
     pub fn count(&mut self, reply: &HostReply)
         ensures { self.new.tally ≡ tally_with reply.now self.old.tally }
@@ -98,6 +127,7 @@ pub fn add_figures<S: Sink>(gather: &mut Gather, sink: &mut S, figures: &Figures
     add_times(gather, sink, &figures.times);
     gather.add_numbered(sink, b" synced ", figures.since_sync);
     gather.add_numbered(sink, b" at ", figures.at);
+    add_standby(gather, sink, figures.standby, figures.alone);
 }
 
 // Adds how many connections and lines there were.
@@ -127,6 +157,24 @@ fn add_failures<S: Sink>(gather: &mut Gather, sink: &mut S, figures: &Figures)
     gather.add_numbered(sink, b" disk ", figures.tally.disk);
     gather.add_numbered(sink, b" memory ", figures.tally.memory);
     gather.add_numbered(sink, b" lost ", figures.lost);
+}
+
+// Adds how far a standby is, where replies wait for one.
+fn add_standby<S: Sink>(gather: &mut Gather, sink: &mut S, standby: Option<u64>, alone: u64)
+    ensures { IsAdded S.Sink gather.old sink.old gather.new sink.new (standby_text standby alone) }
+{
+    let Some(heard) = standby else {
+        return;
+    };
+    add_heard(gather, sink, heard, alone);
+}
+
+fn add_heard<S: Sink>(gather: &mut Gather, sink: &mut S, heard: u64, alone: u64)
+    ensures { IsAdded S.Sink gather.old sink.old gather.new sink.new
+        (standby_text (Some heard) alone) }
+{
+    gather.add_numbered(sink, b" standby ", heard);
+    gather.add_numbered(sink, b" alone ", alone);
 }
 
 // Adds how long orders and quotes took.

@@ -12,9 +12,12 @@
 //!
 //! Each order, and each reply that tells a failure, is told to a log.
 //!
+//! Where replies wait for a standby, it is handed out what it lacks of the history, and heard to
+//! have entries, by the bytes of one link to it at a time.
+//!
 //! ```
 //! let doors = vec![in alloc; DoorRule::AnyButOperator]?;
-//! let mut clerk = Clerk::new(alloc, core, RowsInAdvance::new(), doors, NoLog);
+//! let mut clerk = Clerk::new(alloc, core, RowsInAdvance::new(), doors, NoLog, None);
 //! host(rt, alloc, &mut network, &mut clerk);
 //! let books = clerk.into_books();
 //! ```
@@ -24,6 +27,7 @@ mod clerk;
 mod desk;
 mod doors;
 mod figures;
+mod linking;
 mod log_lines;
 mod own_words;
 mod replies;
@@ -35,6 +39,7 @@ pub use clerk::Clerk;
 pub use desk::Desk;
 pub use doors::DoorRule;
 pub use figures::Figures;
+pub use linking::{LinkNotes, StandbyAt};
 pub use replies::HostReply;
 pub use sessions::{Client, Session};
 pub use tally::Tally;

@@ -1,6 +1,6 @@
 -- How a line of one session is answered, and what all lines have come to: steps of proofs.
 use Rattle.std.specs.Prelude.{◌≡◌, ◌⊎◌, ℕ, Bool, false, List, [], IfSome, ⊤, Option}
-use Rattle.hose_net.specs.Story.{Exchange}
+use Rattle.hose_net.specs.Story.{Exchange, Link}
 use Rattle.hose_words.specs.Form.{IsChoice}
 use Rattle.hose_words.specs.Grammar.{IsFirst, IsFirstNotAllowed}
 use Rattle.hose_words.specs.Words.{words_of}
@@ -18,8 +18,10 @@ use Rattle.hose_law.specs.Transcript.{Stage}
 use Rattle.hose_law.specs.Transcript.SessionLine.{Greets, Asks, Leaves, IsBad, IsLong, Unread}
 use Rattle.hose_law.specs.Transcript.Stage.{Serving, Waiting}
 use Rattle.hose_book.specs.Ledger.{HasBookOf, Ledger}
-use Rattle.hose_book.specs.steps.Commit.{IsMet}
+use Rattle.hose_book.specs.steps.Commit.{IsMet, history_after}
 use Rattle.hose_book.specs.declared.books.Books.{Ghosts}
+use Rattle.hose_book.specs.declared.books.Committed.{Committed}
+use Rattle.hose_lead.specs.steps.Standby.{IsLed, StandbyState}
 use Rattle.hose_core.specs.steps.Holding.{AreAllKept, AreHeld, quotes_in}
 use Rattle.hose_core.specs.steps.Stepping.{Goes, IsSameOrNext, committed_of, history_with}
 use Rattle.hose_proto.specs.Command.{IsCommand, TakesMemory, command_grammar, verb_word}
@@ -160,11 +162,19 @@ pub record AnswersText {K R : Type 0} (books : Ghosts K R) (tally : Tally) (book
 
 -- ---- all lines
 
+-- of what history books are goes on as entries are committed to them
+abbrev pub GrowsWith : {K R : Type 0} → Ghosts K R → (K → Network → List Entry → Type 0) → Type 0
+GrowsWith {K} books is_of = (network : Network) (history : List Entry) (old new : K)
+    (entry : Entry) (result : Committed) → books.went old entry result new
+    → is_of old network history → is_of new network (history_after history entry result)
+
 -- Lines were answered from a history on, by books that were first so, and have come to these: each
--- session fits where the host is, and the replies were counted.
-pub record HasHosted {K R : Type 0} (books : Ghosts K R) (since : List Entry) (first now : K)
-    (sessions : List Session) (ended : Bool) (tally : Tally)
-    (exchanges : List (Exchange HostLine HostReply)) : Type 0 where
+-- session fits where the host is, and the replies were counted. The books are of the history there,
+-- and what a link to a standby gave and was sent has led to this state.
+pub record HasHosted {K R : Type 0} (books : Ghosts K R)
+    (is_of : K → Network → List Entry → Type 0) (since : List Entry) (first now : K)
+    (sessions : List Session) (ended : Bool) (tally : Tally) (standby : StandbyState)
+    (exchanges : List (Exchange HostLine HostReply)) (link : Link) : Type 0 where
   pub hosted : AreHosted books (books.ledger first).network since first now exchanges
   pub book : HasBookOf 0 hosted.state.history (books.ledger now)
   pub network : (books.ledger now).network ≡ (books.ledger first).network
@@ -172,3 +182,5 @@ pub record HasHosted {K R : Type 0} (books : Ghosts K R) (since : List Entry) (f
       (session_at sessions place) (hosted.state.stages place)
   pub ends : hosted.state.ended ≡ ended
   pub counted : hosted.state.tally ≡ tally
+  pub history : is_of now (books.ledger first).network hosted.state.history
+  pub led : IsLed (books.ledger first).network hosted.state.history link.given link.sent standby

@@ -18,10 +18,12 @@ returns-clause-fits g c =
     let left = c.reply_to-reply.result.1 in
     let answers = c.reply_to-reply.ensures.answers.answers in
     let put = put_then sessions c.take-session.new.sessions.items after c.args.place Over left c.take-session.ensures.left c.put.ensures in
-    kept_put (g.K.Books.ledger c.args.self.now.desk.core.books) (g.K.Books.ledger c.reply_to-reply.new.self.core.books) c.args.place left sessions after answers.goes c.requires.fits put answers.kept
+    (kept_put (g.K.Books.ledger c.args.self.now.desk.core.books) (g.K.Books.ledger c.reply_to-reply.new.self.core.books) c.args.place left sessions after answers.goes c.requires.fits.0 put answers.kept, c.requires.fits.1)
 
 pub returns-clause-answers : goal.returns-clause-answers
-returns-clause-answers g c = λ from before bytes shows has.
+returns-clause-answers g c = λ from link before bytes shows has.
+    let standby = c.args.self.now.standby in
+    let is_of = g.K.History.is_of in
     let old = c.args.self.now.desk.core.books in
     let new = c.reply_to-reply.new.self.core.books in
     let sessions = c.args.self.now.sessions.items in
@@ -44,11 +46,11 @@ returns-clause-answers g c = λ from before bytes shows has.
     let says = subst (λ (b : Bool). SaysBy network (rule_at c.args.self.now.doors.items c.args.door) b bytes answered.said) (ap is_new_at (sym at))
     (subst (λ (r : DoorRule). SaysBy network r (is_new_at one) bytes answered.said) rule (answered.says bytes shows)) in
     let put = put_then sessions c.take-session.new.sessions.items after c.args.place Over left c.take-session.ensures.left c.put.ensures in
-    let was = subst (λ (e : Bool). HasHosted g.K.Books from.0 from.1.desk.core.books old sessions e c.args.self.now.desk.figures.tally before) c.requires.goes_on has in
-    let more = hosted_more g.K.Books from.0 from.1.desk.core.books old new before sessions c.args.self.now.desk.figures.tally was x one left after at (sym (ap is_over_at at) ∙ c.requires.open) put (ap is_new_at at) answered.answers refl in
+    let was = subst (λ (e : Bool). HasHosted g.K.Books is_of from.0 from.1.desk.core.books old sessions e c.args.self.now.desk.figures.tally standby before link) c.requires.goes_on has in
+    let more = hosted_more g.K.Books is_of from.0 from.1.desk.core.books old new before sessions c.args.self.now.desk.figures.tally standby link was x one left after at (sym (ap is_over_at at) ∙ c.requires.open) put (ap is_new_at at) answered.answers refl c.requires.fits.1 in
     let counted = c.count.ensures ∙ ap (tally_with x.reply) c.reply_to-reply.ensures.tally in
-    let tallied = subst (λ (t : Tally). HasHosted g.K.Books from.0 from.1.desk.core.books new after (ends_host x.reply) t (before ++ x ∷ [])) (sym counted) more in
-    (answered.said, says, subst (λ (e : Bool). HasHosted g.K.Books from.0 from.1.desk.core.books new after e c.count.new.self.tally (before ++ x ∷ [])) (sym c.ends-self.ensures) tallied)
+    let tallied = subst (λ (t : Tally). HasHosted g.K.Books is_of from.0 from.1.desk.core.books new after (ends_host x.reply) t standby (before ++ x ∷ []) link) (sym counted) more in
+    (answered.said, says, subst (λ (e : Bool). HasHosted g.K.Books is_of from.0 from.1.desk.core.books new after e c.count.new.self.tally standby (before ++ x ∷ []) link) (sym c.ends-self.ensures) tallied)
 
 pub returns-clause-others : goal.returns-clause-others
 returns-clause-others g c = λ other apart.
