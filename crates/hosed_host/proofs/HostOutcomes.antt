@@ -1,5 +1,5 @@
 -- What a host comes to, from what was read, what was hosted and what was told.
-use Rattle.std.proofs.Common.{◌≡◌, ◌≢◌, ◌∙◌, ◌⊎◌, inl, inr, ℕ, List, Bool, true, false, Some, IsErr, Result, Ok, Err, refl, sym, ap, subst}
+use Rattle.std.proofs.Common.{◌≡◌, ◌≢◌, ◌∙◌, ◌⊎◌, inl, inr, ℕ, List, false, Some, IsErr, Result, Ok, Err, refl, sym, subst}
 use Rattle.std.specs.Prelude.{IfErr, ⊤}
 use Rattle.hose_io.specs.Frame.{Frame, Met, Rose}
 use Rattle.hose_io.specs.declared.Failed.{Failed}
@@ -18,47 +18,53 @@ use Rattle.hose_offline.specs.steps.Journal.{TouchesOnly}
 use Rattle.hose_offline.specs.OnDisk.{CabinetFailed, CabinetWorked, JournalIsTold}
 use Rattle.hose_offline.specs.Parts.{Tellings}
 use Rattle.hose_offline.specs.declared.fault.Fault.{Fault}
-use Rattle.hose_offline.specs.declared.fault.Fault.TheVariants.{Cabinet, Door}
-use Rattle.hose_offline.proofs.Audited.{named_not_1, named_not_read, named_read, no_store, no_topology, told_status}
+use Rattle.hose_offline.proofs.Audited.{named_not_1, named_not_read, named_read, no_store, no_topology}
 use Rattle.hose_offline.proofs.Audits.{has_before, held_before}
 use Rattle.hose_offline.proofs.Outcomes.{clash}
-use Rattle.hosed_host.specs.HostBook.{Announces, DoorTellings, EndsHosted, HostProgress, HostsByJournal, KeepsHosted, LeavesDoors, TellsDoor, end_of_host, host_progress}
+use Rattle.hosed_host.specs.HostBook.{Announces, DoorTellings, EndsBy, EndsHosted, HostProgress, HostsByJournal, KeepsHosted, LeavesDoors, TellsDoor, host_progress}
 use Rattle.hosed_host.specs.HostDoors.{DoorsAsked}
 use Rattle.hosed_host.specs.HostOutcome.{HostOutcome, OutsideDoors, to_host}
-use Rattle.hosed_host.specs.steps.HostOutcome.{HostsJournal, IsWhyOf}
+use Rattle.hosed_host.specs.steps.HostOutcome.{HostsJournal, IsWhyOf, closed_as}
 use Rattle.hosed_host.specs.declared.why.HostWhy.{HostWhy}
 use Rattle.hosed_host.specs.declared.why.HostWhy.TheVariants as reason
 use Rattle.hose_net.specs.declared.doors.Doors.{Ghosts as DoorsGhosts}
+use Rattle.hose_net.specs.declared.hold.Parting.{Parting}
+use Rattle.hose_net.specs.declared.hold.Parting.TheVariants as parting
 use Rattle.hosed_host.specs.declared.hosting.HostEnd.{HostEnd}
 use Rattle.hosed_host.specs.declared.hosting.NotHosted.{NotHosted}
 use Rattle.hosed_host.specs.declared.hosting.NotHosted.TheVariants as none
 
 -- ---- statuses
 
--- a fault after the opening is the doors' or the cabinet's
-failed_is : (ended : Bool) (closing : Result ⊤ Failed) (why : Fault) → end_of_host ended closing ≡ Err why → (why ≡ Door) ⊎ (why ≡ Cabinet)
-failed_is false closing why is = inl (cc is)
-failed_is true (Err failed) why is = inr (cc is)
-failed_is true (Ok done) why is = absurd (cc is)
-
 -- a host that opened its store ends with one of these
-hosted_status : {O : Type 0} (sink : SinkGhosts O) (output left : O) (status : ℕ) (came : Result HostEnd NotHosted) → EndsHosted sink output left status came → (other : ℕ) → other ≢ 0 → other ≢ 4 → other ≢ 6 → other ≢ 7 → other ≢ 9 → status ≢ other
-hosted_status sink output left status (Err none.Memory) ends other no_0 no_4 no_6 no_7 no_9 is = no_7 (sym is ∙ ends.0)
-hosted_status sink output left status (Err (none.Door word trouble)) ends other no_0 no_4 no_6 no_7 no_9 is = no_9 (sym is ∙ ends.0)
-hosted_status sink output left status (Err none.Write) ends other no_0 no_4 no_6 no_7 no_9 is = no_4 (sym is ∙ ends.0)
-hosted_status sink output left status (Ok end) ends other no_0 no_4 no_6 no_7 no_9 is =
-    told_status sink output left status (end_of_host end.ended end.closing) (audit_text end.book.network end.book.book) ends other no_0 no_4
-    (λ why fault same. by why (failed_is end.ended end.closing why fault) same) is
+hosted_status : {O : Type 0} (sink : SinkGhosts O) (output left : O) (status : ℕ) (came : Result HostEnd NotHosted) → EndsHosted sink output left status came → (other : ℕ) → other ≢ 0 → other ≢ 4 → other ≢ 6 → other ≢ 7 → other ≢ 9 → other ≢ 16 → other ≢ 17 → status ≢ other
+hosted_status sink output left status (Err none.Memory) ends other no_0 no_4 no_6 no_7 no_9 no_16 no_17 is = no_7 (sym is ∙ ends.0)
+hosted_status sink output left status (Err (none.Door word trouble)) ends other no_0 no_4 no_6 no_7 no_9 no_16 no_17 is = no_9 (sym is ∙ ends.0)
+hosted_status sink output left status (Err none.Write) ends other no_0 no_4 no_6 no_7 no_9 no_16 no_17 is = no_4 (sym is ∙ ends.0)
+hosted_status sink output left status (Ok end) ends other no_0 no_4 no_6 no_7 no_9 no_16 no_17 is = by end.why end.closing ends
   where
-    by : (why : Fault) → (why ≡ Door) ⊎ (why ≡ Cabinet) → status_of why ≢ other
-    by why (inl door) same = no_9 (sym same ∙ ap status_of door)
-    by why (inr cabinet) same = no_6 (sym same ∙ ap status_of cabinet)
+    by : (why : Parting) (closing : Result ⊤ Failed) → EndsBy sink output left status (audit_text end.book.network end.book.book) why closing → ⊥
+    by parting.Asked (Ok done) (inl whole) = no_0 (sym is ∙ whole.0)
+    by parting.Asked (Ok done) (inr part) = no_4 (sym is ∙ part.0)
+    by parting.Asked (Err failed) out = no_6 (sym is ∙ out.0)
+    by parting.Told closing out = no_9 (sym is ∙ out.0)
+    by parting.Late closing out = no_16 (sym is ∙ out.0)
+    by (parting.Ahead count) closing out = no_17 (sym is ∙ out.0)
 
 -- ---- the door that is told
 
 pub told_door : {D N : Type 0} (doors : DoorsGhosts D N) (asked : DoorsAsked) (was now : D) (came : Result HostEnd NotHosted) (result : HostWhy) → IsWhyOf came result → IfErr came (LeavesDoors doors asked was now) → TellsDoor doors asked was now result
 told_door doors asked was now came (reason.Ended other) is left = tt
 told_door doors asked was now came (reason.Door word trouble) is left = subst (λ (one : Result HostEnd NotHosted). IfErr one (LeavesDoors doors asked was now)) is left
+told_door doors asked was now came reason.StandbyGone is left = tt
+told_door doors asked was now came (reason.StandbyAhead count) is left = tt
+
+-- ---- the last line
+
+-- a host that was asked to end ends by what closing came to
+pub ends_asked : {O : Type 0} (sink : SinkGhosts O) (was now : O) (status : ℕ) (text : List ℕ) (closing : Result ⊤ Failed) (done : Result ⊤ Fault) → done ≡ closed_as closing → EndsTold sink was now status done text → EndsBy sink was now status text parting.Asked closing
+ends_asked sink was now status text (Ok closed) done is told = subst (λ (d : Result ⊤ Fault). EndsTold sink was now status d text) is told
+ends_asked sink was now status text (Err failed) done is told = subst (λ (d : Result ⊤ Fault). EndsTold sink was now status d text) is told
 
 -- ---- where texts alone were read before, and no call of the cabinet failed
 
@@ -93,12 +99,14 @@ module _ {I O C E D N : Type 0} (tells : Tellings I O C E) (by : DoorTellings D 
     as_asked = hosts.as_asked;
     opened = hosts.opened;
     closed = hosts.closed;
+    ended = hosts.ended;
+    ends = hosts.ends;
     hosted = record {
       story = hosts.hosted.story;
       hosts = hosts.hosted.hosts;
-      comes_to = keeps_before (host_progress network hosts.since hosts.history (exchanges hosts.hosted.story) end.ended) end.closing hosts.hosted.comes_to;
+      comes_to = keeps_before (host_progress network hosts.since hosts.history (exchanges hosts.hosted.story) hosts.ended) end.closing hosts.hosted.comes_to;
       settled = hosts.hosted.settled;
-      stopped = hosts.hosted.stopped;
+      parts = hosts.hosted.parts;
     };
     is = hosts.is;
   }
@@ -108,7 +116,7 @@ module _ {I O C E D N : Type 0} (tells : Tellings I O C E) (by : DoorTellings D 
   -- the words are not what is wrong
   pub host_not_1 : (status : ℕ) → HostOutcome tells by names asked before after status → status ≢ 1
   host_not_1 status outcome = named_not_1 tells names before.others after.others (to_host tells by names asked before after status) outcome.left status
-      (λ network told. hosted_status tells.sink told.mid after.others.output status told.came told.ends 1 (λ e. absurd (cc e)) (λ e. absurd (cc e)) (λ e. absurd (cc e)) (λ e. absurd (cc e)) (λ e. absurd (cc e))) outcome.named.ends
+      (λ network told. hosted_status tells.sink told.mid after.others.output status told.came told.ends 1 (λ e. absurd (cc e)) (λ e. absurd (cc e)) (λ e. absurd (cc e)) (λ e. absurd (cc e)) (λ e. absurd (cc e)) (λ e. absurd (cc e)) (λ e. absurd (cc e))) outcome.named.ends
 
   -- no topology was read
   pub no_topology_read : (why : Fault) (status : ℕ) → ReadsTopology tells.cabinet before.others.cabinet after.others.cabinet names.prices names.topology (Err why) → status ≡ status_of why → IsOut tells.sink before.others.output after.others.output (last_line why) → after.doors ≡ before.doors → after.others.input ≡ before.others.input
@@ -118,29 +126,31 @@ module _ {I O C E D N : Type 0} (tells : Tellings I O C E) (by : DoorTellings D 
   module _ (read : C) (network : Network) (status : ℕ) (reads : ReadsTopology tells.cabinet before.others.cabinet read names.prices names.topology (Ok network)) (alone : TouchesOnly tells.cabinet names.journal read after.others.cabinet)
       (same_input : after.others.input ≡ before.others.input) where
     abbrev Failing : Type 0
-    Failing = NoneFailed tells before.others after.others (status ≢ 9)
+    Failing = NoneFailed tells before.others after.others ((status ≢ 9) × (status ≢ 16) × (status ≢ 17))
 
     abbrev Hosts : Result HostEnd NotHosted → Type 0
     Hosts one = HostsByJournal tells by names.journal asked before.others.cabinet after.others.cabinet network before.doors after.doors one
 
-    hosted_ends : (mid : O) (ended : Bool) (closing : Result ⊤ Failed) (text : List ℕ) → Failing → (IsErr closing → CabinetFailed tells.cabinet before.others.cabinet after.others.cabinet) → tells.sink.frame mid ≡ tells.sink.frame before.others.output
-        → EndsTold tells.sink mid after.others.output status (end_of_host ended closing) text → (status ≡ 0) ⊎ (status ≡ 7)
-    hosted_ends mid false closing text held closes same out = absurd (held.others out.0)
-    hosted_ends mid true (Err failed) text held closes same out = absurd (held.keeping_it (closes refl))
-    hosted_ends mid true (Ok closed) text held closes same (inl whole) = inl whole.0
-    hosted_ends mid true (Ok closed) text held closes same (inr part) = absurd (held.writing (subst (λ (f : Frame). Rose f (tells.sink.frame after.others.output)) same part.1))
+    hosted_ends : (mid : O) (why : Parting) (closing : Result ⊤ Failed) (text : List ℕ) → Failing → (IsErr closing → CabinetFailed tells.cabinet before.others.cabinet after.others.cabinet) → tells.sink.frame mid ≡ tells.sink.frame before.others.output
+        → EndsBy tells.sink mid after.others.output status text why closing → (status ≡ 0) ⊎ (status ≡ 7)
+    hosted_ends mid parting.Told closing text held closes same out = absurd (held.others.0 out.0)
+    hosted_ends mid parting.Late closing text held closes same out = absurd (held.others.1 out.0)
+    hosted_ends mid (parting.Ahead count) closing text held closes same out = absurd (held.others.2 out.0)
+    hosted_ends mid parting.Asked (Err failed) text held closes same out = absurd (held.keeping_it (closes refl))
+    hosted_ends mid parting.Asked (Ok closed) text held closes same (inl whole) = inl whole.0
+    hosted_ends mid parting.Asked (Ok closed) text held closes same (inr part) = absurd (held.writing (subst (λ (f : Frame). Rose f (tells.sink.frame after.others.output)) same part.1))
 
     completes : (mid : O) (one : Result HostEnd NotHosted) → Failing → Hosts one → Announces tells.sink before.others.output mid one → EndsHosted tells.sink mid after.others.output status one → (status ≡ 0) ⊎ (status ≡ 7)
-    completes mid (Ok end) held kept says out = hosted_ends mid end.ended end.closing (audit_text end.book.network end.book.book) held kept.hosted.comes_to.met.failed says.1 out
+    completes mid (Ok end) held kept says out = hosted_ends mid end.why end.closing (audit_text end.book.network end.book.book) held kept.hosted.comes_to.met.failed says.1 out
     completes mid (Err none.Memory) held is says out = inr out.0
-    completes mid (Err (none.Door word trouble)) held is says out = absurd (held.others out.0)
+    completes mid (Err (none.Door word trouble)) held is says out = absurd (held.others.0 out.0)
     completes mid (Err none.Write) held is says out = absurd (held.writing (subst (λ (o : O). Rose (tells.sink.frame before.others.output) (tells.sink.frame o)) (sym out.1) says.1))
 
     refuses : (mid : O) (one : Result HostEnd NotHosted) → Failing → JournalIsTold tells.cabinet tells.disk before.others.cabinet (Some names.journal) (λ bytes. (history : List Entry) → ¬ IsHistoryOf network history bytes)
         → Hosts one → Announces tells.sink before.others.output mid one → EndsHosted tells.sink mid after.others.output status one → (status ≡ 5) ⊎ (status ≡ 7)
     refuses mid (Ok end) held told kept says out = absurd (clash tells.cabinet tells.disk before.others.cabinet after.others.cabinet names.journal _ _ (λ image is none. none kept.since is) kept.hosted.comes_to.begun told)
     refuses mid (Err none.Memory) held told is says out = inr out.0
-    refuses mid (Err (none.Door word trouble)) held told is says out = absurd (held.others out.0)
+    refuses mid (Err (none.Door word trouble)) held told is says out = absurd (held.others.0 out.0)
     refuses mid (Err none.Write) held told is says out = absurd (held.writing (subst (λ (o : O). Rose (tells.sink.frame before.others.output) (tells.sink.frame o)) (sym out.1) says.1))
 
     -- a journal was used, or not
@@ -149,7 +159,7 @@ module _ {I O C E D N : Type 0} (tells : Tellings I O C E) (by : DoorTellings D 
     is_hosted (inl told) =
         named_read tells names before.others after.others (to_host tells by names asked before after status) read network status reads alone same_input
         (record { mid = told.mid; came = told.came; hosts = hosts; announces = told.announces; ends = told.ends })
-        (hosted_status tells.sink told.mid after.others.output status told.came told.ends 8 (λ e. absurd (cc e)) (λ e. absurd (cc e)) (λ e. absurd (cc e)) (λ e. absurd (cc e)) (λ e. absurd (cc e)))
+        (hosted_status tells.sink told.mid after.others.output status told.came told.ends 8 (λ e. absurd (cc e)) (λ e. absurd (cc e)) (λ e. absurd (cc e)) (λ e. absurd (cc e)) (λ e. absurd (cc e)) (λ e. absurd (cc e)) (λ e. absurd (cc e)))
         (λ journal held. completes told.mid told.came held hosts told.announces told.ends)
         (λ journal held. refuses told.mid told.came held journal hosts told.announces told.ends)
       where

@@ -1,9 +1,11 @@
 -- What hosting by a journal comes to, once its store was opened.
-use Rattle.std.proofs.Common.{◌≡◌, ◌∙◌, inl, inr, ℕ, ◌-◌, ◌≤◌, List, [], length, None, Option, Bool, false, Result, Err, refl, sym, ap, subst, arith, append-nil, le_refl}
-use Rattle.std.specs.Prelude.{⊤}
+use Rattle.std.proofs.Common.{◌≡◌, ◌∙◌, inl, inr, ℕ, ◌≤◌, List, [], length, None, Some, Option, Bool, true, false, Result, Err, refl, sym, ap, subst, arith, append-nil, le_refl}
+use Rattle.std.specs.Prelude.{option_map, ⊤}
 use mathlib.Core.List.{IsPrefix}
 use Rattle.hose_io.specs.declared.Failed.{Failed}
-use Rattle.hose_net.specs.Story.{Exchange, Hosts, IsHosted, IsSettled, exchanges, heard_in, life}
+use Rattle.hose_net.specs.Story.{Exchange, IsHosted, Link, Terms, exchanges, no_link}
+use Rattle.hose_net.specs.declared.hold.Parting.{Parting}
+use Rattle.hose_net.specs.declared.hold.Parting.TheVariants as parting
 use Rattle.hose_graph.specs.Network.{IsNetwork, Network}
 use Rattle.hose_graph.specs.declared.entry.Entry.{Entry}
 use Rattle.hose_law.specs.History.{IsDecided, IsDecidedAt}
@@ -16,27 +18,34 @@ use Rattle.hose_book.specs.Ledger.{HasBookOf, IsLedgerOf}
 use Rattle.hose_book.specs.steps.GoingOn.{GoesOn, none_yet}
 use Rattle.hose_clerk.specs.HostLines.{HostLine, SaysAt}
 use Rattle.hose_clerk.specs.HostReplies.{host_text}
-use Rattle.hose_clerk.specs.Hosting.{AreHostSteps, HostState, IsAskedOf, TellsDisks, host_from}
+use Rattle.hose_clerk.specs.Hosting.{AreHostSteps, HostState, IsAheadBy, IsAskedOf, LeadsBy, TellsDisks, host_from}
 use Rattle.hose_clerk.specs.declared.replies.HostReply.{HostReply}
 use Rattle.hose_clerk.specs.declared.sessions.Session.{Session}
 use Rattle.hose_clerk.specs.Tally.{no_tally}
 use Rattle.hose_clerk.specs.declared.tally.Tally.{Tally}
-use Rattle.hose_clerk.specs.steps.Answering.{HasHosted}
+use Rattle.hose_clerk.specs.declared.linking.StandbyAt.{StandbyAt}
+use Rattle.hose_clerk.specs.steps.Answering.{GrowsWith, HasHosted}
 use Rattle.hose_clerk.specs.steps.Hosting.{AreHosted}
-use Rattle.hose_net.proofs.Laws.{hosts_on}
+use Rattle.hose_clerk.specs.steps.Linking.{goes_alone, path_at}
+use Rattle.hose_net.proofs.Laws.{hosted_on}
 use Rattle.hose_disk.specs.Cabinet.{CabinetFrame}
+use Rattle.hose_disk.specs.declared.disk.Disk.{Ghosts as DiskGhosts}
 use Rattle.hose_store.specs.Recovery.{IsHistoryOf}
 use Rattle.hose_store.specs.steps.Commit.{store_books}
 use Rattle.hose_store.specs.Beginning.{IsOrInDoubt}
 use Rattle.hose_store.specs.steps.Store.{IsAmid, KeptStore}
+use Rattle.hose_lead.specs.LedStore.{LedState}
+use Rattle.hose_lead.specs.steps.LedStore.{IsLedOf, led_books}
+use Rattle.hose_lead.specs.steps.Standby.{StandbyState}
+use Rattle.hose_lead.proofs.Led.{led_goes_on}
 use Rattle.hose_store.proofs.Standing.{opened_stands, run_stands}
 use Rattle.hose_offline.specs.OnDisk.{opening_of}
 use Rattle.hose_offline.specs.Parts.{Tellings}
 use Rattle.hose_offline.specs.steps.Journal.{ClosesJournal, OpensJournal}
 use Rattle.hose_offline.proofs.Journals.{leaves_for, put_back}
 use Rattle.hose_offline.proofs.PutBack.{IsPutBack, counts, held_as, left_as_kind}
-use Rattle.hosed_host.specs.HostBook.{DoorTellings, HostsByJournal, HostsDoors, KeepsHosted, LeavesDoors, StandOnDisk, StaysUnhosted, host_progress}
-use Rattle.hosed_host.specs.HostDoors.{AreOpenedAt, DoorsAsked}
+use Rattle.hosed_host.specs.HostBook.{DoorTellings, HostsByJournal, HostsDoors, IsEndedFor, KeepsHosted, LeavesDoors, StandOnDisk, StaysUnhosted, host_progress}
+use Rattle.hosed_host.specs.HostDoors.{AreOpenedAt, DoorsAsked, StandbyPlace, may_be_alone}
 use Rattle.hosed_host.specs.declared.hosting.HostEnd.{HostEnd}
 use Rattle.hosed_host.specs.declared.hosting.NotHosted.{NotHosted}
 use Rattle.hose_net.specs.declared.doors.Address.{Address}
@@ -81,12 +90,16 @@ module _ {I O C E : Type 0} (tells : Tellings I O C E) (name : List ℕ) (before
   }
 
   -- lines were answered by a clerk
-  pub keeps_hosted : (sessions : List Session) (ended : Bool) (tally : Tally) (xs : List (Exchange HostLine HostReply)) (hosted : HasHosted (store_books tells.disk) since store last sessions ended tally xs) → KeepsHosted tells name before after (host_progress network since hosted.hosted.state.history xs ended) closing
-  keeps_hosted sessions ended tally xs hosted =
+  pub keeps_hosted : (led after_all : LedState E) → led.store ≡ store → after_all.store ≡ last → (sessions : List Session) (ended : Bool) (tally : Tally) (standby : StandbyState) (xs : List (Exchange HostLine HostReply)) (link : Link) (hosted : HasHosted (led_books tells.disk) (IsLedOf tells.disk) since led after_all sessions ended tally standby xs link) → KeepsHosted tells name before after (host_progress network since hosted.hosted.state.history xs ended) closing
+  keeps_hosted led after_all is_store is_last sessions ended tally standby xs link hosted =
       let all = hosted.hosted in
-      let same = opens.opens.opened.network in
-      let goes = subst (λ (n : Network). GoesOn (store_books tells.disk) (IsAskedOf since xs) n since store all.state.history last) same all.goes_on in
-      keeps_made all.state xs ended hosted.ends (subst (λ (n : Network). AreHostSteps n xs (host_from since) all.state) same all.steps) (subst (λ (n : Network). IsDecided n 0 (length since) all.state.history) same all.decided) all.begins goes _ _ closes.call.met.stays.never_falls all.disks
+      let same = ap (λ (kept : KeptStore E). kept.ledger.network) is_store ∙ opens.opens.opened.network in
+      let run = led_goes_on tells.disk (IsAskedOf since xs) led.store.ledger.network since led after_all all.state.history all.goes_on in
+      let goes = subst (λ (kept : KeptStore E). GoesOn (store_books tells.disk) (IsAskedOf since xs) network since kept all.state.history last) is_store
+      (subst (λ (kept : KeptStore E). GoesOn (store_books tells.disk) (IsAskedOf since xs) network since led.store all.state.history kept) is_last
+      (subst (λ (n : Network). GoesOn (store_books tells.disk) (IsAskedOf since xs) n since led.store all.state.history after_all.store) same run)) in
+      keeps_made all.state xs ended hosted.ends (subst (λ (n : Network). AreHostSteps n xs (host_from since) all.state) same all.steps) (subst (λ (n : Network). IsDecided n 0 (length since) all.state.history) same all.decided) all.begins goes _ _ closes.call.met.stays.never_falls
+      (subst (λ (kept : KeptStore E). TellsDisks (tells.disk.frame led.store.journal.disk).faults xs (tells.disk.frame kept.journal.disk).faults) is_last all.disks)
 
 -- the journal was opened and closed, and no line was answered
 pub stays_unhosted : {I O C E : Type 0} (tells : Tellings I O C E) (name : List ℕ) (before mid after : C) (network : Network) (is : IsNetwork network) (store : KeptStore E) (opens : OpensJournal tells.cabinet tells.disk IsDecidedAt name before mid network store) (closing : Result ⊤ Failed)
@@ -113,45 +126,79 @@ in_doubt network history doubt image (inr (inr none)) = absurd none
 -- connections came to the doors, and lines were answered by a clerk that began with the store
 module _ {I O C E D N : Type 0} (tells : Tellings I O C E) (by : DoorTellings D N E) (name : List ℕ) (asked : DoorsAsked) (before mid after : C) (network : Network) (is : IsNetwork network) (store last : KeptStore E) (opens : OpensJournal tells.cabinet tells.disk IsDecidedAt name before mid network store) (closing : Result ⊤ Failed)
     (closes : ClosesJournal tells.cabinet tells.disk mid after last closing) where
+  abbrev beginning : List Entry
+  beginning = opens.opens.opened.history
+
+  same_network : (led : LedState E) → led.store ≡ store → led.store.ledger.network ≡ network
+  same_network led is_store = ap (λ (kept : KeptStore E). kept.ledger.network) is_store ∙ opens.opens.opened.network
+
   -- a clerk that was made of a core over the store has answered nothing
-  pub begun : (first : KeptStore E) → first ≡ store → (clerk : KeptStore E) → clerk ≡ first → (sessions : List Session) (ended : Bool) (tally : Tally) → ended ≡ false → tally ≡ no_tally
-      → ((since : List Entry) → IsSound first.ledger.network 0 since → HasBookOf 0 since first.ledger → HasHosted (store_books tells.disk) since first first sessions false no_tally [])
-      → HasHosted (store_books tells.disk) opens.opens.opened.history clerk clerk sessions ended tally []
-  begun first same clerk is_clerk sessions ended tally is_ended none_counted none =
-      let history = opens.opens.opened.history in
-      let sound = subst (λ (kept : KeptStore E). IsSound kept.ledger.network 0 history) (sym same) opens.opens.opened.has.sound in
-      let book = subst (λ (kept : KeptStore E). HasBookOf 0 history kept.ledger) (sym same) opens.opens.opened.has.book in
-      subst (λ (one : KeptStore E). HasHosted (store_books tells.disk) history one one sessions ended tally []) (sym is_clerk)
-      (subst (λ (t : Tally). HasHosted (store_books tells.disk) history first first sessions ended t []) (sym none_counted)
-      (subst (λ (e : Bool). HasHosted (store_books tells.disk) history first first sessions e no_tally []) (sym is_ended) (none history sound book)))
+  pub begun : (led : LedState E) → led.store ≡ store → IsLedOf tells.disk led network beginning
+      → (first : LedState E) → first ≡ led → (clerk : LedState E) → clerk ≡ first → (sessions : List Session) (ended : Bool) (tally : Tally) (standby : StandbyState) → ended ≡ false → tally ≡ no_tally
+      → ((since : List Entry) → IsSound first.store.ledger.network 0 since → HasBookOf 0 since first.store.ledger → IsLedOf tells.disk first first.store.ledger.network since
+      → HasHosted (led_books tells.disk) (IsLedOf tells.disk) since first first sessions false no_tally standby [] no_link)
+      → HasHosted (led_books tells.disk) (IsLedOf tells.disk) beginning clerk clerk sessions ended tally standby [] no_link
+  begun led is_store is_led first same clerk is_clerk sessions ended tally standby is_ended none_counted none =
+      let at : first.store ≡ store = ap (λ (one : LedState E). one.store) same ∙ is_store in
+      let sound = subst (λ (kept : KeptStore E). IsSound kept.ledger.network 0 beginning) (sym at) opens.opens.opened.has.sound in
+      let book = subst (λ (kept : KeptStore E). HasBookOf 0 beginning kept.ledger) (sym at) opens.opens.opened.has.book in
+      let is_of = subst (λ (one : LedState E). IsLedOf tells.disk one first.store.ledger.network beginning) (sym same)
+      (subst (λ (n : Network). IsLedOf tells.disk led n beginning) (sym (same_network first at)) is_led) in
+      subst (λ (one : LedState E). HasHosted (led_books tells.disk) (IsLedOf tells.disk) beginning one one sessions ended tally standby [] no_link) (sym is_clerk)
+      (subst (λ (t : Tally). HasHosted (led_books tells.disk) (IsLedOf tells.disk) beginning first first sessions ended t standby [] no_link) (sym none_counted)
+      (subst (λ (e : Bool). HasHosted (led_books tells.disk) (IsLedOf tells.disk) beginning first first sessions e no_tally standby [] no_link) (sym is_ended) (none beginning sound book is_of)))
 
   -- lines that were answered stand on the disk
-  on_disk : (xs : List (Exchange HostLine HostReply)) (kept : KeptStore E) → AreHosted (store_books tells.disk) store.ledger.network opens.opens.opened.history store kept xs → StandOnDisk tells.disk network opens.opens.opened.history xs kept
-  on_disk xs kept all =
-      let since = opens.opens.opened.history in
-      let same = opens.opens.opened.network in
-      let goes = subst (λ (n : Network). GoesOn (store_books tells.disk) (IsAskedOf since xs) n since store all.state.history kept) same all.goes_on in
+  on_disk : (led : LedState E) → led.store ≡ store → (xs : List (Exchange HostLine HostReply)) (kept : LedState E) → AreHosted (led_books tells.disk) led.store.ledger.network beginning led kept xs → StandOnDisk tells.disk network beginning xs kept
+  on_disk led is_store xs kept all =
+      let same = same_network led is_store in
+      let run = led_goes_on tells.disk (IsAskedOf beginning xs) led.store.ledger.network beginning led kept all.state.history all.goes_on in
+      let goes = subst (λ (first : KeptStore E). GoesOn (store_books tells.disk) (IsAskedOf beginning xs) network beginning first all.state.history kept.store) is_store
+      (subst (λ (n : Network). GoesOn (store_books tells.disk) (IsAskedOf beginning xs) n beginning led.store all.state.history kept.store) same run) in
       let laws = opens.opens.lawful in
-      let stands = opened_stands tells.disk (IsAskedOf since xs) (tells.disk.may_leave opens.was) (opening_of tells.disk network since opens.was) opens.was store opens.opens.opened refl opens.opens.images opens.opens.stands.tells refl (laws.counts_now opens.was) (laws.untold store.journal.disk) (le_refl _) (laws.only_now opens.was) in
-      let stood = run_stands tells.disk (IsAskedOf since xs) (tells.disk.may_leave opens.was) (opening_of tells.disk network since opens.was) since store all.state.history kept stands goes in
+      let stands = opened_stands tells.disk (IsAskedOf beginning xs) (tells.disk.may_leave opens.was) (opening_of tells.disk network beginning opens.was) opens.was store opens.opens.opened refl opens.opens.images opens.opens.stands.tells refl (laws.counts_now opens.was) (laws.untold store.journal.disk) (le_refl _) (laws.only_now opens.was) in
+      let stood = run_stands tells.disk (IsAskedOf beginning xs) (tells.disk.may_leave opens.was) (opening_of tells.disk network beginning opens.was) beginning store all.state.history kept.store stands goes in
       record {
         state = all.state;
-        steps = subst (λ (n : Network). AreHostSteps n xs (host_from since) all.state) same all.steps;
+        steps = subst (λ (n : Network). AreHostSteps n xs (host_from beginning) all.state) same all.steps;
         doubt = stood.doubt;
         doubtful = stood.doubtful;
         now = λ image may. in_doubt network all.state.history stood.doubt image (subst (λ (n : Network). IsAmid n all.state.history stood.doubt None image) stood.network (stood.has.images image may));
       }
 
+  -- what a clerk answers for at a network, which began with these books
+  abbrev Clerks : Network → Option (List ℕ) → Bool → List DoorRule → LedState E → Terms N (LedState E) HostLine HostReply
+  Clerks about path alone rules led = record {
+    did = by.did;
+    saw = by.saw;
+    stands = λ xs kept. AreHosted (led_books tells.disk) led.store.ledger.network beginning led kept xs;
+    says = SaysAt about rules;
+    text = host_text about;
+    standby = path;
+    may_be_alone = alone;
+    leads = LeadsBy about beginning;
+    is_ahead = IsAheadBy about beginning;
+  }
+
+  -- and for the standby that was asked for
+  abbrev AskedOf : List DoorRule → LedState E → Terms N (LedState E) HostLine HostReply
+  AskedOf rules led = Clerks network (option_map (λ (standby : StandbyPlace). standby.path) asked.standby) (may_be_alone asked.standby) rules led
+
+  -- what lines and some link have come to
+  abbrev HasCome : LedState E → LedState E → List Session → Bool → Tally → StandbyState → List (Exchange HostLine HostReply) → Type 0
+  HasCome led left sessions ended tally standby xs = (link : Link) × HasHosted (led_books tells.disk) (IsLedOf tells.disk) beginning led left sessions ended tally standby xs link
+
   -- the story of the connections is that of the network of the journal
-  pub hosts_doors : (was between now : D) (one other : N) (end : HostEnd) (addresses : List Address) (rules : List DoorRule) (first : KeptStore E) (sessions : List Session) (ended : Bool) (tally : Tally) (about : Network) → first ≡ store → about ≡ network → AreOpenedAt asked addresses rules
-      → IsHosted (record { did = by.did; saw = by.saw; stands = λ xs kept. AreHosted (store_books tells.disk) first.ledger.network opens.opens.opened.history first kept xs; says = SaysAt about rules; text = host_text about }) (λ xs. HasHosted (store_books tells.disk) opens.opens.opened.history first last sessions ended tally xs) ended one other
-      → by.doors.opens was addresses one between → by.doors.closes between other now → end.ended ≡ ended → end.closing ≡ closing → end.book ≡ last.ledger → HostsDoors tells by name asked before after network was now end
-  hosts_doors was between now one other end addresses rules first sessions ended tally about is_first same as_asked hosted opened closed same_end same_closing same_book =
-      let here = subst (λ (kept : KeptStore E). HasHosted (store_books tells.disk) opens.opens.opened.history kept last sessions ended tally (exchanges hosted.story)) is_first hosted.comes_to in
-      let keeps = keeps_hosted tells name before mid after network is store last opens closing closes sessions ended tally (exchanges hosted.story) here in
+  pub hosts_doors : (was between now : D) (one other : N) (end : HostEnd) (addresses : List Address) (rules : List DoorRule) (led left : LedState E) (sessions : List Session) (ended : Bool) (tally : Tally) (standby : StandbyState) (path : Option (List ℕ)) (alone : Bool)
+      → led.store ≡ store → left.store ≡ last → path ≡ option_map (λ (standby : StandbyPlace). standby.path) asked.standby → alone ≡ may_be_alone asked.standby → AreOpenedAt asked addresses rules → IsEndedFor end.why ended
+      → IsHosted (Clerks led.store.ledger.network path alone rules led) (HasCome led left sessions ended tally standby) end.why one other
+      → by.doors.opens was addresses one between → by.doors.closes between other now → end.closing ≡ closing → end.book ≡ last.ledger → HostsDoors tells by name asked before after network was now end
+  hosts_doors was between now one other end addresses rules led left sessions ended tally standby path alone is_store is_last same_path same_alone as_asked ends hosted opened closed same_closing same_book =
+      let come = made.comes_to.1 in
+      let keeps = keeps_hosted tells name before mid after network is store last opens closing closes led left is_store is_last sessions ended tally standby (exchanges made.story) made.comes_to.0 come in
       record {
-        since = opens.opens.opened.history;
-        history = here.hosted.state.history;
+        since = beginning;
+        history = come.hosted.state.history;
         first = one;
         last = other;
         between = between;
@@ -160,14 +207,35 @@ module _ {I O C E D N : Type 0} (tells : Tellings I O C E) (by : DoorTellings D 
         as_asked = as_asked;
         opened = opened;
         closed = closed;
+        ended = ended;
+        ends = ends;
         hosted = record {
-          story = hosted.story;
-          hosts = hosts_on (record { did = by.did; saw = by.saw; stands = λ xs kept. AreHosted (store_books tells.disk) store.ledger.network opens.opens.opened.history store kept xs; says = SaysAt network rules; text = host_text network }) one (StandOnDisk tells.disk network opens.opens.opened.history) on_disk hosted.story other
-              (subst (λ (n : Network). Hosts (record { did = by.did; saw = by.saw; stands = λ xs kept. AreHosted (store_books tells.disk) store.ledger.network opens.opens.opened.history store kept xs; says = SaysAt n rules; text = host_text n }) one hosted.story other) same
-              (subst (λ (begun : KeptStore E). Hosts (record { did = by.did; saw = by.saw; stands = λ xs kept. AreHosted (store_books tells.disk) begun.ledger.network opens.opens.opened.history begun kept xs; says = SaysAt about rules; text = host_text about }) one hosted.story other) is_first hosted.hosts));
-          comes_to = subst (λ (b : Bool). KeepsHosted tells name before after (host_progress network opens.opens.opened.history here.hosted.state.history (exchanges hosted.story) b) end.closing) (sym same_end) (subst (KeepsHosted tells name before after (host_progress network opens.opens.opened.history here.hosted.state.history (exchanges hosted.story) ended)) (sym same_closing) keeps);
-          settled = subst (λ (n : Network). (place : ℕ) → IsSettled (host_text n) (heard_in hosted.story) end.ended (life place hosted.story)) same (subst (λ (b : Bool). (place : ℕ) → IsSettled (host_text about) (heard_in hosted.story) b (life place hosted.story)) (sym same_end) hosted.settled);
-          stopped = λ none. hosted.stopped (sym same_end ∙ none);
+          story = made.story;
+          hosts = made.hosts;
+          comes_to = subst (KeepsHosted tells name before after (host_progress network beginning come.hosted.state.history (exchanges made.story) ended)) (sym same_closing) keeps;
+          settled = made.settled;
+          parts = made.parts;
         };
-        is = subst (IsLedgerOf network 0 here.hosted.state.history) (sym same_book) (record { is_network = here.network ∙ opens.opens.opened.network; is_book = here.book });
+        is = subst (IsLedgerOf network 0 come.hosted.state.history) (ap (λ (kept : KeptStore E). kept.ledger) is_last ∙ sym same_book) (record { is_network = come.network ∙ same_network led is_store; is_book = come.book });
       }
+    where
+      made : IsHosted (record (AskedOf rules led) { stands = StandOnDisk tells.disk network beginning }) (HasCome led left sessions ended tally standby) end.why one other
+      made = hosted_on (AskedOf rules led) one (StandOnDisk tells.disk network beginning) (HasCome led left sessions ended tally standby) (HasCome led left sessions ended tally standby) end.why (on_disk led is_store) (λ xs come. come) other (subst (λ (a : Bool). IsHosted (Clerks network (option_map (λ (standby : StandbyPlace). standby.path) asked.standby) a rules led) (HasCome led left sessions ended tally standby) end.why one other) same_alone
+          (subst (λ (p : Option (List ℕ)). IsHosted (Clerks network p alone rules led) (HasCome led left sessions ended tally standby) end.why one other) same_path
+          (subst (λ (n : Network). IsHosted (Clerks n path alone rules led) (HasCome led left sessions ended tally standby) end.why one other) (same_network led is_store) hosted)))
+
+-- whether the operator had ended a host
+pub ended_for : (why : Parting) (ended : Bool) → (why ≡ parting.Asked → ended ≡ true) → (why ≡ parting.Told → ended ≡ false) → IsEndedFor why ended
+ended_for parting.Asked ended asked told = asked refl
+ended_for parting.Told ended asked told = told refl
+ended_for parting.Late ended asked told = tt
+ended_for (parting.Ahead count) ended asked told = tt
+
+-- who awaits no standby goes on without one
+pub alone_without : (awaited : Option StandbyAt) → path_at awaited ≡ None → goes_alone awaited ≡ true
+alone_without None is = refl
+alone_without (Some at) is = absurd (cc is)
+
+-- what history such books are of goes on as entries are committed
+pub led_grows : {E : Type 0} (disk : DiskGhosts E) → GrowsWith (led_books disk) (IsLedOf disk)
+led_grows disk = λ network history old new entry result went is. went.grows network history is

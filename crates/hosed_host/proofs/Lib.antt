@@ -1,3 +1,4 @@
 mod HostOutcomes
 mod Hosted
+mod LedOpenings
 mod OpenDoors

@@ -1,5 +1,5 @@
 -- What a host does to its journal, and what it tells.
-use Rattle.std.specs.Prelude.{◌≡◌, ◌⊎◌, ℕ, ◌≤◌, List, [], codes, length, take, Bool, true, false, IfSome, Option, Result, Ok, Err, ⊤}
+use Rattle.std.specs.Prelude.{◌≡◌, ◌⊎◌, ℕ, ◌≤◌, List, [], ◌++◌, codes, length, take, Bool, true, false, IfSome, Option, Result, Ok, Err, option_map, ⊤}
 use mathlib.Core.List.{IsPrefix}
 use Rattle.hose_io.specs.Frame.{Met, Rose}
 use Rattle.hose_io.specs.Stream.{Grows}
@@ -13,6 +13,8 @@ use Rattle.hose_net.specs.declared.doors.Address.{Address}
 use Rattle.hose_net.specs.declared.doors.Doors.{Ghosts as DoorsGhosts}
 use Rattle.hose_net.specs.declared.doors.DoorsFault.{DoorsFault}
 use Rattle.hose_net.specs.declared.doors.DoorsFault.TheVariants as refusal
+use Rattle.hose_net.specs.declared.hold.Parting.{Parting}
+use Rattle.hose_net.specs.declared.hold.Parting.TheVariants as parting
 use Rattle.hose_graph.specs.Network.{Network}
 use Rattle.hose_graph.specs.declared.entry.Entry.{Entry}
 use Rattle.hose_law.specs.Book.{IsOversold}
@@ -22,7 +24,7 @@ use Rattle.hose_law.specs.Live.{AreLiveUnreleased, StaysLive}
 use Rattle.hose_book.specs.Ledger.{IsLedgerOf}
 use Rattle.hose_clerk.specs.HostLines.{HostLine, SaysAt}
 use Rattle.hose_clerk.specs.HostReplies.{host_text}
-use Rattle.hose_clerk.specs.Hosting.{AreHostSteps, HostState, IsAskedOf, TellsDisks, host_from}
+use Rattle.hose_clerk.specs.Hosting.{AreHostSteps, HostState, IsAheadBy, IsAskedOf, LeadsBy, TellsDisks, host_from}
 use Rattle.hose_clerk.specs.declared.doors.DoorRule.{DoorRule}
 use Rattle.hose_clerk.specs.declared.replies.HostReply.{HostReply}
 use Rattle.hose_audit.specs.Audit.{audit_text}
@@ -32,17 +34,16 @@ use Rattle.hose_journal.specs.Moments.{Images}
 use Rattle.hose_proto.specs.ReplyText.{line_of}
 use Rattle.hose_store.specs.Beginning.{HasLeft, IsOrInDoubt}
 use Rattle.hose_store.specs.Recovery.{IsHistoryOf}
-use Rattle.hose_store.specs.steps.Store.{KeptStore}
+use Rattle.hose_lead.specs.LedStore.{LedState}
 use Rattle.hose_offline.specs.Ending.{EndsTold, IsOut}
 use Rattle.hose_offline.specs.Fault.{last_line, status_of}
 use Rattle.hose_offline.specs.OnDisk.{HadContent, OfHeld, opening_of}
 use Rattle.hose_offline.specs.Parts.{Tellings}
-use Rattle.hose_offline.specs.declared.fault.Fault.{Fault}
 use Rattle.hose_offline.specs.declared.fault.Fault.TheVariants as fault
-use Rattle.hosed_host.specs.HostDoors.{AreOpenedAt, DoorsAsked, number_of}
-use Rattle.hosed_host.specs.HostWhy.{door_line}
+use Rattle.hosed_host.specs.HostDoors.{AreOpenedAt, DoorsAsked, may_be_alone, number_of}
+use Rattle.hosed_host.specs.HostWhy.{door_line, host_status, last_of_host}
 use Rattle.hosed_host.specs.declared.why.HostWhy.{HostWhy}
-use Rattle.hosed_host.specs.declared.why.HostWhy.TheVariants.{Door, Ended}
+use Rattle.hosed_host.specs.declared.why.HostWhy.TheVariants.{Door, Ended, StandbyAhead, StandbyGone}
 use Rattle.hosed_host.specs.declared.hosting.HostEnd.{HostEnd}
 use Rattle.hosed_host.specs.declared.hosting.NotHosted.{NotHosted}
 use Rattle.hosed_host.specs.declared.hosting.NotHosted.TheVariants as none
@@ -111,12 +112,12 @@ module _ {I O C E : Type 0} (tells : Tellings I O C E) (name : List ℕ) (old ne
 -- may leave now stands for the history to which they led, or for it and one entry more, for which
 -- one of the lines asked.
 pub record StandOnDisk {E : Type 0} (disk : DiskGhosts E) (network : Network) (since : List Entry)
-    (exchanges : List (Exchange HostLine HostReply)) (store : KeptStore E) : Type 0 where
+    (exchanges : List (Exchange HostLine HostReply)) (led : LedState E) : Type 0 where
   pub state : HostState
   pub steps : AreHostSteps network exchanges (host_from since) state
   pub doubt : Option Entry
   pub doubtful : IfSome doubt (IsAskedOf since exchanges network (book_of 0 state.history))
-  pub now : Images disk store.journal.disk (IsOrInDoubt network state.history doubt)
+  pub now : Images disk led.store.journal.disk (IsOrInDoubt network state.history doubt)
 
 -- ---- the doors
 
@@ -125,11 +126,11 @@ pub record StandOnDisk {E : Type 0} (disk : DiskGhosts E) (network : Network) (s
 pub record DoorTellings (D N E : Type 0) : Type 1 where
   pub doors : DoorsGhosts D N
   pub did : N → List Happening → N → Type 0
-  pub saw : N → KeptStore E → N → Type 0
+  pub saw : N → LedState E → N → Type 0
 
 -- what doors and their connections tell, of its parts
 abbrev pub door_tellings : {D N E : Type 0} → DoorsGhosts D N → (N → List Happening → N → Type 0)
-    → (N → KeptStore E → N → Type 0) → DoorTellings D N E
+    → (N → LedState E → N → Type 0) → DoorTellings D N E
 door_tellings doors did saw = record { doors = doors; did = did; saw = saw }
 
 module _ {D N : Type 0} (doors : DoorsGhosts D N) (asked : DoorsAsked) (was now : D) where
@@ -164,13 +165,24 @@ module _ {D N : Type 0} (doors : DoorsGhosts D N) (asked : DoorsAsked) (was now 
   abbrev pub TellsDoor : HostWhy → Type 0
   TellsDoor (Ended why) = ⊤
   TellsDoor (Door word trouble) = LeavesDoors (none.Door word trouble)
+  TellsDoor StandbyGone = ⊤
+  TellsDoor (StandbyAhead count) = ⊤
+
+-- whether the operator had ended a host that ended for this reason
+abbrev pub IsEndedFor : Parting → Bool → Type 0
+IsEndedFor parting.Asked ended = ended ≡ true
+IsEndedFor parting.Told ended = ended ≡ false
+IsEndedFor parting.Late ended = ⊤
+IsEndedFor (parting.Ahead count) ended = ⊤
 
 module _ {I O C E D N : Type 0} (tells : Tellings I O C E) (by : DoorTellings D N E)
     (name : List ℕ) (asked : DoorsAsked) (old new : C) (network : Network) where
   -- The doors that were asked for were opened once, and closed again; between, connections came to
-  -- them and were hosted, until the operator ended that or the network told to stop: by a story
-  -- whose exchanges are those by which the journal is kept, and in which nothing was sent before
-  -- all lines that were answered stood on the disk. The book is that of its history.
+  -- them and were hosted, until the operator ended that, the network told to stop, or a standby
+  -- ended it: by a story whose exchanges are those by which the journal is kept, and in which
+  -- nothing was sent before all lines that were answered stood on the disk. The link to the standby
+  -- is sent packets of that history alone, and by its `have` the standby is heard to have as many.
+  -- The book is that of the history.
   pub record HostsDoors (was now : D) (end : HostEnd) : Type 0 where
     pub since : List Entry
     pub history : List Entry
@@ -182,15 +194,20 @@ module _ {I O C E D N : Type 0} (tells : Tellings I O C E) (by : DoorTellings D 
     pub as_asked : AreOpenedAt asked addresses rules
     pub opened : by.doors.opens was addresses first between
     pub closed : by.doors.closes between last now
+    pub ended : Bool
+    pub ends : IsEndedFor end.why ended
     pub hosted : IsHosted (record {
       did = by.did;
       saw = by.saw;
       stands = StandOnDisk tells.disk network since;
       says = SaysAt network rules;
       text = host_text network;
+      standby = option_map (λ standby. standby.path) asked.standby;
+      may_be_alone = may_be_alone asked.standby;
+      leads = LeadsBy network since;
+      is_ahead = IsAheadBy network since;
     }) (λ exchanges. KeepsHosted tells name old new
-        (host_progress network since history exchanges end.ended) end.closing)
-        end.ended first last
+        (host_progress network since history exchanges ended) end.closing) end.why first last
     pub is : IsLedgerOf network 0 history end.book
 
   -- what hosting by a journal that was opened comes to: connections were hosted; or nothing was
@@ -201,13 +218,6 @@ module _ {I O C E D N : Type 0} (tells : Tellings I O C E) (by : DoorTellings D 
       × LeavesDoors by.doors asked was now why
 
 -- ---- what a host says
-
--- what came of the doors and then of closing: the first fault. Doors that no one was told to leave
--- failed.
-abbrev pub end_of_host : Bool → Result ⊤ Failed → Result ⊤ Fault
-end_of_host false closing = Err fault.Door
-end_of_host true (Err failed) = Err fault.Cabinet
-end_of_host true (Ok _) = Ok tt
 
 module _ {O : Type 0} (sink : SinkGhosts O) (output output' : O) where
   -- What a host that opened its journal has said before its last lines: that customers may come,
@@ -223,11 +233,25 @@ module _ {O : Type 0} (sink : SinkGhosts O) (output output' : O) where
       × Rose (sink.frame output) (sink.frame output')
 
 module _ {O : Type 0} (sink : SinkGhosts O) (output output' : O) where
+  -- How a text ends, by why the host ended and what closing came to: by the first fault of the
+  -- doors and of closing; or by the line that tells of the standby.
+  abbrev pub EndsBy : ℕ → List ℕ → Parting → Result ⊤ Failed → Type 0
+  EndsBy status text parting.Asked (Ok _) =
+      EndsTold {T = ⊤} sink output output' status (Ok tt) text
+  EndsBy status text parting.Asked (Err failed) =
+      EndsTold {T = ⊤} sink output output' status (Err fault.Cabinet) text
+  EndsBy status text parting.Told closing =
+      EndsTold {T = ⊤} sink output output' status (Err fault.Door) text
+  EndsBy status text parting.Late closing = (status ≡ host_status StandbyGone)
+      × IsOut sink output output' (text ++ last_of_host StandbyGone)
+  EndsBy status text (parting.Ahead count) closing = (status ≡ host_status (StandbyAhead count))
+      × IsOut sink output output' (text ++ last_of_host (StandbyAhead count))
+
   -- How the output ends: after connections the text of the book is told, and the last line of a
   -- fault follows it; else there is the last line alone, and none after an output that failed.
   abbrev pub EndsHosted : ℕ → Result HostEnd NotHosted → Type 0
-  EndsHosted status (Ok end) = EndsTold sink output output' status
-      (end_of_host end.ended end.closing) (audit_text end.book.network end.book.book)
+  EndsHosted status (Ok end) =
+      EndsBy status (audit_text end.book.network end.book.book) end.why end.closing
   EndsHosted status (Err none.Memory) =
       (status ≡ status_of fault.Memory) × IsOut sink output output' (last_line fault.Memory)
   EndsHosted status (Err (none.Door word trouble)) =

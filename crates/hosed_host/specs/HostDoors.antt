@@ -1,5 +1,5 @@
 -- Which doors a host opens, and who may greet at each.
-use Rattle.std.specs.Prelude.{◌≡◌, ℕ, ◌+◌, ◌<◌, List, [], ◌∷◌, ◌++◌, get_or, length, map, Option, None, Some, slice_index_or, suc, zero}
+use Rattle.std.specs.Prelude.{◌≡◌, ℕ, ◌+◌, ◌<◌, Bool, true, List, [], ◌∷◌, ◌++◌, get_or, length, map, not, Option, None, Some, slice_index_or, suc, zero}
 use Rattle.hose_graph.specs.Limits.{operator}
 use Rattle.hose_net.specs.declared.doors.Address.{Address}
 use Rattle.hose_net.specs.declared.doors.Address.TheVariants as address
@@ -7,12 +7,24 @@ use Rattle.hose_clerk.specs.declared.doors.DoorRule.{DoorRule}
 use Rattle.hose_clerk.specs.declared.doors.DoorRule.TheVariants as rule
 use Rattle.hose_doors.specs.Doors.{OpensAs}
 
+-- the standby that replies wait for: the path of its Unix socket, and whether no reply is told
+-- without it
+pub record StandbyPlace : Type 0 where
+  pub path : List ℕ
+  pub or_stop : Bool
+
 -- the doors that words ask for: the path of the operator's socket, if there is one, and the words
--- of the others, each with the number of its word
+-- of the others, each with the number of its word; and the standby, if there is one
 pub record DoorsAsked : Type 0 where
   pub operator : Option (List ℕ × ℕ)
   pub doors : List (List ℕ)
   pub first : ℕ
+  pub standby : Option StandbyPlace
+
+-- replies are told without a standby, where there is none, or it is gone
+abbrev pub may_be_alone : Option StandbyPlace → Bool
+may_be_alone None = true
+may_be_alone (Some standby) = not standby.or_stop
 
 -- what a word says of a door: that it is the operator's socket, or one of the others
 pub data DoorName : Type 0 where

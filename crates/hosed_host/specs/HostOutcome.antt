@@ -28,12 +28,12 @@ module _ {I O C E D N : Type 0} (tells : Tellings I O C E) (by : DoorTellings D 
 
 module _ {I O C E D N : Type 0} (tells : Tellings I O C E) (by : DoorTellings D N E)
     (names : PricedNames) (asked : DoorsAsked) (before after : OutsideDoors I O C D) where
-  -- what a host is for; where doors fail, the status 9 tells so
+  -- what a host is for; where doors fail, or a standby ends it, the status tells so
   abbrev pub to_host : ℕ → Purpose
   to_host status = record {
     IsFulfilled = HostsConnections tells by names.journal asked before after;
     Untouched = after.doors ≡ before.doors;
-    OthersHeld = status ≢ 9;
+    OthersHeld = (status ≢ 9) × (status ≢ 16) × (status ≢ 17);
   }
 
   -- A host tells the book of the journal as it was after the last line that was answered.

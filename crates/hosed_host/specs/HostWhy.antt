@@ -5,12 +5,14 @@ use Rattle.hose_proto.specs.ReplyText.{line_of}
 use Rattle.hose_offline.specs.Ending.{IsOut}
 use Rattle.hose_offline.specs.Why.{why_line, why_status}
 use Rattle.hosed_host.specs.declared.why.HostWhy.{HostWhy}
-use Rattle.hosed_host.specs.declared.why.HostWhy.TheVariants.{Door, Ended}
+use Rattle.hosed_host.specs.declared.why.HostWhy.TheVariants.{Door, Ended, StandbyAhead, StandbyGone}
 
 -- the status
 abbrev pub host_status : HostWhy → ℕ
 host_status (Ended why) = why_status why
 host_status (Door word trouble) = 9
+host_status StandbyGone = 16
+host_status (StandbyAhead count) = 17
 
 -- the line that tells which door could not be opened, by the number of its word
 abbrev pub door_line : ℕ → List ℕ
@@ -20,6 +22,8 @@ door_line word = line_of (codes "door " ++ decimal word)
 abbrev pub last_of_host : HostWhy → List ℕ
 last_of_host (Ended why) = why_line why
 last_of_host (Door word trouble) = door_line word
+last_of_host StandbyGone = line_of (codes "standby")
+last_of_host (StandbyAhead count) = line_of (codes "ahead " ++ decimal count)
 
 -- What was put out last ends with the line that tells why; or the output failed, and a part of that
 -- is out.

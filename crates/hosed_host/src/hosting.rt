@@ -1,5 +1,5 @@
 // A host: connections to doors, whose lines are answered by the book of a journal.
-ghost use Rattle.std.specs.Prelude.{◌≡◌, ◌≢◌, ℕ, List, codes, get_or, length, Err, IfErr, IfOk, IfSome, IsSome, None};
+ghost use Rattle.std.specs.Prelude.{◌≡◌, ◌≢◌, ◌++◌, ℕ, List, codes, decimal, get_or, length, Ok, Err, IfErr, IfOk, IfSome, IsSome, None, option_map};
 ghost use Rattle.hose_io.specs.Frame.{Stays};
 ghost use Rattle.hose_io.specs.Stream.{Grows};
 ghost use Rattle.hose_proto.specs.ReplyText.{line_of};
@@ -7,35 +7,42 @@ ghost use Rattle.hose_io.specs.steps.Writing.{IsPut};
 ghost use Rattle.hose_graph.specs.Network.{IsNetwork, Network};
 ghost use Rattle.hose_law.specs.History.{IsDecidedAt};
 ghost use Rattle.hose_offline.specs.Auditing.{priced_names};
+ghost use Rattle.hose_offline.specs.Ending.{IsOut};
 ghost use Rattle.hose_offline.specs.OnDisk.{OthersStay};
 ghost use Rattle.hose_offline.specs.Parts.{tellings};
 ghost use Rattle.hose_offline.specs.Why.{why_status};
-ghost use Rattle.hose_store.specs.steps.Store.{KeptStore};
+ghost use Rattle.hose_lead.specs.LedStore.{LedState};
+ghost use Rattle.hose_lead.specs.steps.LedStore.{IsLedOf};
+ghost use Rattle.hose_audit.specs.Audit.{audit_text};
+ghost use Rattle.hose_clerk.specs.steps.Linking.{goes_alone, path_at};
 ghost use Rattle.hose_offline.specs.steps.Journal.{OpensJournal, TouchesOnly};
 ghost use Rattle.hose_offline.specs.steps.Parts.{KeepsAll, LeavesBeside, held};
-ghost use Rattle.hosed_host.specs.HostBook.{Announces, EndsHosted, HostsByJournal, LeavesDoors, TellsDoor, door_tellings, end_of_host};
-ghost use Rattle.hosed_host.specs.HostDoors.{AreOpenedAt, door_names};
+ghost use Rattle.hosed_host.specs.HostBook.{Announces, EndsBy, EndsHosted, HostsByJournal, LeavesDoors, TellsDoor, door_tellings};
+ghost use Rattle.hosed_host.specs.HostDoors.{AreOpenedAt, door_names, may_be_alone};
 ghost use Rattle.hose_clerk.specs.declared.doors.DoorRule.{DoorRule};
-ghost use Rattle.hosed_host.specs.HostWhy.{TellsWhy, door_line, host_status};
+ghost use Rattle.hosed_host.specs.HostWhy.{TellsWhy, door_line, host_status, last_of_host};
 ghost use Rattle.hosed_host.specs.HostOutcome.{HostOutcome};
-ghost use Rattle.hosed_host.specs.steps.HostOutcome.{AreServable, HostsJournal, IsWhyOf, asked_of, doors_beside};
+ghost use Rattle.hosed_host.specs.steps.HostOutcome.{AreServable, HostsJournal, IsWhyOf, asked_of, closed_as, doors_beside, plan_at, why_of_standby};
 
-use crate::opening::{HostDoors, Opened, opened_as};
+use crate::opening::{HostDoors, Opened, StandbyPlan, opened_as};
+use crate::reading::open_led;
 use crate::why::HostWhy;
+use hose_audit::audit;
 use hose_book::{Book, Books};
-use hose_clerk::Clerk;
+use hose_clerk::{Clerk, StandbyAt};
 use hose_core::Core;
 use hose_disk::{Cabinet, Disk};
 use hose_graph::Topology;
-use hose_host::{HostAnswers, host};
+use hose_host::host;
 use hose_io::{Failed, Gather, Sink, Source, write_all};
+use hose_lead::LedStore;
 use hose_log::Log;
-use hose_net::{Address, DoorTrouble, Doors, DoorsFault};
-use hose_offline::{Fault, Outside, Why, close_journal, end, open_journal, read_topology, tell};
+use hose_net::{Address, DoorTrouble, Doors, DoorsFault, Parting};
+use hose_offline::{Fault, Outside, Why, close_journal, end, read_topology, tell};
 use hose_paths::{RowTable, RowsInAdvance};
-use hose_store::{Decided, Store};
+use hose_store::Decided;
 use hose_tariff::Prices;
-use std::alloc::Global;
+use std::alloc::{AllocError, Global};
 use std::sync::Wait;
 
 /// What a host is to do: the names of its topology and of its journal, and its doors.
@@ -46,12 +53,12 @@ pub struct HostRequest<'a> {
     pub doors: HostDoors<'a>,
 }
 
-/// The book of a journal by which connections were hosted, once it was closed: whether the host was
-/// told to end, and what closing came to.
+/// The book of a journal by which connections were hosted, once it was closed: why the host ended,
+/// and what closing came to.
 #[derive(Drop)]
 pub struct HostEnd {
     pub book: Book,
-    pub ended: bool,
+    pub why: Parting,
     pub closing: Result<(), Failed>,
 }
 
@@ -82,7 +89,7 @@ pub fn host_by_names<W: Wait, P: Prices, I: Source, O: Sink, C: Cabinet, D: Door
     requires doors { AreServable request.doors }
     ensures outcome { HostOutcome (tellings I.Source O.Sink C.Cabinet C.Disk.Disk)
         (door_tellings D.Doors D.Network.Connections.did
-        (D.Network.Connections.saw (KeptStore C.Disk)))
+        (D.Network.Connections.saw (LedState C.Disk)))
         (priced_names (P.prices costs.now) request.entry.topology.now request.entry.journal.now)
         (asked_of request.entry.doors) (doors_beside outside.old doors.old)
         (doors_beside outside.new doors.new) (host_status result) }
@@ -114,7 +121,7 @@ fn host_journal<W: Wait, I: Source, O: Sink, C: Cabinet, D: Doors, L: Log>(
     requires doors { AreServable request.doors }
     ensures hosts { HostsJournal (tellings I.Source O.Sink C.Cabinet C.Disk.Disk)
         (door_tellings D.Doors D.Network.Connections.did
-        (D.Network.Connections.saw (KeptStore C.Disk))) request.entry.journal.now
+        (D.Network.Connections.saw (LedState C.Disk))) request.entry.journal.now
         (asked_of request.entry.doors) (doors_beside outside.old doors.old)
         (doors_beside outside.new doors.new) (host_status result) topology }
     ensures told { TellsWhy O.Sink (held outside.new).output result }
@@ -126,9 +133,10 @@ fn host_journal<W: Wait, I: Source, O: Sink, C: Cabinet, D: Doors, L: Log>(
         outside.old outside.new }
 {
     let name = request.journal;
-    match open_journal::<C, Decided>(alloc, name, topology, outside.cabinet) {
-        Ok(store) => {
-            let came = host_by_store(rt, alloc, store, request, outside, doors, log);
+    let is_led = request.doors.standby.is_some();
+    match open_led::<C, Decided>(alloc, name, topology, is_led, outside.cabinet) {
+        Ok(led) => {
+            let came = host_by_store(rt, alloc, led, request, outside, doors, log);
             tell_hosted(came, outside.output)
         }
         Err(why) => HostWhy::Ended(end(Err(why), outside.output)),
@@ -140,7 +148,7 @@ fn host_journal<W: Wait, I: Source, O: Sink, C: Cabinet, D: Doors, L: Log>(
 fn host_by_store<W: Wait, I: Source, O: Sink, C: Cabinet, D: Doors, L: Log>(
     rt: &W,
     alloc: Global,
-    store: Store<C::Disk>,
+    led: LedStore<C::Disk>,
     request: HostRequest<'_>,
     outside: &mut Outside<'_, I, O, C>,
     doors: &mut D,
@@ -149,11 +157,12 @@ fn host_by_store<W: Wait, I: Source, O: Sink, C: Cabinet, D: Doors, L: Log>(
     requires out { IsSome (C.frame (held outside.old).cabinet).out }
     requires doors { AreServable request.doors }
     ensures hosts { (name : List ℕ) → (before : C) → (network : Network) → IsNetwork network
-        → OpensJournal C.Cabinet C.Disk.Disk IsDecidedAt name before (held outside.old).cabinet
-        network store
+        → (opens : OpensJournal C.Cabinet C.Disk.Disk IsDecidedAt name before
+        (held outside.old).cabinet network led.store)
+        → IsLedOf C.Disk.Disk led network opens.opens.opened.history
         → HostsByJournal (tellings I.Source O.Sink C.Cabinet C.Disk.Disk)
         (door_tellings D.Doors D.Network.Connections.did
-        (D.Network.Connections.saw (KeptStore C.Disk))) name (asked_of request.entry.doors)
+        (D.Network.Connections.saw (LedState C.Disk))) name (asked_of request.entry.doors)
         before (held outside.new).cabinet network doors.old doors.new result }
     ensures announces { Announces O.Sink (held outside.old).output (held outside.new).output
         result }
@@ -167,12 +176,16 @@ fn host_by_store<W: Wait, I: Source, O: Sink, C: Cabinet, D: Doors, L: Log>(
     ensures beside { LeavesBeside (tellings I.Source O.Sink C.Cabinet C.Disk.Disk)
         outside.old outside.new }
 {
-    let Ok(table) = RowTable::of_all(alloc, store.book().topology()) else {
-        let _ = close_journal(store, outside.cabinet);
+    let Ok(table) = RowTable::of_all(alloc, led.book().topology()) else {
+        let _ = close_journal(led.into_store(), outside.cabinet);
         return Err(NotHosted::Memory);
     };
     let Ok(opened) = opened_as(alloc, request.doors) else {
-        let _ = close_journal(store, outside.cabinet);
+        let _ = close_journal(led.into_store(), outside.cabinet);
+        return Err(NotHosted::Memory);
+    };
+    let Ok(awaited) = awaited_by(alloc, request.doors.standby) else {
+        let _ = close_journal(led.into_store(), outside.cabinet);
         return Err(NotHosted::Memory);
     };
     let Opened {
@@ -183,21 +196,33 @@ fn host_by_store<W: Wait, I: Source, O: Sink, C: Cabinet, D: Doors, L: Log>(
     let mut network = match open_doors(alloc, addresses, request.doors, outside.output, doors) {
         Ok(network) => network,
         Err(why) => {
-            let _ = close_journal(store, outside.cabinet);
+            let _ = close_journal(led.into_store(), outside.cabinet);
             return Err(why);
         }
     };
-    let core = Core::with_rows(alloc, store, table);
-    let mut clerk = Clerk::new(alloc, core, RowsInAdvance::new(), rules, log);
-    host(rt, alloc, &mut network, &mut clerk);
+    let core = Core::with_rows(alloc, led, table);
+    let mut clerk = Clerk::new(alloc, core, RowsInAdvance::new(), rules, log, awaited);
+    let why = host(rt, alloc, &mut network, &mut clerk);
     doors.close(network);
-    let ended = clerk.is_ending();
-    let (closing, book) = close_journal(clerk.into_books(), outside.cabinet);
-    Ok(HostEnd {
-        book,
-        ended,
-        closing,
-    })
+    let (closing, book) = close_journal(clerk.into_books().into_store(), outside.cabinet);
+    Ok(HostEnd { book, why, closing })
+}
+
+// The standby that replies wait for, with its path in memory.
+fn awaited_by(alloc: Global, plan: Option<StandbyPlan<'_>>) -> Result<Option<StandbyAt>, AllocError>
+    ensures path { IfOk result (λ at. path_at at
+        ≡ option_map (λ standby. standby.path) (option_map plan_at plan.entry)) }
+    ensures alone { IfOk result (λ at. goes_alone at
+        ≡ may_be_alone (option_map plan_at plan.entry)) }
+{
+    let Some(plan) = plan else {
+        return Ok(None);
+    };
+    Ok(Some(StandbyAt {
+        path: String::from_str(alloc, plan.path)?,
+        seconds: plan.seconds,
+        or_stop: plan.or_stop,
+    }))
 }
 
 // Opens the doors, and says that customers may come. Where that cannot be said they are closed.
@@ -241,13 +266,7 @@ fn tell_hosted<O: Sink>(came: Result<HostEnd, NotHosted>, output: &mut O) -> Hos
     ensures stays { Stays (O.frame output.old) (O.frame output.new) }
 {
     match came {
-        Ok(
-            HostEnd {
-                book,
-                ended,
-                closing,
-            },
-        ) => { HostWhy::Ended(tell(&book, end_of_host(ended, closing), output)) }
+        Ok(end) => tell_end(end, output),
         Err(NotHosted::Memory) => HostWhy::Ended(end(Err(Fault::Memory), output)),
         Err(NotHosted::Door(word, trouble)) => {
             // The status stays where the line cannot be written.
@@ -269,15 +288,87 @@ fn put_door<O: Sink>(output: &mut O, word: u64) -> Result<(), Failed>
     gather.finish(output)
 }
 
-// What came of the doors and then of closing.
-fn end_of_host(ended: bool, closing: Result<(), Failed>) -> Result<(), Fault>
-    ensures { result ≡ end_of_host ended closing }
+// Writes what the book holds by which connections were hosted, and then the last line, and says why
+// the program ends.
+fn tell_end<O: Sink>(end: HostEnd, output: &mut O) -> HostWhy
+    ensures came { EndsBy O.Sink output.old output.new (host_status result)
+        (audit_text end.book.network end.book.book) end.why end.closing }
+    ensures told { TellsWhy O.Sink output.new result }
+    ensures why { IsWhyOf (Ok end) result }
+    ensures stays { Stays (O.frame output.old) (O.frame output.new) }
 {
-    if !ended {
-        return Err(Fault::Door);
+    let HostEnd { book, why, closing } = end;
+    match why {
+        Parting::Asked => HostWhy::Ended(tell(&book, closed_as(closing), output)),
+        Parting::Told => HostWhy::Ended(tell(&book, Err(Fault::Door), output)),
+        Parting::Late => tell_standby(&book, None, output),
+        Parting::Ahead(count) => tell_standby(&book, Some(count), output),
     }
+}
+
+// What closing came to.
+fn closed_as(closing: Result<(), Failed>) -> Result<(), Fault>
+    ensures { result ≡ closed_as closing }
+{
     match closing {
         Err(_) => Err(Fault::Cabinet),
         Ok(()) => Ok(()),
     }
+}
+
+// Writes what a book holds, and then that the standby is gone, or that it has so many entries.
+fn tell_standby<O: Sink>(book: &Book, ahead: Option<u64>, output: &mut O) -> HostWhy
+    ensures is { result ≡ why_of_standby ahead }
+    ensures out { IsOut O.Sink output.old output.new
+        (audit_text book.now.network book.now.book ++ last_of_host (why_of_standby ahead)) }
+    ensures told { TellsWhy O.Sink output.new result }
+    ensures stays { Stays (O.frame output.old) (O.frame output.new) }
+{
+    match audit(book, output) {
+        Ok(()) => put_last(output, ahead),
+        // After a failed write nothing more is written.
+        Err(_) => why_of_standby(ahead),
+    }
+}
+
+// Writes that the standby is gone, or has so many entries, and says that the host ends for that.
+fn put_last<O: Sink>(output: &mut O, ahead: Option<u64>) -> HostWhy
+    ensures is { result ≡ why_of_standby ahead }
+    ensures out { IsOut O.Sink output.old output.new (last_of_host (why_of_standby ahead)) }
+    ensures stays { Stays (O.frame output.old) (O.frame output.new) }
+{
+    // The status stays where the line cannot be written.
+    let _ = put_standby(output, ahead);
+    why_of_standby(ahead)
+}
+
+// Why a host ends for its standby.
+fn why_of_standby(ahead: Option<u64>) -> HostWhy
+    ensures { result ≡ why_of_standby ahead }
+{
+    match ahead {
+        None => HostWhy::StandbyGone,
+        Some(count) => HostWhy::StandbyAhead(count),
+    }
+}
+
+// Writes the line that tells it.
+fn put_standby<O: Sink>(output: &mut O, ahead: Option<u64>) -> Result<(), Failed>
+    ensures { IsPut O.Sink output.old output.new (last_of_host (why_of_standby ahead)) result }
+{
+    match ahead {
+        None => write_all(output, b"standby\n"),
+        Some(count) => put_ahead(output, count),
+    }
+}
+
+// Writes that it has so many entries.
+fn put_ahead<O: Sink>(output: &mut O, count: u64) -> Result<(), Failed>
+    ensures { IsPut O.Sink output.old output.new (line_of (codes "ahead " ++ decimal count))
+        result }
+{
+    let mut gather = Gather::new();
+    gather.add_numbered(output, b"ahead ", count);
+    gather.add(output, b"\n");
+    gather.finish(output)
 }

@@ -2,7 +2,7 @@
 //! until the operator ends it.
 //!
 //! ```
-//! let doors = HostDoors { operator: None, words: &words[3..], first: 4 };
+//! let doors = HostDoors { operator: None, words: &words[3..], first: 4, standby: None };
 //! let request = HostRequest { topology: "star.txt", journal: "orders.journal", doors };
 //! let mut ports = Ports::new(rt);
 //! let why = host_by_names(&rt, alloc, &OwnCosts, request, outside, &mut ports, log);
@@ -11,8 +11,9 @@
 
 mod hosting;
 mod opening;
+mod reading;
 mod why;
 
 pub use hosting::{HostEnd, HostRequest, NotHosted, host_by_names};
-pub use opening::{GuardedDoor, HostDoors, Opened, opened_as};
+pub use opening::{GuardedDoor, HostDoors, Opened, StandbyPlan, opened_as};
 pub use why::HostWhy;

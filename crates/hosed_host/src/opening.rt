@@ -18,12 +18,25 @@ use std::alloc::{AllocError, Global};
 const MOST_OPENED: usize = MOST_DOORS + 1;
 
 /// The doors that words ask for: the operator's socket, if there is one, with the number of its
-/// word, and the words of the others, of which the first has this number.
+/// word, and the words of the others, of which the first has this number; and the standby that
+/// replies wait for, if there is one.
 #[derive(Clone, Copy)]
 pub struct HostDoors<'w> {
     pub operator: Option<(&'w str, u64)>,
     pub words: &'w [String],
     pub first: u64,
+    pub standby: Option<StandbyPlan<'w>>,
+}
+
+/// The standby that replies wait for.
+#[derive(Clone, Copy)]
+pub struct StandbyPlan<'w> {
+    /// The path of its Unix socket.
+    pub path: &'w str,
+    /// For how many seconds nothing may be heard of it.
+    pub seconds: u64,
+    /// No reply is told without it: the host ends where it is gone.
+    pub or_stop: bool,
 }
 
 /// A door, as it is opened: where, and who may greet there.

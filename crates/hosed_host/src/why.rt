@@ -12,6 +12,10 @@ pub enum HostWhy {
     Ended(Why),
     /// The door that the word of this number names could not be opened, and why.
     Door(u64, DoorTrouble),
+    /// Nothing was heard of the standby for as long as was said, and no reply is told without it.
+    StandbyGone,
+    /// The standby has so many entries, more than the journal.
+    StandbyAhead(u64),
 }
 
 impl HostWhy {
@@ -22,6 +26,8 @@ impl HostWhy {
         match self {
             HostWhy::Ended(why) => why.status(),
             HostWhy::Door(_, _) => 9,
+            HostWhy::StandbyGone => 16,
+            HostWhy::StandbyAhead(_) => 17,
         }
     }
 }

@@ -1,6 +1,7 @@
 -- What stands after `host`: steps of proofs.
-use Rattle.std.specs.Prelude.{◌≡◌, ◌⊎◌, ℕ, ◌+◌, ◌^◌, ◌<◌, ◌≤◌, All, List, Result, Err, ⊤, length, map, option_map}
+use Rattle.std.specs.Prelude.{◌≡◌, ◌⊎◌, ℕ, ◌+◌, ◌^◌, ◌<◌, ◌≤◌, All, List, Option, None, Some, Result, Ok, Err, ⊤, length, map, option_map}
 use Rattle.std.specs.String.{string_bytes}
+use Rattle.hose_io.specs.declared.Failed.{Failed}
 use Rattle.hose_graph.specs.Network.{Network}
 use Rattle.hose_offline.specs.Ending.{IsOut}
 use Rattle.hose_offline.specs.Fault.{last_line, status_of}
@@ -8,18 +9,24 @@ use Rattle.hose_offline.specs.Parts.{Tellings}
 use Rattle.hose_offline.specs.ServingOnDisk.{IsNotServed}
 use Rattle.hose_offline.specs.steps.Parts.{held}
 use Rattle.hose_offline.specs.declared.fault.Fault.{Fault}
+use Rattle.hose_offline.specs.declared.fault.Fault.TheVariants as fault
 use Rattle.hose_offline.specs.declared.outside.Outside.{Outside}
 use Rattle.hose_doors.specs.Doors.{NamesDoor}
 use Rattle.hose_doors.specs.Limits.{most_doors}
 use Rattle.hosed_host.specs.HostBook.{DoorTellings}
-use Rattle.hosed_host.specs.HostDoors.{DoorsAsked}
+use Rattle.hosed_host.specs.HostDoors.{DoorsAsked, StandbyPlace}
 use Rattle.hosed_host.specs.HostOutcome.{HostsConnections, OutsideDoors}
 use Rattle.hosed_host.specs.declared.hosting.HostEnd.{HostEnd}
 use Rattle.hosed_host.specs.declared.hosting.NotHosted.{NotHosted}
 use Rattle.hosed_host.specs.declared.hosting.NotHosted.TheVariants as none
 use Rattle.hosed_host.specs.declared.opening.HostDoors.{HostDoors}
+use Rattle.hosed_host.specs.declared.opening.StandbyPlan.{StandbyPlan}
 use Rattle.hosed_host.specs.declared.why.HostWhy.{HostWhy}
 use Rattle.hosed_host.specs.declared.why.HostWhy.TheVariants as why
+
+-- what the request says of the standby
+abbrev pub plan_at : StandbyPlan → StandbyPlace
+plan_at plan = record { path = plan.path.now; or_stop = plan.or_stop }
 
 -- what the request says of the doors
 abbrev pub asked_of : HostDoors → DoorsAsked
@@ -27,6 +34,7 @@ asked_of doors = record {
   operator = option_map (λ path. (path.0.now, path.1)) doors.operator;
   doors = map string_bytes doors.words.now;
   first = doors.first;
+  standby = option_map plan_at doors.standby;
 }
 
 -- each word names a door, and there are no more than there may be
@@ -39,10 +47,22 @@ pub record AreServable (doors : HostDoors) : Type 0 where
 abbrev pub doors_beside : {I O C E D : Type 0} → Outside I O C E → D → OutsideDoors I O C D
 doors_beside outside doors = record { others = held outside; doors = doors }
 
+-- what closing came to
+abbrev pub closed_as : Result ⊤ Failed → Result ⊤ Fault
+closed_as (Ok _) = Ok tt
+closed_as (Err failed) = Err fault.Cabinet
+
+-- why a host ends for its standby: it is gone, or has so many entries
+abbrev pub why_of_standby : Option ℕ → HostWhy
+why_of_standby None = why.StandbyGone
+why_of_standby (Some count) = why.StandbyAhead count
+
 -- a door is named for an opening of the doors that failed so
 abbrev pub IsWhyOf : Result HostEnd NotHosted → HostWhy → Type 0
 IsWhyOf came (why.Ended _) = ⊤
 IsWhyOf came (why.Door word trouble) = came ≡ Err (none.Door word trouble)
+IsWhyOf came why.StandbyGone = ⊤
+IsWhyOf came (why.StandbyAhead count) = ⊤
 
 -- What hosting by the journal of a name comes to: connections were hosted, or why not, once a store
 -- was opened; or none was, and the last line tells why.

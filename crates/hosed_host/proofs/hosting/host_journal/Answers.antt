@@ -11,7 +11,7 @@ returns-in-Ok-clause-hosts g c =
     inl (record {
       mid = (held came.new.outside).output;
       came = came.result;
-      hosts = came.ensures.hosts c.args.request.journal.now (held c.args.outside.now).cabinet c.args.topology (search rules) c.in-Ok.ensures.opens;
+      hosts = came.ensures.hosts c.args.request.journal.now (held c.args.outside.now).cabinet c.args.topology (search rules) c.in-Ok.ensures.opens.0 c.in-Ok.ensures.opens.1;
       announces = came.ensures.announces;
       ends = c.tell_hosted.ensures.came;
     })
@@ -31,5 +31,5 @@ returns-in-Ok-clause-alone g c =
     let came = c.host_by_store-came in
     record {
       absent = came.ensures.absent ∙ opened.call.absent;
-      others = others_then g.C.Cabinet c.args.request.journal.now before c.open_journal.new.cabinet (held came.new.outside).cabinet opened.call.out c.open_journal.ensures.others came.ensures.others;
+      others = others_then g.C.Cabinet c.args.request.journal.now before c.open_led.new.cabinet (held came.new.outside).cabinet opened.call.out c.open_led.ensures.others came.ensures.others;
     }
