@@ -10,7 +10,7 @@ use Rattle.hose_graph.specs.declared.entry.Entry.{Entry}
 use Rattle.hose_graph.specs.Network.{Network}
 use Rattle.hose_law.specs.Script.{ReadLine}
 use Rattle.hose_talk.specs.Talk.{TalksTo, Terms, talk}
-use Rattle.hose_talk.specs.steps.Talk.{KeepsFault}
+use Rattle.hose_talk.specs.steps.Talk.{IsCutByReader, KeepsFault}
 use Rattle.hose_talk.specs.declared.talking.TalkEnd.{TalkEnd}
 use Rattle.hose_talk.specs.declared.talking.TalkFault.{TalkFault}
 use Rattle.hose_talk.proofs.Retold.{talks_as}
@@ -29,6 +29,7 @@ module _ {S O K R A : Type 0} (source : Ghosts S) (sink : SinkGhosts O) (books :
   abbrev core_terms : Terms ReadLine A Reply
   core_terms = record {
     tells = λ stops lines. SaysUpTo source start last (λ _. SaysAlone network) lines stops;
+    cut = IsCutByReader source start last;
     comes = λ lines replies now. HasAnsweredLines books since first (core_of now) lines replies;
     over = λ _. false;
     text = λ reply. line_of (reply_text network reply);

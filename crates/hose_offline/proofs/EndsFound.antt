@@ -7,7 +7,8 @@ use Rattle.hose_graph.specs.Hose.{IsHose}
 use Rattle.hose_graph.specs.steps.Hose.{MakesHose}
 use Rattle.hose_graph.specs.Network.{IsNetwork, Network, name_of}
 use Rattle.hose_proto.specs.Command.{AreEndsOf, AreNewEnds}
-use Rattle.hose_proto.specs.EndWords.{AreEndWords, IsEndWord, IsFirstUnknown, NamesNode, name_in, named_rate}
+use Rattle.hose_proto.specs.steps.EndWords.{AreEndWords}
+use Rattle.hose_proto.specs.EndWords.{IsEndWord, IsFirstUnknown, NamesNode, name_in, named_rate}
 use Rattle.hose_proto.specs.Places.{end_word}
 use Rattle.hose_proto.specs.steps.Places.{IsEndOf}
 use Rattle.hose_proto.proofs.EndWords.{name_of_end, names_its_node}

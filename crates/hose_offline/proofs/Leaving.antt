@@ -27,8 +27,9 @@ use Rattle.hose_offline.specs.ServingOnDisk.{IsNotServed, first_of}
 use Rattle.hose_offline.specs.declared.fault.Fault.{Fault}
 use Rattle.hose_offline.specs.declared.fault.Fault.TheVariants as fault
 use Rattle.hose_offline.proofs.Borrowed.{held_behind, rose_behind}
+use Rattle.hose_offline.proofs.CutRuns.{cut_behind}
 use Rattle.hose_offline.proofs.OneRun.{OneText}
-use Rattle.hose_offline.proofs.Running.{never_told, ran, text_read}
+use Rattle.hose_offline.proofs.Running.{never_told, ran, text_read, text_told}
 
 module _ (prices : Network → Network → Type 0) {S O C E : Type 0} (source : Ghosts S) (sink : SinkGhosts O) (cabinet : CabinetGhosts C E) (disk : DiskGhosts E) (start middle last : Reader S) (told network : Network) (priced : prices told network) (output output' : O) (place place' : C) (is : IsNetwork network) (empty : start.pending ≡ [])
     (text : WhereTold (source.content start.source) (source.content middle.source) (λ input left. IsTopologyText (start.pending ++ input) told (middle.pending ++ left)))
@@ -95,6 +96,16 @@ module _ (prices : Network → Network → Type 0) {S O C E : Type 0} (source : 
     leaves_in_cabinet done more (inl (why, stays, same)) = not_served done stays same why
     leaves_in_cabinet done more (inr (served, closing, has, told)) = subst (Leaves (Some name) place') (sym told) (served_leaves served closing more has)
 
+-- the text of a network was read, and then there was no memory
+pub starved : (prices : Network → Network → Type 0) {S O C E : Type 0} (source : Ghosts S) (sink : SinkGhosts O) (cabinet : CabinetGhosts C E) (disk : DiskGhosts E) (journal : Option (List ℕ)) (start middle : Reader S) (told : Network) (output : O) (place : C) → start.pending ≡ []
+    → WhereTold (source.content start.source) (source.content middle.source) (λ input left. IsTopologyText (start.pending ++ input) told (middle.pending ++ left)) → ReadsOn source start middle → middle.fault ≡ None
+    → RunLeaves (tellings source sink cabinet disk) prices journal (parts start.source output place) (parts middle.source output place) {T = ⊤} (Err fault.Memory)
+starved prices source sink cabinet disk journal start middle told output place empty text reads none = (
+  inr (inl (WhereTold-map (source.content start.source) (source.content middle.source) _ _ (text_told source start middle told empty text) (λ input left tells. (told, tells)), refl)),
+  reads.unfailed (λ read. absurd (cc (none, read))),
+  refl,
+)
+
 -- ---- an input behind a borrow
 
 module _ {T O C E : Type 0} (tells : Tellings T O C E) (prices : Network → Network → Type 0) (journal : Option (List ℕ)) where
@@ -116,7 +127,7 @@ module _ {T O C E : Type 0} (tells : Tellings T O C E) (prices : Network → Net
     left_behind (Ok done) leaves = (leaves.0, held leaves.1, leaves.2)
     left_behind (Err (fault.Topology refusal)) leaves = (leaves.0, held leaves.1, leaves.2, leaves.3)
     left_behind (Err fault.Read) leaves = (leaves.0, rose_behind tells.source before.input after.input leaves.1)
-    left_behind (Err fault.Write) leaves = (leaves.0, held leaves.1, leaves.2)
+    left_behind (Err fault.Write) leaves = ((leaves.0.0, cut_behind tells.source prices _ after.input _ _ _ _ leaves.0.1), held leaves.1, leaves.2)
     left_behind (Err (fault.Other kept given)) leaves = (leaves.0, held leaves.1, leaves.2)
     left_behind (Err (fault.Damaged at)) leaves = (leaves.0, held leaves.1, leaves.2)
     left_behind (Err fault.Cabinet) (inl read, failed) = (inl (read.0, held read.1, read.2), failed)

@@ -3,6 +3,7 @@ pub mod Audited
 pub mod Audits
 mod BookTalks
 mod Borrowed
+mod CutRuns
 mod CutWhole
 mod EndsFound
 pub mod Exchanges
@@ -28,6 +29,7 @@ mod Packets
 mod Priced
 mod Proved
 pub mod PutBack
+mod RunEnds
 pub mod Running
 mod Sheets
 mod ShipEnds

@@ -37,8 +37,9 @@ use Rattle.hose_offline.specs.steps.Fault.{of_topology}
 use Rattle.hose_talk.specs.Talk.{talk}
 use Rattle.hose_offline.specs.Talking.{IsAskedBy, Says, TellsDisks}
 use Rattle.hose_offline.specs.steps.Talking.{Talks, talk_tellings, book_terms}
-use Rattle.hose_talk.specs.Talk.{AllOut, IsLeftNear, LastCut, TalksTo, TalksUpTo}
-use Rattle.hose_talk.specs.steps.Talk.{KeepsFault}
+use Rattle.hose_offline.proofs.CutRuns.{cut_in_run}
+use Rattle.hose_talk.specs.Talk.{AllOut, IsCutNear, LastCut, TalksTo, TalksUpTo}
+use Rattle.hose_talk.specs.steps.Talk.{IsCutByReader, KeepsFault}
 use Rattle.hose_talk.specs.declared.talking.TalkEnd.{TalkEnd}
 use Rattle.hose_talk.specs.declared.talking.TalkEnd.TheVariants as talk_end
 use Rattle.hose_talk.specs.declared.talking.TalkFault.{TalkFault}
@@ -159,9 +160,9 @@ module _ (prices : Network → Network → Type 0) {S O : Type 0} (source : Ghos
     whatever_before stops = WhereTold-map old_text (source.content middle.source) _ _ text (λ _ _ _ _ _ same. same)
 
     -- what `stops` says behind the topology it says of the whole input
-    abbrev has_run : (stops : List ℕ → List ℕ → List ℕ → Type 0) (puts : List Reply → Type 0) → WhereTold old_text (source.content middle.source) (λ input left. (behind rest : List ℕ) → stops (middle.pending ++ left) behind rest → stops (start.pending ++ input) behind rest)
-        → (talks : Answers stops puts) → HasRun prices keeping old_text new_text stops
-    has_run stops puts joins talks = record {
+    abbrev has_run : (stops its : List ℕ → List ℕ → List ℕ → Type 0) (puts : List Reply → Type 0) → WhereTold old_text (source.content middle.source) (λ input left. (behind rest : List ℕ) → stops (middle.pending ++ left) behind rest → its (start.pending ++ input) behind rest)
+        → (talks : Answers stops puts) → HasRun prices keeping old_text new_text its
+    has_run stops its puts joins talks = record {
       told = told;
       network = network;
       priced = priced;
@@ -178,7 +179,7 @@ module _ (prices : Network → Network → Type 0) {S O : Type 0} (source : Ghos
             said.0,
             subst (λ (p : List ℕ). IsTopologyText (p ++ a) told (middle.pending ++ b)) empty both.0,
             said_next said.1,
-            subst (λ (p : List ℕ). stops (p ++ a) said.0 c) empty (both.1 said.0 c said.2),
+            subst (λ (p : List ℕ). its (p ++ a) said.0 c) empty (both.1 said.0 c said.2),
           ));
       left = talks.comes.left;
       script = talks.comes.script;
@@ -206,7 +207,7 @@ module _ (prices : Network → Network → Type 0) {S O : Type 0} (source : Ghos
         (λ input left. (behind rest : List ℕ) → StopsAfterLines fault (middle.pending ++ left) behind rest → StopsAfterLines fault (start.pending ++ input) behind rest)
         (reads.whole none before_end)
         (λ input left lines behind rest stops. (IsAfterLines-then (start.pending ++ input) (middle.pending ++ left) behind lines stops.0, stops.1)) in
-        record { run = has_run (StopsAfterLines fault) _ joins talks; out = talks.out }
+        record { run = has_run (StopsAfterLines fault) (StopsAfterLines fault) _ joins talks; out = talks.out }
 
     -- the last reply is cut off
     cut : (replies : List Reply) → LastCut (λ reply. line_of (reply_text network reply)) sink output output' replies → CutsLast network (sink.content output) (sink.content output') replies
@@ -217,7 +218,7 @@ module _ (prices : Network → Network → Type 0) {S O : Type 0} (source : Ghos
         → (IsRun prices keeping old_text new_text (sink.content output) (sink.content output') → source.frame last.source ≡ source.frame start.source → sink.frame output' ≡ sink.frame output → P (Ok tt))
         → (IsRunUpTo prices keeping line.Read old_text new_text (sink.content output) (sink.content output') → sink.frame output' ≡ sink.frame output → Rose (source.frame start.source) (source.frame last.source) → P (Err fault.Read))
         → (IsRunUpTo prices keeping line.TooLong old_text new_text (sink.content output) (sink.content output') → sink.frame output' ≡ sink.frame output → source.frame last.source ≡ source.frame start.source → P (Err fault.TooLong))
-        → (IsCutOff prices keeping old_text new_text (sink.content output) (sink.content output') → source.frame last.source ≡ source.frame start.source → Rose (sink.frame output) (sink.frame output') → P (Err fault.Write))
+        → (IsCutOff prices keeping (IsCutNear source last.source) old_text new_text (sink.content output) (sink.content output') → source.frame last.source ≡ source.frame start.source → Rose (sink.frame output) (sink.frame output') → P (Err fault.Write))
         → (done : Result ⊤ Fault) → Talks (talk_tellings source sink books) network since (talk middle output first) (talk last output' now) done → P done
     ran P to_end at_read at_too_long at_write done (ended, is_done, kept, talks) = subst P (sym is_done) (at ended kept talks)
       where
@@ -225,10 +226,10 @@ module _ (prices : Network → Network → Type 0) {S O : Type 0} (source : Ghos
             → TalksTo source sink (book_terms (talk_tellings source sink books) network since (talk middle output first) (talk last output' now)) (talk middle.source output (tt {0})) (talk last.source output' (tt {0})) end
             → P (done_of_talk end)
         at (Ok talk_end.Input) kept talks = to_end
-            (run_of prices keeping old_text new_text (sink.content output) (sink.content output') (has_run IsAllTaken _ (whatever_before (IsAllTaken [])) talks.0.0) is (one_input _ talks.0.0) talks.0.0.out)
+            (run_of prices keeping old_text new_text (sink.content output) (sink.content output') (has_run IsAllTaken IsAllTaken _ (whatever_before (IsAllTaken [])) talks.0.0) is (one_input _ talks.0.0) talks.0.0.out)
             (held_over (λ read. absurd (cc (kept, read)))) talks.2
         at (Ok talk_end.Over) kept talks = absurd (cc talks.0.1)
         at (Err talk_fault.Read) kept talks = at_read (run_until line.Read kept.1 talks.0.0) talks.2 (rw held_before at talks.1)
         at (Err talk_fault.TooLong) kept talks = at_too_long (run_until line.TooLong kept.1 talks.0.0) talks.2 (held_over (λ read. absurd (cc (kept.0, read))))
-        at (Err talk_fault.Write) kept talks = at_write (record { run = has_run IsLeftNear _ (whatever_before (IsLeftNear [])) talks.0; out = cut talks.0.replies talks.0.out })
+        at (Err talk_fault.Write) kept talks = at_write (record { run = has_run (IsCutByReader source middle last) (IsCutNear source last.source) _ (cut_in_run source start middle last told empty text reads none more) talks.0; out = cut talks.0.replies talks.0.out })
             (held_over (λ read. absurd (cc (kept, read)))) talks.2

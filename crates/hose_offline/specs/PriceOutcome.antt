@@ -1,7 +1,7 @@
 -- What stands after `price`, by what ended it.
 use Rattle.std.specs.Prelude.{◌≡◌, ◌⊎◌, ◌↔◌, ℕ, ◌+◌, ◌<◌, ◌≤◌, List, length, map, false, Result, Err, slice_index_or, ⊤}
 use Rattle.hose_io.specs.Stream.{Gives}
-use Rattle.hose_talk.specs.Talk.{TalksTo, TellsOf, talk}
+use Rattle.hose_talk.specs.Talk.{IsCutNear, TalksTo, TellsOf, talk}
 use Rattle.hose_talk.specs.declared.talking.TalkEnd.{TalkEnd}
 use Rattle.hose_talk.specs.declared.talking.TalkFault.{TalkFault}
 use Rattle.hose_words.specs.Limits.{input_limit}
@@ -27,6 +27,7 @@ abbrev pub AnswersInput : {I O C E : Type 0} → Tellings I O C E → List (List
 AnswersInput tells names sheet before after = TalksTo tells.source tells.sink (record {
   tells = TellsOf (λ _. AnswersSheet sheet) (tells.source.content before.input)
       (tells.source.content after.input);
+  cut = IsCutNear tells.source after.input;
   comes = λ said answers _. said ≡ answers;
   over = λ _. false;
   text = λ answer. line_of (answer_text names answer);

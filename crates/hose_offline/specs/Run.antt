@@ -17,7 +17,6 @@ use Rattle.hose_topo.specs.TopologyText.{IsTopologyText}
 use Rattle.hose_words.specs.Reading.{WhereTold}
 use Rattle.hose_proto.specs.Replies.{CutsLast, texts_of}
 use Rattle.hose_words.specs.Saying.{IsAllTaken, SayLines}
-use Rattle.hose_talk.specs.Talk.{IsLeftNear}
 use Rattle.hose_offline.specs.Talking.{Says}
 use Rattle.hose_offline.specs.TopologyTold.{IsRefusedAs, Tells, TellsPriced, limit_of}
 use Rattle.hose_offline.specs.declared.notation.Notation.{Notation}
@@ -120,11 +119,12 @@ pub record IsRunUpTo (prices : Network → Network → Type 0) (keeping : Keepin
   pub run : HasRun prices keeping old new (StopsAfterLines fault)
   pub out : Grows before after (texts_of run.network run.replies)
 
--- The output was cut off in a reply: it has the replies before, and a part of this one. Bytes after
--- the lines may have been taken, as far as one look at the input gives them.
+-- The output was cut off in a reply: it has the replies before, and a part of this one. `cut` says
+-- how the input stands to what comes after the lines.
 pub record IsCutOff (prices : Network → Network → Type 0) (keeping : Keeping)
-    (old new : Option Stream) (before after : Option (List ℕ)) : Type 0 where
-  pub run : HasRun prices keeping old new IsLeftNear
+    (cut : List ℕ → List ℕ → List ℕ → Type 0) (old new : Option Stream)
+    (before after : Option (List ℕ)) : Type 0 where
+  pub run : HasRun prices keeping old new cut
   pub out : CutsLast run.network before after run.replies
 
 -- the text tells no network, and is refused so

@@ -10,6 +10,7 @@ use Rattle.hose_graph.specs.Network.{Network}
 use Rattle.hose_graph.specs.declared.entry.Entry.{Entry}
 use Rattle.hose_journal.specs.Image.{Meaning, damaged, other}
 use Rattle.hose_store.specs.Recovery.{IsHistoryOf, digest_of}
+use Rattle.hose_talk.specs.Talk.{IsCutNear}
 use Rattle.hose_topo.specs.Reading.{StopsInTopology}
 use Rattle.hose_offline.specs.Ending.{EndsAfter, NoneFailed, OutputWorked, TakesWithinLimit}
 use Rattle.hose_offline.specs.OnDisk.{CabinetFailed, IsRefusedOnDisk, JournalIsTold, IsUnopened, OthersStay, keeping_of}
@@ -98,7 +99,8 @@ module _ {I O C E : Type 0} (tells : Tellings I O C E) (prices : Network → Net
       × (after.cabinet ≡ before.cabinet)
   RunLeaves (Err Read) = IsInterrupted line.Read × InputFailed tells before after
   RunLeaves (Err Write) = ((closing : Result ⊤ Failed)
-      × OfText tells before after (IsCutOff prices (keeping closing)))
+      × OfText tells before after (IsCutOff prices (keeping closing)
+      (IsCutNear tells.source after.input)))
       × InputWorked tells before after
       × Rose (tells.sink.frame before.output) (tells.sink.frame after.output)
   RunLeaves (Err (Other kept given)) =

@@ -1,7 +1,6 @@
 // A run: a topology, and then a reply for each line.
-ghost use Rattle.std.specs.Prelude.{◌≡◌, ◌↔◌, ◌+◌, [], ◌<◌, ◌≤◌, ℕ, List, length, IfSome, IsSome, None, Some, Err, Result, ⊤};
+ghost use Rattle.std.specs.Prelude.{◌≡◌, ◌≢◌, ◌↔◌, ◌+◌, [], ◌<◌, ◌≤◌, ℕ, List, IfSome, IsSome, None, Some, Err, Result, ⊤};
 ghost use Rattle.std.specs.Prelude.{option_map};
-ghost use Rattle.hose_io.specs.Stream.{Gives};
 ghost use Rattle.hose_law.specs.History.{IsDecidedAt};
 ghost use Rattle.hose_law.specs.Quotes.{nothing_held};
 ghost use Rattle.hose_law.specs.Script.{ReadLine};
@@ -21,16 +20,15 @@ ghost use Rattle.hose_core.specs.steps.Stepping.{FitsHistory};
 ghost use Rattle.hose_offline.specs.steps.Journal.{IsJustOpened, OpensJournal};
 ghost use Rattle.hose_offline.specs.OnDisk.{OthersStay, opening_of};
 ghost use Rattle.hose_offline.specs.Parts.{AllStay, parts, tellings};
-ghost use Rattle.hose_offline.specs.steps.Parts.{ComesTo};
 ghost use Rattle.hose_offline.specs.RunOutcome.{RunLeaves, RunOutcome};
 ghost use Rattle.hose_offline.specs.Talking.{IsAskedBy};
+ghost use Rattle.hose_offline.specs.Why.{IsTold, why_status};
 ghost use Rattle.hose_offline.specs.steps.Talking.{AnswersLine, SaysOneThing, SaysRead};
 ghost use Rattle.hose_offline.specs.steps.TalkingOnDisk.{TalksInCabinet};
 
 use crate::fault::{Fault, done_of_talk};
 use crate::input_line::read_line;
 use crate::journal::{close_journal, first_fault, open_journal};
-use crate::outside::Outside;
 use crate::why::{Why, end};
 use hose_book::{Book, Books, Plain};
 use hose_core::Core;
@@ -53,44 +51,17 @@ pub fn run<P: Prices, I: Source, O: Sink, C: Cabinet>(
     alloc: Global,
     costs: &P,
     journal: Option<&str>,
-    outside: &mut Outside<'_, I, O, C>,
-) -> Why
-    requires { (C.frame outside.old.cabinet.now).out ≡ None }
-    ensures { ComesTo (tellings I.Source O.Sink C.Cabinet C.Disk.Disk) (λ tells. RunOutcome tells
-        (P.prices costs.now) (option_map (λ name. name.now) journal.entry)) outside.old outside.new
-        result }
-{
-    let done = run_input(
-        alloc,
-        costs,
-        journal,
-        outside.input,
-        outside.output,
-        outside.cabinet,
-    );
-    end(done, outside.output)
-}
-
-// What a run comes to, before its last line.
-fn run_input<P: Prices, I: Source, O: Sink, C: Cabinet>(
-    alloc: Global,
-    costs: &P,
-    journal: Option<&str>,
     input: &mut I,
     output: &mut O,
     cabinet: &mut C,
-) -> Result<(), Fault>
+) -> Why
     requires { (C.frame cabinet.old).out ≡ None }
-    ensures leaves { RunLeaves (tellings I.Source O.Sink C.Cabinet C.Disk.Disk)
+    ensures outcome { RunOutcome (tellings I.Source O.Sink C.Cabinet C.Disk.Disk)
         (P.prices costs.now) (option_map (λ name. name.now) journal.entry)
-        (parts input.old output.old cabinet.old) (parts input.new output.new cabinet.new) result }
-    ensures takes { (bytes : List ℕ) × Gives (I.content input.old) (I.content input.new) bytes
-        × (length bytes ≤ INPUT_LIMIT + 1)
-        × ((result ≡ Err Fault.TooLong) ↔ (INPUT_LIMIT < length bytes)) }
-    ensures in_memory { journal.entry ≡ None → cabinet.new ≡ cabinet.old }
-    ensures others { (name : List ℕ) → option_map (λ name. name.now) journal.entry ≡ Some name
-        → OthersStay C.Cabinet name cabinet.old cabinet.new }
-    ensures absent { (C.frame cabinet.new).absent ≡ (C.frame cabinet.old).absent }
+        (parts input.old output.old cabinet.old) (parts input.new output.new cabinet.new)
+        (why_status result) }
+    ensures told { IsTold O.Sink output.new result }
+    ensures not_words { why_status result ≢ 1 }
     ensures back { (C.frame cabinet.new).out ≡ None }
     ensures stay { AllStay (tellings I.Source O.Sink C.Cabinet C.Disk.Disk)
         (parts input.old output.old cabinet.old) (parts input.new output.new cabinet.new) }
@@ -99,7 +70,7 @@ fn run_input<P: Prices, I: Source, O: Sink, C: Cabinet>(
     let done = run_lines(alloc, costs, journal, &mut lines, output, cabinet);
     // What is known of the input again comes from here.
     let _ = lines.into_source();
-    done
+    end(done, output)
 }
 
 // Runs by a reader that has taken nothing. Where the book is in memory, the rows of all nodes are

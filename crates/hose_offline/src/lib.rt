@@ -8,8 +8,8 @@
 //! it reads topologies, opens journals and tells books as they do:
 //!
 //! ```
+//! let why = run(alloc, &OwnCosts, Some("orders.journal"), input, output, cabinet);
 //! let outside = &mut Outside::of(input, output, cabinet);
-//! let why = run(alloc, &OwnCosts, Some("orders.journal"), outside);
 //! let names = Names { topology: "star.txt", journal: "orders.journal" };
 //! let why = audit(alloc, &tariff, names, outside);
 //! let sizes = Sizes { seed: 7, nodes: 200, links: 600, hoses: 300 };

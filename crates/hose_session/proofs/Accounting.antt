@@ -1,5 +1,5 @@
 -- Connections that account for a pass.
-use Rattle.std.proofs.Common.{◌≡◌, ◌↔◌, ◌⊎◌, inl, inr, ℕ, ◌+◌, ◌<◌, ◌≤◌, List, [], ◌∷◌, ◌++◌, length, Option, Some, refl, sym, subst, arith, append-nil, append_assoc}
+use Rattle.std.proofs.Common.{◌≡◌, ◌↔◌, ◌⊎◌, inl, inr, ℕ, ◌+◌, ◌<◌, ◌≤◌, List, [], ◌∷◌, ◌++◌, length, IfSome, IsSomeAnd, None, Option, Some, refl, sym, subst, arith, append-nil, append_assoc}
 use mathlib.Core.List.{IsPrefix}
 use Rattle.hose_io.specs.Connections.{Connection}
 use Rattle.hose_io.specs.Frame.{Frame, Rose}
@@ -19,7 +19,9 @@ use Rattle.hose_session.specs.steps.Accounts.{ComeTo}
 use Rattle.hose_session.specs.Session.{IsSession}
 use Rattle.hose_session.specs.steps.Session.{ServesSession}
 use Rattle.hose_greeting.specs.SessionLines.{SaysAfter}
-use Rattle.hose_talk.specs.Talk.{Telling, TellsOf}
+use Rattle.hose_talk.specs.Talk.{IsCutNear, IsLeftNear, Telling, TellsOf}
+use Rattle.hose_words.specs.Asking.{IsWithinLines}
+use Rattle.hose_words.proofs.OnReading.{WhereTold-map}
 use Rattle.hose_law.specs.Transcript.{SessionLine}
 use Rattle.hose_session.specs.declared.ending.SessionEnd.{SessionEnd}
 use Rattle.hose_session.specs.declared.ending.SessionEnd.TheVariants as session_end
@@ -29,6 +31,10 @@ use Rattle.hose_session.proofs.Completing.{session_moved}
 abbrev says_of : Network → Connection → Telling SessionLine
 says_of network connection = TellsOf (SaysAfter network) (Some (record { taken = []; left = connection.taken ++ connection.left })) (Some (record { taken = connection.taken; left = connection.left }))
 
+-- how its input stands where the output fails
+abbrev pub cut_of : Connection → List ℕ → List ℕ → List ℕ → Type 0
+cut_of connection text rest left = IsLeftNear text rest left × IsWithinLines text rest connection.asked
+
 -- ---- a longer history
 
 module _ (network : Network) (history longer : List Entry) (prefix : IsPrefix history longer) where
@@ -37,7 +43,7 @@ module _ (network : Network) (history longer : List Entry) (prefix : IsPrefix hi
     from = is.from;
     later = is.later;
     end = is.end;
-    session = session_moved network history longer prefix is.from (says_of network connection) (says_of network connection) (λ stops lines says. says) (Some []) (Some connection.given) _ _ _ _ (λ rose. rose) (λ rose. rose) is.end replies own
+    session = session_moved network history longer prefix is.from (says_of network connection) (says_of network connection) (λ stops lines says. says) (cut_of connection) (cut_of connection) (λ lines says. says) (Some []) (Some connection.given) _ _ _ _ (λ rose. rose) (λ rose. rose) is.end replies own
         is.session;
     too_long = is.too_long;
   }
@@ -101,11 +107,20 @@ one_accounts source sink connections connection old new input input' output outp
     ended : Option Stream
     ended = Some (record { taken = connection.taken; left = connection.left })
 
-    session : IsSession network new.seen (length old.seen) (TellsOf (SaysAfter network) (source.content input) (source.content input')) (Some []) (Some connection.given) (0 < connection.reading) (0 < connection.writing) end serves.replies serves.own
-    session = session_moved network new.seen new.seen (prefix_same new.seen) (length old.seen) (TellsOf (SaysAfter network) (source.content input) (source.content input')) (TellsOf (SaysAfter network) (source.content input) (source.content input')) (λ stops lines says. says) (Some []) (Some connection.given) _ _ _ _
+    -- what the input had left when it was asked last is the connection's
+    asked_then : (text rest : List ℕ) (was : Option Stream) → IfSome was (λ stream. connection.asked ≡ stream.left) → IsSomeAnd was (λ stream. IsWithinLines text rest stream.left) → IsWithinLines text rest connection.asked
+    asked_then text rest None same within = absurd within
+    asked_then text rest (Some stream) same within = subst (IsWithinLines text rest) (sym same) within
+
+    cuts : (lines : List SessionLine) → TellsOf (SaysAfter network) (source.content input) (source.content input') (IsCutNear source input') lines → TellsOf (SaysAfter network) (source.content input) (source.content input') (cut_of connection) lines
+    cuts lines said = WhereTold-map (source.content input) (source.content input') _ _ said
+        (λ text left told. (told.0, told.1, (told.2.0, asked_then text told.0 (source.content told.2.1.0) (is.asked told.2.1.0 told.2.1.1) told.2.1.2)))
+
+    session : IsSession network new.seen (length old.seen) (TellsOf (SaysAfter network) (source.content input) (source.content input')) (cut_of connection) (Some []) (Some connection.given) (0 < connection.reading) (0 < connection.writing) end serves.replies serves.own
+    session = session_moved network new.seen new.seen (prefix_same new.seen) (length old.seen) (TellsOf (SaysAfter network) (source.content input) (source.content input')) (TellsOf (SaysAfter network) (source.content input) (source.content input')) (λ stops lines says. says) (IsCutNear source input') (cut_of connection) cuts (Some []) (Some connection.given) _ _ _ _
         (failed_once (source.frame input) (source.frame input') connection.reading is.unread is.reading) (failed_once (sink.frame output) (sink.frame output') connection.writing is.unwritten is.writing) end serves.replies serves.own
-        (subst (λ (o : Option (List ℕ)). IsSession network new.seen (length old.seen) (TellsOf (SaysAfter network) (source.content input) (source.content input')) o (Some connection.given) (Rose (source.frame input) (source.frame input')) (Rose (sink.frame output) (sink.frame output')) end serves.replies serves.own) is.empty
-        (subst (λ (o : Option (List ℕ)). IsSession network new.seen (length old.seen) (TellsOf (SaysAfter network) (source.content input) (source.content input')) (sink.content output) o (Rose (source.frame input) (source.frame input')) (Rose (sink.frame output) (sink.frame output')) end serves.replies serves.own) is.given serves.session))
+        (subst (λ (o : Option (List ℕ)). IsSession network new.seen (length old.seen) (TellsOf (SaysAfter network) (source.content input) (source.content input')) (IsCutNear source input') o (Some connection.given) (Rose (source.frame input) (source.frame input')) (Rose (sink.frame output) (sink.frame output')) end serves.replies serves.own) is.empty
+        (subst (λ (o : Option (List ℕ)). IsSession network new.seen (length old.seen) (TellsOf (SaysAfter network) (source.content input) (source.content input')) (IsCutNear source input') (sink.content output) o (Rose (source.frame input) (source.frame input')) (Rose (sink.frame output) (sink.frame output')) end serves.replies serves.own) is.given serves.session))
 
     given : Gives fresh ended bytes
     given = subst (λ (s : Option Stream). Gives fresh s bytes) is.served (subst (λ (s : Option Stream). Gives s (source.content input') bytes) is.fresh gives)
@@ -115,8 +130,8 @@ one_accounts source sink connections connection old new input input' output outp
       from = length old.seen;
       later = prefix_length old.origin.since old.seen began;
       end = end;
-      session = subst (λ (s : Option Stream). IsSession network new.seen (length old.seen) (TellsOf (SaysAfter network) fresh s) (Some []) (Some connection.given) (0 < connection.reading) (0 < connection.writing) end serves.replies serves.own) is.served
-          (subst (λ (s : Option Stream). IsSession network new.seen (length old.seen) (TellsOf (SaysAfter network) s (source.content input')) (Some []) (Some connection.given) (0 < connection.reading) (0 < connection.writing) end serves.replies serves.own) is.fresh session);
+      session = subst (λ (s : Option Stream). IsSession network new.seen (length old.seen) (TellsOf (SaysAfter network) fresh s) (cut_of connection) (Some []) (Some connection.given) (0 < connection.reading) (0 < connection.writing) end serves.replies serves.own) is.served
+          (subst (λ (s : Option Stream). IsSession network new.seen (length old.seen) (TellsOf (SaysAfter network) s (source.content input')) (cut_of connection) (Some []) (Some connection.given) (0 < connection.reading) (0 < connection.writing) end serves.replies serves.own) is.fresh session);
       too_long = subst (λ (b : List ℕ). (end ≡ session_end.TooLong) ↔ (INPUT_LIMIT < length b)) (sym given.taken) too_long;
     }
 

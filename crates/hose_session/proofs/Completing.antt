@@ -26,27 +26,27 @@ use Rattle.hose_session.proofs.Conversing.{BeginSo, IsGreets, begins_so}
 -- ---- in other words, and at a longer history
 
 module _ (network : Network) (history longer : List Entry) (prefix : IsPrefix history longer) (from : ℕ) (tells other : Telling SessionLine) (moved : (stops : List ℕ → List ℕ → List ℕ → Type 0) (lines : List SessionLine) → tells stops lines → other stops lines) where
-  answers_moved : (stops : List ℕ → List ℕ → List ℕ → Type 0) (ends : Stage → Type 0) (puts : List Reply → Type 0) (replies : List Reply) (own : List ℕ) → AnswersUpTo network history from tells stops ends puts replies own
-      → AnswersUpTo network longer from other stops ends puts replies own
-  answers_moved stops ends puts replies own answers = record {
+  answers_moved : (stops its : List ℕ → List ℕ → List ℕ → Type 0) → ((lines : List SessionLine) → tells stops lines → other its lines) → (ends : Stage → Type 0) (puts : List Reply → Type 0) (replies : List Reply) (own : List ℕ) → AnswersUpTo network history from tells stops ends puts replies own
+      → AnswersUpTo network longer from other its ends puts replies own
+  answers_moved stops its says ends puts replies own answers = record {
     lines = answers.lines;
     stage = answers.stage;
     last = answers.last;
-    said = moved stops answers.lines answers.said;
+    said = says answers.lines answers.said;
     transcript = transcript_longer network 0 history longer prefix from answers.lines replies (session_state answers.stage answers.last own) answers.transcript;
     ended = answers.ended;
     out = answers.out;
   }
 
-  pub session_moved : (before after : Option (List ℕ)) (R R' W W' : Type 0) → (R → R') → (W → W') → (end : SessionEnd) (replies : List Reply) (own : List ℕ) → IsSession network history from tells before after R W end replies own
-      → IsSession network longer from other before after R' W' end replies own
-  session_moved before after R R' W W' read wrote session_end.End replies own is = answers_moved _ _ _ replies own is
-  session_moved before after R R' W W' read wrote session_end.Bye replies own is = answers_moved _ _ _ replies own is
-  session_moved before after R R' W W' read wrote session_end.NoHello replies own (inl is) = inl (answers_moved _ _ _ replies own is)
-  session_moved before after R R' W W' read wrote session_end.NoHello replies own (inr is) = inr (answers_moved _ _ _ replies own is)
-  session_moved before after R R' W W' read wrote session_end.Read replies own is = (answers_moved _ _ _ replies own is.0, read is.1)
-  session_moved before after R R' W W' read wrote session_end.TooLong replies own is = answers_moved _ _ _ replies own is
-  session_moved before after R R' W W' read wrote session_end.Write replies own is = (answers_moved _ _ _ replies own is.0, wrote is.1)
+  pub session_moved : (cut its : List ℕ → List ℕ → List ℕ → Type 0) → ((lines : List SessionLine) → tells cut lines → other its lines) → (before after : Option (List ℕ)) (R R' W W' : Type 0) → (R → R') → (W → W') → (end : SessionEnd) (replies : List Reply) (own : List ℕ) → IsSession network history from tells cut before after R W end replies own
+      → IsSession network longer from other its before after R' W' end replies own
+  session_moved cut its cuts before after R R' W W' read wrote session_end.End replies own is = answers_moved _ _ (moved _) _ _ replies own is
+  session_moved cut its cuts before after R R' W W' read wrote session_end.Bye replies own is = answers_moved _ _ (moved _) _ _ replies own is
+  session_moved cut its cuts before after R R' W W' read wrote session_end.NoHello replies own (inl is) = inl (answers_moved _ _ (moved _) _ _ replies own is)
+  session_moved cut its cuts before after R R' W W' read wrote session_end.NoHello replies own (inr is) = inr (answers_moved _ _ (moved _) _ _ replies own is)
+  session_moved cut its cuts before after R R' W W' read wrote session_end.Read replies own is = (answers_moved _ _ (moved _) _ _ replies own is.0, read is.1)
+  session_moved cut its cuts before after R R' W W' read wrote session_end.TooLong replies own is = answers_moved _ _ (moved _) _ _ replies own is
+  session_moved cut its cuts before after R R' W W' read wrote session_end.Write replies own is = (answers_moved _ _ cuts _ _ replies own is.0, wrote is.1)
 
 -- ---- a greeting is not refused
 
@@ -78,16 +78,16 @@ greeting_alone bytes name (IsBad word) greets says = absurd (whole (subst (λ (w
     whole (inr (none, at)) = none refl
 
 -- a session whose input begins with a greeting is served to its end, where nothing fails
-pub session_complete : (network : Network) (was now : Option Stream) (bytes : List ℕ) (before after : Option (List ℕ)) (R W : Type 0) (old new : Known) (end : SessionEnd) → Gives was now bytes → (end ≡ session_end.TooLong → INPUT_LIMIT < length bytes)
-    → ServesAlong network (TellsOf (SaysAfter network) was now) before after R W old new end → IsGreeted was → ¬ R → ¬ W → (end ≡ session_end.End) ⊎ (end ≡ session_end.Bye)
-session_complete network None now bytes before after R W old new end gives too_long serves greeted no_read no_write = absurd greeted
-session_complete network (Some was) None bytes before after R W old new end gives too_long serves greeted no_read no_write = absurd gives
-session_complete network (Some was) (Some now) bytes before after R W old new end gives too_long serves greeted no_read no_write = at end too_long serves.session
+pub session_complete : (network : Network) (was now : Option Stream) (cut : List ℕ → List ℕ → List ℕ → Type 0) (bytes : List ℕ) (before after : Option (List ℕ)) (R W : Type 0) (old new : Known) (end : SessionEnd) → Gives was now bytes → (end ≡ session_end.TooLong → INPUT_LIMIT < length bytes)
+    → ServesAlong network (TellsOf (SaysAfter network) was now) cut before after R W old new end → IsGreeted was → ¬ R → ¬ W → (end ≡ session_end.End) ⊎ (end ≡ session_end.Bye)
+session_complete network None now cut bytes before after R W old new end gives too_long serves greeted no_read no_write = absurd greeted
+session_complete network (Some was) None cut bytes before after R W old new end gives too_long serves greeted no_read no_write = absurd gives
+session_complete network (Some was) (Some now) cut bytes before after R W old new end gives too_long serves greeted no_read no_write = at end too_long serves.session
   where
     text : List ℕ
     text = was.left
 
-    at : (end : SessionEnd) → (end ≡ session_end.TooLong → INPUT_LIMIT < length bytes) → IsSession network new.seen (length old.seen) (TellsOf (SaysAfter network) (Some was) (Some now)) before after R W end serves.replies serves.own
+    at : (end : SessionEnd) → (end ≡ session_end.TooLong → INPUT_LIMIT < length bytes) → IsSession network new.seen (length old.seen) (TellsOf (SaysAfter network) (Some was) (Some now)) cut before after R W end serves.replies serves.own
         → (end ≡ session_end.End) ⊎ (end ≡ session_end.Bye)
     at session_end.End too_long is = inl refl
     at session_end.Bye too_long is = inr refl

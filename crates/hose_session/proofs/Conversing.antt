@@ -6,7 +6,7 @@ use Rattle.hose_io.specs.Frame.{Rose}
 use Rattle.hose_io.specs.declared.source.Source.{Ghosts as SourceGhosts}
 use Rattle.hose_io.specs.declared.sink.Sink.{Ghosts as SinkGhosts}
 use Rattle.hose_words.specs.declared.lines.Line.{Line}
-use Rattle.hose_talk.specs.Talk.{LastCut, TalksTo, TalksUpTo, TellsOf, Terms, talk}
+use Rattle.hose_talk.specs.Talk.{IsCutNear, LastCut, TalksTo, TalksUpTo, TellsOf, Terms, talk}
 use Rattle.hose_talk.specs.declared.talking.TalkEnd.{TalkEnd}
 use Rattle.hose_talk.specs.declared.talking.TalkEnd.TheVariants as talk_end
 use Rattle.hose_talk.specs.declared.talking.TalkFault.{TalkFault}
@@ -141,6 +141,19 @@ module _ (network : Network) where
         },
       )
 
+-- a line was answered of a session of a network, which stays as it was
+module _ (network now : Network) (same : now ≡ network) (old new : Progress) (line : Line) (reply : Reply) (answers : (stage : Stage) → IsAt network old stage → AnswersAt network old.pass new stage line reply) where
+  pub comes_then : (first : Known) (lines : List SessionLine) (replies : List Reply) → ComesAlong network first old lines replies
+      → (said : SessionLine) × ShownSays (SaysAfter network lines) line said × ComesAlong now first new (lines ++ said ∷ []) (replies ++ reply ∷ [])
+  comes_then first lines replies came =
+      let more = comes_on network first old new line reply lines replies came answers in
+      (more.0, more.1, subst (λ (n : Network). ComesAlong n first new (lines ++ more.0 ∷ []) (replies ++ reply ∷ [])) (sym same) more.2)
+
+  pub fits_then : (stage : Stage) → IsAt network old stage → (next : Stage) × IsAt now new next
+  fits_then stage at =
+      let one = answers stage at in
+      (one.next, subst (λ (n : Network). IsAt n new one.next) (sym same) one.at)
+
 -- ---- a talk that ended
 
 -- the talk of a session that is so far
@@ -149,6 +162,7 @@ module _ {S O : Type 0} (network : Network) (source : SourceGhosts S) (sink : Si
   abbrev terms : Terms SessionLine Progress Reply
   terms = record {
     tells = TellsOf (SaysAfter network) (source.content input) (source.content input');
+    cut = IsCutNear source input';
     comes = λ lines replies progress. ComesAlong network first progress lines replies;
     over = λ progress. over_at progress.phase;
     text = λ reply. line_of (reply_text network reply);
@@ -166,7 +180,7 @@ module _ {S O : Type 0} (network : Network) (source : SourceGhosts S) (sink : Si
     up_to ends is outs out = record { lines = talks.lines; stage = talks.comes.stage; last = talks.comes.along.last; said = talks.said; transcript = talks.comes.along.transcript; ended = is; out = out }
 
     serves : (end : SessionEnd)
-        → IsSession network pass.seen (length first.seen) (TellsOf (SaysAfter network) (source.content input) (source.content input')) (sink.content output) (sink.content output') (Rose (source.frame input) (source.frame input')) (Rose (sink.frame output) (sink.frame output')) end talks.replies talks.comes.own → Serves end
+        → IsSession network pass.seen (length first.seen) (TellsOf (SaysAfter network) (source.content input) (source.content input')) (IsCutNear source input') (sink.content output) (sink.content output') (Rose (source.frame input) (source.frame input')) (Rose (sink.frame output) (sink.frame output')) end talks.replies talks.comes.own → Serves end
     serves end session = record { replies = talks.replies; own = talks.comes.own; session = session; entries = talks.comes.along.entries; same = talks.comes.along.same; owns = talks.comes.along.owns; disks = talks.comes.along.disks }
 
   serving : (customer : List ℕ) (stage : Stage) → IsPhaseAt network pass.seen (phase.Serving customer) quotes stage → IsServing stage
@@ -213,7 +227,7 @@ module _ {S O : Type 0} (network : Network) (source : SourceGhosts S) (sink : Si
 
   -- the terms of who held the talk
   abbrev terms_there : {A : Type 0} → (List SessionLine → List Reply → A → Type 0) → (A → Bool) → Network → Terms SessionLine A Reply
-  terms_there Comes over there = record { tells = TellsOf (SaysAfter there) (source.content input) (source.content input'); comes = Comes; over = over; text = λ reply. line_of (reply_text there reply) }
+  terms_there Comes over there = record { tells = TellsOf (SaysAfter there) (source.content input) (source.content input'); cut = IsCutNear source input'; comes = Comes; over = over; text = λ reply. line_of (reply_text there reply) }
 
   -- in the words of who held the talk, on the network that there was
   pub talks_there : {A : Type 0} (begun last : A) (Comes : List SessionLine → List Reply → A → Type 0) (over : A → Bool) (at : Phase) (there : Network) → there ≡ network

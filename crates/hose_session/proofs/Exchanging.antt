@@ -22,7 +22,7 @@ use Rattle.hose_shared.specs.steps.Providing.{Customer, Provides}
 use Rattle.hose_shared.specs.steps.Sharing.{HasSeenMore, IsSamePass}
 use Rattle.hose_turn.specs.Known.{Known}
 use Rattle.hose_session.specs.steps.Ending.{customer_of, over_at}
-use Rattle.hose_session.specs.steps.Exchanges.{AnswersAt, IsExchange, ServesOn}
+use Rattle.hose_session.specs.steps.Exchanges.{AnswersAt, IsAt, IsExchange, IsPhaseAt, Progress, ServesOn}
 use Rattle.hose_greeting.specs.steps.Shown.{ShownSays}
 use Rattle.hose_greeting.specs.SessionLines.{SaysFirst, SaysLater}
 use Rattle.hose_session.specs.declared.phase.Phase.{Phase}
@@ -161,3 +161,17 @@ serves_him (phase.Serving name) customer some = ap phase.Serving (same_name name
     same_name one other is = cc is
 serves_him phase.Refused customer some = absurd (cc some)
 serves_him phase.Left customer some = absurd (cc some)
+
+-- whoever serves a customer answers at each stage that the session may be at, if at that customer's
+pub of_served : (network : Network) (pass : Known) (was : Phase) (quotes : List (Option Quote)) (new : Progress) (line : Line) (reply : Reply) (name : List ℕ) → was ≡ phase.Serving name → ((held : Holding) → AreHeld network 0 pass.seen held quotes → AnswersAt network pass new (Serving name held) line reply)
+    → (stage : Stage) → IsAt network (record { pass = pass; phase = was; quotes = quotes }) stage → AnswersAt network pass new stage line reply
+of_served network pass was quotes new line reply name is answers stage at =
+    let here = subst (λ (p : Phase). IsPhaseAt network pass.seen p quotes stage) is at in
+    subst (λ (s : Stage). AnswersAt network pass new s line reply) (sym here.1) (answers here.0 here.2)
+
+-- and so does whoever greets, if while it waits
+pub of_greeted : (network : Network) (pass : Known) (was : Phase) (quotes : List (Option Quote)) (new : Progress) (line : Line) (reply : Reply) → was ≡ phase.Waiting → AnswersAt network pass new Waiting line reply
+    → (stage : Stage) → IsAt network (record { pass = pass; phase = was; quotes = quotes }) stage → AnswersAt network pass new stage line reply
+of_greeted network pass was quotes new line reply is answers stage at =
+    let here = subst (λ (p : Phase). IsPhaseAt network pass.seen p quotes stage) is at in
+    subst (λ (s : Stage). AnswersAt network pass new s line reply) (sym here.0) answers

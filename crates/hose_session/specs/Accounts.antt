@@ -1,13 +1,14 @@
 -- Connections that ended, and the pass along which they were served.
 use Rattle.std.specs.Prelude.{◌≡◌, ◌↔◌, ℕ, ◌+◌, ◌<◌, ◌≤◌, List, [], ◌∷◌, ◌++◌, length, Some}
 use Rattle.hose_io.specs.Connections.{Connection}
+use Rattle.hose_words.specs.Asking.{IsWithinLines}
 use Rattle.hose_words.specs.Limits.{input_limit}
 use Rattle.hose_graph.specs.Network.{Network}
 use Rattle.hose_graph.specs.declared.entry.Entry.{Entry}
 use Rattle.hose_graph.specs.declared.command.Reply.{Reply}
 use Rattle.hose_law.specs.Script.{disks_in}
 use Rattle.hose_turn.specs.Known.{Known}
-use Rattle.hose_talk.specs.Talk.{TellsOf}
+use Rattle.hose_talk.specs.Talk.{IsLeftNear, TellsOf}
 use Rattle.hose_session.specs.Session.{IsSession}
 use Rattle.hose_greeting.specs.SessionLines.{SaysAfter}
 use Rattle.hose_session.specs.declared.ending.SessionEnd.{SessionEnd}
@@ -23,6 +24,7 @@ pub record IsServedAlong (network : Network) (history : List Entry) (since : ℕ
   pub session : IsSession network history from (TellsOf (SaysAfter network)
       (Some (record { taken = []; left = connection.taken ++ connection.left }))
       (Some (record { taken = connection.taken; left = connection.left })))
+      (λ text rest left. IsLeftNear text rest left × IsWithinLines text rest connection.asked)
       (Some []) (Some connection.given) (0 < connection.reading) (0 < connection.writing) end
       replies own
   pub too_long : (end ≡ TooLong) ↔ (input_limit < length connection.taken)

@@ -54,7 +54,8 @@ pub record AnswersUpTo (network : Network) (history : List Entry) (from : ℕ)
   pub out : puts replies
 
 module _ (network : Network) (history : List Entry) (from : ℕ) (tells : Telling SessionLine)
-    (before after : Option (List ℕ)) (ReadFails WriteFails : Type 0) where
+    (cut : List ℕ → List ℕ → List ℕ → Type 0) (before after : Option (List ℕ))
+    (ReadFails WriteFails : Type 0) where
   -- all replies are out
   abbrev pub AllRepliesOut : List Reply → Type 0
   AllRepliesOut replies = Grows before after (texts_of network replies)
@@ -62,8 +63,8 @@ module _ (network : Network) (history : List Entry) (from : ℕ) (tells : Tellin
   -- A session along a history from a place on ended so, with these replies and these places of its
   -- own entries. All lines were answered that came up to the end of the input; or up to the first
   -- `bye`; or up to a fault of the input, but for a part of a line; or the first line, if there is
-  -- one, is no greeting. Where the output failed, some first lines were answered, and the last
-  -- reply is not out whole.
+  -- one, is no greeting. Where the output failed, some first lines were answered, as far as `cut`
+  -- says, and the last reply is not out whole.
   abbrev pub IsSession : SessionEnd → List Reply → List ℕ → Type 0
   IsSession session_end.End =
       AnswersUpTo network history from tells IsAllTaken IsServing AllRepliesOut
@@ -79,5 +80,5 @@ module _ (network : Network) (history : List Entry) (from : ℕ) (tells : Tellin
       AnswersUpTo network history from tells (StopsAfterLines line_fault.TooLong) MayGoOn
       AllRepliesOut
   IsSession session_end.Write = λ replies own.
-      AnswersUpTo network history from tells IsLeftNear (λ stage. ⊤)
+      AnswersUpTo network history from tells cut (λ stage. ⊤)
       (CutsLast network before after) replies own × WriteFails

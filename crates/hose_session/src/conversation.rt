@@ -1,13 +1,12 @@
 // A session while its lines are answered.
-ghost use Rattle.std.specs.Prelude.{◌≡◌, false};
+ghost use Rattle.std.specs.Prelude.{◌≡◌};
 ghost use Rattle.hose_graph.specs.steps.Naming.{NamesPlaces};
 ghost use Rattle.hose_law.specs.Quotes.{Holding, none_held};
-ghost use Rattle.hose_law.specs.Transcript.{Stage};
 ghost use Rattle.hose_law.specs.Transcript.Stage.{Serving, Waiting};
 ghost use Rattle.hose_core.specs.steps.Holding.{AreHeld};
 ghost use Rattle.hose_shared.specs.steps.Sharing.{IsPassOf};
-ghost use Rattle.hose_session.specs.steps.Ending.{end_after, over_at};
-ghost use Rattle.hose_session.specs.steps.Exchanges.{AnswersAt, IsAt};
+ghost use Rattle.hose_session.specs.steps.Ending.{end_after};
+ghost use Rattle.hose_session.specs.steps.Exchanges.{AnswersAt};
 ghost use Rattle.hose_session.specs.declared.phase.Phase.TheVariants as phase;
 
 use crate::ending::SessionEnd;
@@ -43,34 +42,6 @@ impl<'a, W: Wait, D: Disk, B: Begun<D>, G: Gate, R: RowMaker> Conversation<'a, W
     {
         let end = self.phase.end_after(ended);
         (end, self.seat.pass)
-    }
-
-    // The reply to a line.
-    fn reply_to(&mut self, line: Line<'_>) -> Reply
-        requires of { IsPassOf self.old.seat.shared.now self.old.seat.pass }
-        requires at { (stage : Stage) × IsAt self.old.seat.shared.now.network (record {
-          pass = self.old.seat.pass;
-          phase = self.old.phase;
-          quotes = self.old.seat.quotes;
-        }) stage }
-        requires goes_on { over_at self.old.phase ≡ false }
-        ensures answers { (stage : Stage) → IsAt self.old.seat.shared.now.network (record {
-          pass = self.old.seat.pass;
-          phase = self.old.phase;
-          quotes = self.old.seat.quotes;
-        }) stage → AnswersAt self.old.seat.shared.now.network self.old.seat.pass (record {
-          pass = self.new.seat.pass;
-          phase = self.new.phase;
-          quotes = self.new.seat.quotes;
-        }) stage line.entry result }
-        ensures of { IsPassOf self.new.seat.shared.now self.new.seat.pass }
-        ensures names { NamesPlaces self.old.seat.shared.now.network result }
-        ensures shared { self.new.seat.shared ≡ self.old.seat.shared }
-    {
-        match self.phase.customer() {
-            Some(name) => self.serve(&name, line),
-            None => self.greet(line),
-        }
     }
 
     // The reply to the first line.
@@ -171,7 +142,10 @@ impl<'a, W: Wait, D: Disk, B: Begun<D>, G: Gate, R: RowMaker> Answers
     ghost over = { λ talk. over_at talk.phase };
 
     fn answer(&mut self, line: Line<'_>) -> Reply {
-        self.reply_to(line)
+        match self.phase.customer() {
+            Some(name) => self.serve(&name, line),
+            None => self.greet(line),
+        }
     }
 
     fn put<O: Sink>(&self, output: &mut O, reply: &Reply) -> Result<(), Failed> {
@@ -183,6 +157,11 @@ impl<'a, W: Wait, D: Disk, B: Begun<D>, G: Gate, R: RowMaker> Answers
     }
 
     fn is_over(&self) -> bool {
-        self.phase.is_over()
+        match self.phase {
+            Phase::Waiting => false,
+            Phase::Serving(_) => false,
+            Phase::Refused => true,
+            Phase::Left => true,
+        }
     }
 }

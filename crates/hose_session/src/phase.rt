@@ -1,6 +1,6 @@
 // How far a session is.
 ghost use Rattle.std.specs.Prelude.{◌≡◌};
-ghost use Rattle.hose_session.specs.steps.Ending.{customer_of, end_after, over_at};
+ghost use Rattle.hose_session.specs.steps.Ending.{customer_of, end_after};
 
 use crate::ending::SessionEnd;
 use hose_graph::Name;
@@ -29,18 +29,6 @@ impl Phase {
             Phase::Serving(name) => Some(*name),
             Phase::Refused => None,
             Phase::Left => None,
-        }
-    }
-
-    /// No line is answered any more.
-    pub fn is_over(&self) -> bool
-        ensures { result ≡ over_at self.now }
-    {
-        match self {
-            Phase::Waiting => false,
-            Phase::Serving(_) => false,
-            Phase::Refused => true,
-            Phase::Left => true,
         }
     }
 

@@ -68,8 +68,9 @@ impl<'a, W: Wait, D: Disk, B: Begun<D>, G: Gate> Provider for Seat<'a, W, D, B, 
         rows: &mut R,
     ) -> Reply {
         let (caller, pass) = caller_with_pass(self.context, self.session, &mut self.pass, customer);
-        let answered = self.shared.admit_bound(&caller, pass, asked, rows);
-        reply_with_pass_back(&mut self.pass, answered)
+        let (reply, pass) = self.shared.admit_bound(&caller, pass, asked, rows);
+        self.pass = pass;
+        reply
     }
 
     fn quote<R: RowMaker>(
@@ -80,46 +81,53 @@ impl<'a, W: Wait, D: Disk, B: Begun<D>, G: Gate> Provider for Seat<'a, W, D, B, 
         rows: &mut R,
     ) -> Reply {
         let (caller, pass) = caller_with_pass(self.context, self.session, &mut self.pass, customer);
-        let answered = self
+        let (reply, pass) = self
             .shared
             .quote(&caller, pass, &mut self.quotes, hose, rows);
-        reply_with_pass_back(&mut self.pass, answered)
+        self.pass = pass;
+        reply
     }
 
     fn take(&mut self, _alloc: Global, customer: &Name, number: u64) -> Reply {
         let (caller, pass) = caller_with_pass(self.context, self.session, &mut self.pass, customer);
-        let answered = self.shared.take(&caller, pass, &mut self.quotes, number);
-        reply_with_pass_back(&mut self.pass, answered)
+        let (reply, pass) = self.shared.take(&caller, pass, &mut self.quotes, number);
+        self.pass = pass;
+        reply
     }
 
     fn release(&mut self, _alloc: Global, customer: &Name, id: u64) -> Reply {
         let (caller, pass) = caller_with_pass(self.context, self.session, &mut self.pass, customer);
-        let answered = self.shared.release(&caller, pass, id);
-        reply_with_pass_back(&mut self.pass, answered)
+        let (reply, pass) = self.shared.release(&caller, pass, id);
+        self.pass = pass;
+        reply
     }
 
     fn show(&mut self, _alloc: Global, customer: &Name, id: u64) -> Reply {
         let (caller, pass) = caller_with_pass(self.context, self.session, &mut self.pass, customer);
-        let answered = self.shared.show(&caller, pass, id);
-        reply_with_pass_back(&mut self.pass, answered)
+        let (reply, pass) = self.shared.show(&caller, pass, id);
+        self.pass = pass;
+        reply
     }
 
     fn vpns(&mut self, _alloc: Global, customer: &Name) -> Reply {
         let (caller, pass) = caller_with_pass(self.context, self.session, &mut self.pass, customer);
-        let answered = self.shared.vpns(&caller, pass);
-        reply_with_pass_back(&mut self.pass, answered)
+        let (reply, pass) = self.shared.vpns(&caller, pass);
+        self.pass = pass;
+        reply
     }
 
     fn link(&mut self, _alloc: Global, customer: &Name, link: u32) -> Reply {
         let (caller, pass) = caller_with_pass(self.context, self.session, &mut self.pass, customer);
-        let answered = self.shared.link(&caller, pass, link);
-        reply_with_pass_back(&mut self.pass, answered)
+        let (reply, pass) = self.shared.link(&caller, pass, link);
+        self.pass = pass;
+        reply
     }
 
     fn operate(&mut self, _alloc: Global, customer: &Name, link: u32, down: bool) -> Reply {
         let (caller, pass) = caller_with_pass(self.context, self.session, &mut self.pass, customer);
-        let answered = self.shared.operate(&caller, pass, link, down);
-        reply_with_pass_back(&mut self.pass, answered)
+        let (reply, pass) = self.shared.operate(&caller, pass, link, down);
+        self.pass = pass;
+        reply
     }
 }
 
@@ -140,14 +148,4 @@ fn caller_with_pass<'a, W, G>(
         customer,
     };
     (caller, pass)
-}
-
-// The reply that a command came to, whose pass is the seat's again.
-fn reply_with_pass_back(at_hand: &mut Pass, answered: (Reply, Pass)) -> Reply
-    ensures reply { result ≡ answered.0 }
-    ensures pass { at_hand.new ≡ answered.1 }
-{
-    let (reply, pass) = answered;
-    *at_hand = pass;
-    reply
 }

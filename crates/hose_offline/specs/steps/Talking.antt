@@ -21,7 +21,7 @@ use Rattle.hose_offline.specs.Fault.{done_of_talk}
 use Rattle.hose_offline.specs.ScriptLine.{IsAsking, WantsMemory, script_grammar}
 use Rattle.hose_proto.specs.ReplyText.{line_of, reply_text}
 use Rattle.hose_talk.specs.Talk.{TalksTo, Terms}
-use Rattle.hose_talk.specs.steps.Talk.{KeepsFault}
+use Rattle.hose_talk.specs.steps.Talk.{IsCutByReader, KeepsFault}
 use Rattle.hose_talk.specs.declared.talking.TalkEnd.{TalkEnd}
 use Rattle.hose_talk.specs.declared.talking.TalkFault.{TalkFault}
 use Rattle.hose_book.specs.steps.Commit.{Commits, IsMet, unfailing}
@@ -115,6 +115,7 @@ module _ {S O K R : Type 0} (tells : TalkTellings S O K R) (network : Network)
   book_terms = record {
     tells = λ stops lines.
         SaysUpTo tells.source before.lines after.lines (λ _. SaysAlone network) lines stops;
+    cut = IsCutByReader tells.source before.lines after.lines;
     comes = λ lines replies _.
         AreAnswered tells.books network since before.by after.by lines replies;
     over = λ _. false;

@@ -1,5 +1,5 @@
 -- Connections that ended, and the pass along which they were served: steps of proofs.
-use Rattle.std.specs.Prelude.{◌≡◌, [], ◌++◌, Some}
+use Rattle.std.specs.Prelude.{◌≡◌, [], ◌++◌, IfSome, Some}
 use Rattle.hose_io.specs.Connections.{Connection}
 use Rattle.hose_io.specs.declared.source.Source.{Ghosts as SourceGhosts}
 use Rattle.hose_io.specs.declared.sink.Sink.{Ghosts as SinkGhosts}
@@ -17,6 +17,8 @@ pub record ComeTo {S O : Type 0} (source : SourceGhosts S) (sink : SinkGhosts O)
   })
   pub empty : sink.content output ≡ Some []
   pub given : sink.content output' ≡ Some connection.given
+  pub asked : (was : S) → source.went was input'
+      → IfSome (source.content was) (λ stream. connection.asked ≡ stream.left)
   pub unread : (source.frame input).faults ≡ 0
   pub reading : (source.frame input').faults ≡ connection.reading
   pub unwritten : (sink.frame output).faults ≡ 0

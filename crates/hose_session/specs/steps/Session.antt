@@ -7,7 +7,7 @@ use Rattle.hose_io.specs.declared.source.Source.{Ghosts as SourceGhosts}
 use Rattle.hose_io.specs.declared.sink.Sink.{Ghosts as SinkGhosts}
 use Rattle.hose_words.specs.Lines.{is_line_feed}
 use Rattle.hose_words.specs.Limits.{input_limit}
-use Rattle.hose_talk.specs.Talk.{Telling, TellsOf}
+use Rattle.hose_talk.specs.Talk.{IsCutNear, Telling, TellsOf}
 use Rattle.hose_graph.specs.Network.{Network}
 use Rattle.hose_graph.specs.declared.command.Reply.{Reply}
 use Rattle.hose_law.specs.Script.{disks_in}
@@ -27,12 +27,12 @@ use Rattle.hose_session.specs.Session.{IsSession}
 -- pass's own, and no others that it had not before; each was decided and costs least at its place.
 -- Failures of the disk were told no more often than the pass has met faults.
 pub record ServesAlong (network : Network) (tells : Telling SessionLine)
-    (before after : Option (List ℕ)) (ReadFails WriteFails : Type 0) (old new : Known)
+    (cut : List ℕ → List ℕ → List ℕ → Type 0) (before after : Option (List ℕ)) (ReadFails WriteFails : Type 0) (old new : Known)
     (end : SessionEnd) : Type 0 where
   pub replies : List Reply
   pub own : List ℕ
-  pub session : IsSession network new.seen (length old.seen) tells before after ReadFails WriteFails
-      end replies own
+  pub session : IsSession network new.seen (length old.seen) tells cut before after ReadFails
+      WriteFails end replies own
   pub entries : All (HasEntryAt network new.seen) own
   pub same : IsSamePass old new
   pub owns : new.own ≡ old.own ++ own
@@ -43,7 +43,7 @@ abbrev pub ServesSession : {S O : Type 0} → SourceGhosts S → SinkGhosts O �
     → Known → Known → SessionEnd → Type 0
 ServesSession source sink network input input' output output' =
     ServesAlong network (TellsOf (SaysAfter network) (source.content input) (source.content input'))
-    (sink.content output) (sink.content output') (Rose (source.frame input) (source.frame input'))
+    (IsCutNear source input') (sink.content output) (sink.content output') (Rose (source.frame input) (source.frame input'))
     (Rose (sink.frame output) (sink.frame output'))
 
 -- The input is told: its first line is a greeting, and it is not too long.

@@ -22,6 +22,6 @@ loop-one-preserved g c =
     let session = subst (λ (n : Network). ServesSession g.L.In.Source g.L.Out.Sink n one.input served.new.source one.output served.new.sink c.loop-one.pass served.result.1 served.result.0) (sym network) served.ensures.session in
     let more = works_more told _ _ (record { pass = served.result.1; parts = c.accept.new.share.parts; amount = c.accept.new.share.amount }) _ (g.L.Door.came_to c.done.result) c.requires.may.since works
     (same_on _ _ _ works.same served.ensures.session.same) (search rules) (search rules)
-    (λ told began connections account. rw c.done.ensures (one_more g.L.In.Source g.L.Out.Sink _ _ _ _ fresh.ends connections _ _ _ _ takes.0 (fresh.empty told) takes.1 served.ensures.session
+    (λ told began connections account. (one_more g.L.In.Source g.L.Out.Sink _ _ _ _ fresh.ends connections _ _ _ _ takes.0 _ c.done.ensures (fresh.empty told) takes.1 served.ensures.session
     (λ connection is. one_accounts g.L.In.Source g.L.Out.Sink connections connection _ _ _ _ _ _ _ takes.0 began account is session takes.1 takes.3))) in
     (rw (c.push_reserved.ensures.items, map-append g.L.Door.came_to c.loop-one.ended.items (c.done.result ∷ [])) more, search rules, search rules)

@@ -8,7 +8,7 @@ use Rattle.std.specs.Prelude.{option_map}
 use Rattle.hose_offline.specs.Parts.{parts, tellings}
 use Rattle.hose_offline.specs.RunOutcome.{RunLeaves}
 use Rattle.hose_topo.specs.steps.Reading.{KeepsLineFault}
-use Rattle.hose_offline.proofs.Leaving.{leaves_in_cabinet, leaves_in_memory}
+use Rattle.hose_offline.proofs.Leaving.{leaves_in_cabinet, leaves_in_memory, starved}
 use Rattle.hose_offline.proofs.Running.{leaves_topology, not_read, stopped_told, wrong_told}
 use Rattle.hose_words.proofs.Saying.{rose_now}
 use Rattle.hose_words.specs.declared.lines.TheConstants.{INPUT_LIMIT}
@@ -39,6 +39,24 @@ returns-in_err-told-clause-leaves g c =
     (λ failed. rose_now g.S.Source start last c.requires.fault (read.read (at ∙ ap Err failed)))
     (λ other. read.reads_on.unfailed (not_read topology start.fault last.fault c.requires.fault (subst (KeepsLineFault start.fault last.fault) at read.fault) other))
     (λ none. read.memory (at ∙ ap Err none)))
+
+-- there was no memory for the costs of the network
+pub returns-in_err-topology-clause-leaves : goal.returns-in_err-topology-clause-leaves
+returns-in_err-topology-clause-leaves g c =
+    let read = c.in_ok-told.ensures in
+    let gives = c.from_residual-in_err-topology in
+    let told = err_from_is_err_and gives.result gives.ensures.1 in
+    let is : gives.result ≡ Err Memory = told.1 ∙ ap Err told.2 in
+    rw is (starved (g.P.Prices.prices c.args.costs.now) g.S.Source g.O.Sink g.C.Cabinet g.C.Disk.Disk (option_map (λ name. name.now) c.args.journal) c.args.lines.now c.read.new.lines c.in_ok-told.told c.args.output.now c.args.cabinet.now c.requires.pending read.topology c.read.ensures.reads_on read.fault.1)
+
+-- there was none for a book in memory
+pub returns-in_err-book-in-None-clause-leaves : goal.returns-in_err-book-in-None-clause-leaves
+returns-in_err-book-in-None-clause-leaves g c =
+    let read = c.in_ok-told.ensures in
+    let gives = c.from_residual-in_err-book-in-None in
+    let told = err_from_is_err_and gives.result gives.ensures.1 in
+    let is : gives.result ≡ Err Memory = told.1 ∙ ap Err told.2 in
+    rw is (starved (g.P.Prices.prices c.args.costs.now) g.S.Source g.O.Sink g.C.Cabinet g.C.Disk.Disk (option_map (λ name. name.now) c.args.journal) c.args.lines.now c.read.new.lines c.in_ok-told.told c.args.output.now c.args.cabinet.now c.requires.pending read.topology c.read.ensures.reads_on read.fault.1)
 
 -- there was no memory for the rows of a book in memory
 pub returns-in_err-table-in-None-clause-leaves : goal.returns-in_err-table-in-None-clause-leaves

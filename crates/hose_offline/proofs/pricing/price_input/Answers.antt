@@ -1,7 +1,7 @@
 use Rattle.std.proofs.Common.{◌≡◌, ◌∙◌, ◌<◌, Err, List, false, length, map, ap, inr, refl}
 use Rattle.std.proofs.lemmas.Result.{err_from_is_err_and}
 use Rattle.hose_words.specs.declared.lines.TheConstants.{INPUT_LIMIT}
-use Rattle.hose_talk.specs.Talk.{TellsOf}
+use Rattle.hose_talk.specs.Talk.{IsCutNear, TellsOf}
 use Rattle.hose_talk.proofs.Retold.{talks_as}
 use Rattle.hose_proto.specs.ReplyText.{line_of}
 use Rattle.hose_offline.specs.Parts.{tellings}
@@ -33,7 +33,7 @@ returns-clause-prices g c =
     let names = map (λ tariff. tariff.name) c.args.tariffs.now in
     let before = c.args.outside.now in
     let tells = TellsOf (λ _. AnswersSheet c.in_ok-sheet.sheet) (g.I.Source.content before.input.now) (g.I.Source.content talk.new.source) in
-    let answers = talks_as g.I.Source g.O.Sink (record { tells = tells; comes = λ (said : List SheetAnswer) (answers : List SheetAnswer) _. said ≡ answers; over = λ _. false; text = λ answer. line_of (answer_text names answer) }) tells (λ (said : List SheetAnswer) (answers : List SheetAnswer) _. said ≡ answers) (λ _. false)
+    let answers = talks_as g.I.Source g.O.Sink (record { tells = tells; cut = IsCutNear g.I.Source talk.new.source; comes = λ (said : List SheetAnswer) (answers : List SheetAnswer) _. said ≡ answers; over = λ _. false; text = λ answer. line_of (answer_text names answer) }) tells (λ (said : List SheetAnswer) (answers : List SheetAnswer) _. said ≡ answers) (λ _. false)
     before.input.now talk.new.source before.output.now talk.new.output talk.new.answers talk.new.answers (tt {0}) (tt {0}) (λ stops lines says. says) (λ said answers same. same) refl talk.result (talk.ensures.talks (tt {0}) refl) in
     record {
       taken = takes.0;

@@ -55,5 +55,5 @@ returns-clause-writing g c =
 pub returns-clause-complete : goal.returns-clause-complete
 returns-clause-complete g c =
     let takes = returns-clause-takes g c in
-    session_complete c.args.session.shared.now.network (g.S.Source.content c.args.source.now) (g.S.Source.content c.hold_talk-ended.new.source) takes.0 (g.O.Sink.content c.args.sink.now) (g.O.Sink.content c.hold_talk-ended.new.output) _ _ c.args.pass c.into_end.result.1 c.into_end.result.0
+    session_complete c.args.session.shared.now.network (g.S.Source.content c.args.source.now) (g.S.Source.content c.hold_talk-ended.new.source) _ takes.0 (g.O.Sink.content c.args.sink.now) (g.O.Sink.content c.hold_talk-ended.new.output) _ _ c.args.pass c.into_end.result.1 c.into_end.result.0
     takes.1 takes.3.0 (returns-clause-session g c)

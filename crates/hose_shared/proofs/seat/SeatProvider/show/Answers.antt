@@ -3,10 +3,10 @@ use Rattle.hose_graph.specs.declared.command.Command.TheVariants.{Show}
 use Rattle.hose_shared.proofs.Provided.{can_again, in_hand, provides_keeping}
 use Rattle.hose_shared.proofs.seat.SeatProvider.show.Goals as goal
 
-pub show-answered-requires : goal.show-answered-requires
-show-answered-requires g c = (in_hand c.args.self.now.shared.now c.args.self.now.quotes c.requires c.caller_with_pass-pass.ensures.pass).0
+pub show-reply-requires : goal.show-reply-requires
+show-reply-requires g c = (in_hand c.args.self.now.shared.now c.args.self.now.quotes c.requires c.caller_with_pass-pass.ensures.pass).0
 
 pub returns : goal.returns
 returns g c =
-    let provides = provides_keeping (Show c.args.id) c.args.self.now.quotes (λ changes. changes) c.caller_with_pass-pass.ensures.customer c.caller_with_pass-pass.ensures.pass c.reply_with_pass_back.ensures.reply c.reply_with_pass_back.ensures.pass c.show-answered.ensures in
+    let provides = provides_keeping (Show c.args.id) c.args.self.now.quotes (λ changes. changes) c.caller_with_pass-pass.ensures.customer c.caller_with_pass-pass.ensures.pass refl refl c.show-reply.ensures in
     record { answers = (refl, refl, refl, provides); stays = refl; can = can_again c.args.self.now.shared.now _ _ _ _ _ c.requires provides }
