@@ -16,11 +16,12 @@ use Rattle.hose_words.proofs.Passing.{Passes, pass_branch, pass_finish, pass_lis
 use Rattle.hose_proto.proofs.EndWords.{end_words_closed}
 use Rattle.hose_proto.specs.steps.Choices.{IsWordTable}
 use Rattle.hose_proto.proofs.Words.{is_table}
-use Rattle.hosed.specs.ProgramWords.{ArePriceable, AreWords, ArgumentValues, Arguments, AsksFor, FirstWord, IsAvailable, IsChosen, IsFileName, IsFirstNamed, IsFirstWrong, IsOtherFile, IsTariffName, MayBeTold, MayChoose, MayTell, MayTellAll, Operand, OperandValue, OperandValues, Operands, OptionValues, Options, Task, argument_words, arguments_form, chosen_of, file_first, first_end, first_form, form_if, journal_and, last_file, live_option, live_words, moved_names, name_and, name_words, operand_word, operand_words, operands_form, option_words, program_form, program_word, tariff_option, tariff_words, verb_arguments, with_live, with_option, with_options, with_tariff, words_form}
-use Rattle.hosed.specs.ProgramWords.Arguments.{only_operands, options_and_file, tariff_and_any_file}
-use Rattle.hosed.specs.ProgramWords.Operand.{file_name, number_within, other_name}
-use Rattle.hosed.specs.ProgramWords.Operands.{end_words, next_word, no_more}
-use Rattle.hosed.specs.ProgramWords.Options.{by_tariff, by_tariff_and_live, without}
+use Rattle.hosed.specs.ProgramWords.{ArePriceable, AsksFor, IsAvailable, IsFileName, IsFirstNamed, chosen_of, first_end, live_option, program_word, tariff_option}
+use Rattle.hosed.specs.steps.Arguments.{AreArgumentWords, ArgumentValues, Arguments, FirstWord, IsChosen, IsFirstUnfit, IsOtherFile, IsTariffName, MayBeAsked, MayChoose, MayTell, MayTellAll, Operand, OperandValue, OperandValues, Operands, OptionValues, Options, ArgumentTask, argument_words, arguments_form, file_first, first_form, form_if, journal_operand, last_file, live_words, moved_names, name_operand, name_words, operand_word, operand_words, operands_form, option_words, program_form, tariff_words, verb_arguments, with_live, with_option, with_options, first_with_tariff, words_form}
+use Rattle.hosed.specs.steps.Arguments.Arguments.{only_operands, options_and_file, tariff_and_any_file}
+use Rattle.hosed.specs.steps.Arguments.Operand.{file_name, number_within, other_name}
+use Rattle.hosed.specs.steps.Arguments.Operands.{end_words, next_word, no_more}
+use Rattle.hosed.specs.steps.Arguments.Options.{by_tariff, by_tariff_and_live, without}
 use Rattle.hosed.specs.steps.ProgramWords.{at_word}
 use Rattle.hosed.specs.declared.verb.ProgramVerb.{ProgramVerb}
 use Rattle.hosed.specs.declared.verb.ProgramVerb.TheVariants as command
@@ -80,7 +81,7 @@ verb_back verb = refl
 verb_apart : (one other : ProgramVerb) → program_word one ≡ program_word other → one ≡ other
 verb_apart one other same = sym (verb_back one) ∙ (ap verb_at same ∙ verb_back other)
 
-verbs_apart : (names : List (List ℕ)) → AreApart (IsAvailable names) program_word
+pub verbs_apart : (names : List (List ℕ)) → AreApart (IsAvailable names) program_word
 verbs_apart names = record { apart = λ one other here there same. verb_apart one other same }
 
 -- the table has each command with its word
@@ -103,11 +104,11 @@ verb_there verb [] asks = absurd asks
 verb_there verb (word ∷ words) asks = record { cut = ap (λ (first : List ℕ). first ∷ words) asks; counted = refl }
 
 -- what is wrong of the words after it is so of all
-pub verb_wrong : (names : List (List ℕ)) (verb : ProgramVerb) (words : List (List ℕ)) (number : ℕ) → IsAvailable names verb → AsksFor verb words → IsWrong (program_form names verb) (at_word 2 words) number → IsFirstWrong names words number
+pub verb_wrong : (names : List (List ℕ)) (verb : ProgramVerb) (words : List (List ℕ)) (number : ℕ) → IsAvailable names verb → AsksFor verb words → IsWrong (program_form names verb) (at_word 2 words) number → IsFirstUnfit names words number
 verb_wrong names verb words number offered asks wrong = wrong_at_start words refl (wrong_chosen verb offered (verbs_apart names) (verb_there verb words asks) wrong)
 
 -- the first word is that of no command that there is
-pub no_verb : (names words : List (List ℕ)) → ((verb : ProgramVerb) → IsAvailable names verb → AsksFor verb words → ⊥) → IsFirstWrong names words 1
+pub no_verb : (names words : List (List ℕ)) → ((verb : ProgramVerb) → IsAvailable names verb → AsksFor verb words → ⊥) → IsFirstUnfit names words 1
 no_verb names words none = wrong_at_start {start = at_word 1 words} words refl (wrong_choice (record { none = never words none; at = refl }))
   where
     never : (all : List (List ℕ)) → ((verb : ProgramVerb) → IsAvailable names verb → AsksFor verb all → ⊥) → IsFirst (IsChoice (IsAvailable names) program_word) all → ⊥
@@ -120,7 +121,7 @@ one_verb one other [] asks asks' = absurd asks
 one_verb one other (word ∷ words) asks asks' = verb_apart one other (sym asks ∙ asks')
 
 -- there are no tariffs to price under, or too many
-pub not_offered : (names words : List (List ℕ)) → AsksFor command.Price words → (ArePriceable names → ⊥) → IsFirstWrong names words 1
+pub not_offered : (names words : List (List ℕ)) → AsksFor command.Price words → (ArePriceable names → ⊥) → IsFirstUnfit names words 1
 not_offered names words asks never = no_verb names words (λ verb offered other. never (subst (IsAvailable names) (one_verb verb command.Price words other asks) offered))
 
 -- a word that is there is one too many
@@ -138,7 +139,7 @@ one_too_many words at some there = record {
 -- ---- words that tell values
 
 -- what a word tells is told by no other word
-operand_apart : (operand : Operand) → AreApart (MayTell operand) (operand_word operand)
+pub operand_apart : (operand : Operand) → AreApart (MayTell operand) (operand_word operand)
 operand_apart file_name = record { apart = λ one other here there same. same }
 operand_apart (other_name name) = record { apart = λ one other here there same. same }
 operand_apart (number_within least most) = record { apart = λ one other here there same. decimal_injective one other here.1 there.1 same }
@@ -149,7 +150,7 @@ pub value_then : (operand : Operand) (more : OperandValue operand → Operands) 
 value_then operand more value may took wrong = wrong_chosen value may (operand_apart operand) took wrong
 
 -- the next word is the name of no file
-pub no_name : (more : List ℕ → Operands) {old : Position} {number : ℕ} → Misses IsFileName old number → IsWrong (operands_form (name_and more)) old number
+pub no_name : (more : List ℕ → Operands) {old : Position} {number : ℕ} → Misses IsFileName old number → IsWrong (operands_form (name_operand more)) old number
 no_name more misses = wrong_choice (Misses-stronger (λ word choice. subst IsFileName (sym choice.2) choice.1) misses)
 
 -- nor that of another file than this one
@@ -169,7 +170,7 @@ same_apart = record { apart = λ one other here there same. same }
 pub is_itself : (word : List ℕ) → bytes_eq word word ≡ true
 is_itself word = (bytes_eq-Decides word word).1 refl
 
-is_another : (word other : List ℕ) → (word ≡ other → ⊥) → bytes_eq word other ≡ false
+pub is_another : (word other : List ℕ) → (word ≡ other → ⊥) → bytes_eq word other ≡ false
 is_another word other never = by (bytes_eq word other) (λ yes. never ((bytes_eq-Decides word other).0 yes))
   where
     by : (found : Bool) → (IsTrue found → ⊥) → found ≡ false
@@ -180,11 +181,11 @@ is_another word other never = by (bytes_eq word other) (λ yes. never ((bytes_eq
 pub no_file : IsFileName tariff_option → ⊥
 no_file is = is.no_option refl
 
-no_live_file : IsFileName live_option → ⊥
+pub no_live_file : IsFileName live_option → ⊥
 no_live_file is = is.no_option refl
 
 -- no option is the other one
-options_apart : tariff_option ≡ live_option → ⊥
+pub options_apart : tariff_option ≡ live_option → ⊥
 options_apart same = omega (arith, ap length same)
 
 -- a file is named, and a later word is wrong
@@ -245,12 +246,12 @@ pub is_named : (names : List (List ℕ)) (which : ℕ) → IsFirstNamed names wh
 is_named names which is = record { place = which; within = is.within; is = refl }
 
 -- no tariff is of the name that follows the option
-pub no_tariff : (names : List (List ℕ)) (form : Form) (first : FirstWord) (words : List (List ℕ)) (number : ℕ) → NamesNoTariff names words number → IsWrong (first_form (with_tariff names form first)) (at_word 2 words) number
+pub no_tariff : (names : List (List ℕ)) (form : Form) (first : FirstWord) (words : List (List ℕ)) (number : ℕ) → NamesNoTariff names words number → IsWrong (first_form (first_with_tariff names form first)) (at_word 2 words) number
 no_tariff names form first words number none = option_wrong tariff_option (place (IsTariffName names) form) first none.option (wrong_place none.misses)
 
 -- what is wrong of the words after a tariff, if one was chosen
 pub chosen_wrong : (names : List (List ℕ)) (first : FirstWord) (words : List (List ℕ)) (tariff : Option ℕ) (at number : ℕ) → Chooses names words tariff at → IsWrong (first_form first) (at_word at words) number
-    → IsWrong (first_form (with_tariff names (first_form first) first)) (at_word 2 words) number
+    → IsWrong (first_form (first_with_tariff names (first_form first) first)) (at_word 2 words) number
 chosen_wrong names first words None at number chosen wrong = skip_wrong tariff_option (place (IsTariffName names) (first_form first)) first (at_word 2 words) number chosen.none (subst (λ n. IsWrong (first_form first) (at_word n words) number) chosen.at_once wrong)
 chosen_wrong names first words (Some which) at number chosen wrong = option_wrong tariff_option (place (IsTariffName names) (first_form first)) first chosen.option
     (wrong_later chosen.name (is_named names which chosen.is) (subst (λ n. IsWrong (first_form first) (at_word n words) number) chosen.later wrong))
@@ -304,13 +305,13 @@ topology_then names words of at number more naming wrong =
 
 -- and of those after a journal, whose name may bear on them
 pub named_journal_then : (names words : List (List ℕ)) (of : OfJournal) (at number : ℕ) (more : List ℕ → Operands) → NamesJournal names words of at → IsWrong (operands_form (more of.names.journal.now)) (at_word at words) number
-    → IsWrong (after_topology names (λ topology. name_and more)) (at_word 2 words) number
+    → IsWrong (after_topology names (λ topology. name_operand more)) (at_word 2 words) number
 named_journal_then names words of at number more naming wrong =
-    topology_then names words _ naming.from number (λ topology. name_and more) naming.topology (value_then file_name more of.names.journal.now naming.is naming.took (subst (λ n. IsWrong (operands_form (more of.names.journal.now)) (at_word n words) number) naming.next wrong))
+    topology_then names words _ naming.from number (λ topology. name_operand more) naming.topology (value_then file_name more of.names.journal.now naming.is naming.took (subst (λ n. IsWrong (operands_form (more of.names.journal.now)) (at_word n words) number) naming.next wrong))
 
 -- and where it does not
 pub journal_then : (names words : List (List ℕ)) (of : OfJournal) (at number : ℕ) (more : Operands) → NamesJournal names words of at → IsWrong (operands_form more) (at_word at words) number
-    → IsWrong (after_topology names (journal_and more)) (at_word 2 words) number
+    → IsWrong (after_topology names (journal_operand more)) (at_word 2 words) number
 journal_then names words of at number more naming wrong = named_journal_then names words of at number (λ journal. more) naming wrong
 
 -- the words that name a topology, and those after it
@@ -330,12 +331,12 @@ no_topology names words number more (inl none) = no_tariff names (first_form (fi
 no_topology names words number more (inr (tariff, from, chosen, misses)) = chosen_wrong names (file_first more) words tariff from number chosen (no_file_named more misses)
 
 -- and where no journal is, whose name may bear on what is to follow
-pub no_named_journal : (names words : List (List ℕ)) (number : ℕ) (more : List ℕ → Operands) → NamesNoJournal names words number → IsWrong (after_topology names (λ topology. name_and more)) (at_word 2 words) number
-no_named_journal names words number more (inl none) = no_topology names words number (λ topology. name_and more) none
-no_named_journal names words number more (inr (of, from, naming, misses)) = topology_then names words of from number (λ topology. name_and more) naming (no_name more misses)
+pub no_named_journal : (names words : List (List ℕ)) (number : ℕ) (more : List ℕ → Operands) → NamesNoJournal names words number → IsWrong (after_topology names (λ topology. name_operand more)) (at_word 2 words) number
+no_named_journal names words number more (inl none) = no_topology names words number (λ topology. name_operand more) none
+no_named_journal names words number more (inr (of, from, naming, misses)) = topology_then names words of from number (λ topology. name_operand more) naming (no_name more misses)
 
 -- or does not
-pub no_journal : (names words : List (List ℕ)) (number : ℕ) (more : Operands) → NamesNoJournal names words number → IsWrong (after_topology names (journal_and more)) (at_word 2 words) number
+pub no_journal : (names words : List (List ℕ)) (number : ℕ) (more : Operands) → NamesNoJournal names words number → IsWrong (after_topology names (journal_operand more)) (at_word 2 words) number
 no_journal names words number more none = no_named_journal names words number (λ journal. more) none
 
 -- the name of a journal is the last of the words
@@ -352,7 +353,7 @@ abbrev move_first : FirstWord
 move_first = with_live (file_first moved_names)
 
 -- what is wrong of the words behind the name of a file is wrong of those from it on
-name_then : (more : List ℕ → Operands) (words : List (List ℕ)) (at next number : ℕ) (name : List ℕ) → at + 1 ≡ next → NamesFile words at name → IsWrong (operands_form (more name)) (at_word next words) number → IsWrong (operands_form (name_and more)) (at_word at words) number
+name_then : (more : List ℕ → Operands) (words : List (List ℕ)) (at next number : ℕ) (name : List ℕ) → at + 1 ≡ next → NamesFile words at name → IsWrong (operands_form (more name)) (at_word next words) number → IsWrong (operands_form (name_operand more)) (at_word at words) number
 name_then more words at next number name same file wrong = value_then file_name more name file.is file.took (subst (λ n. IsWrong (operands_form (more name)) (at_word n words) number) (sym same) wrong)
 
 -- what may stand after the names of a move
@@ -363,19 +364,19 @@ new_names journal new_topology = next_word (other_name journal) (λ new_journal.
 pub moved_journal : (words : List (List ℕ)) (at number : ℕ) (topology : List ℕ) → NamesFile words at topology → IsWrong (operands_form (moved_names topology)) (at_word (at + 1) words) number → IsWrong (first_form (file_first moved_names)) (at_word at words) number
 moved_journal words at number topology file wrong = file_wrong moved_names topology file.is file.took wrong
 
-pub moved_topology : (words : List (List ℕ)) (at next number : ℕ) (topology journal : List ℕ) → at + 1 ≡ next → NamesFile words at journal → IsWrong (operands_form (name_and (new_names journal))) (at_word next words) number → IsWrong (operands_form (moved_names topology)) (at_word at words) number
-moved_topology words at next number topology journal same file wrong = name_then (λ journal. name_and (new_names journal)) words at next number journal same file wrong
+pub moved_topology : (words : List (List ℕ)) (at next number : ℕ) (topology journal : List ℕ) → at + 1 ≡ next → NamesFile words at journal → IsWrong (operands_form (name_operand (new_names journal))) (at_word next words) number → IsWrong (operands_form (moved_names topology)) (at_word at words) number
+moved_topology words at next number topology journal same file wrong = name_then (λ journal. name_operand (new_names journal)) words at next number journal same file wrong
 
-pub moved_new : (words : List (List ℕ)) (at next number : ℕ) (journal new_topology : List ℕ) → at + 1 ≡ next → NamesFile words at new_topology → IsWrong (operands_form (new_names journal new_topology)) (at_word next words) number → IsWrong (operands_form (name_and (new_names journal))) (at_word at words) number
+pub moved_new : (words : List (List ℕ)) (at next number : ℕ) (journal new_topology : List ℕ) → at + 1 ≡ next → NamesFile words at new_topology → IsWrong (operands_form (new_names journal new_topology)) (at_word next words) number → IsWrong (operands_form (name_operand (new_names journal))) (at_word at words) number
 moved_new words at next number journal new_topology same file wrong = name_then (new_names journal) words at next number new_topology same file wrong
 
 pub no_move_topology : (words : List (List ℕ)) (at number : ℕ) → Misses IsFileName (at_word at words) number → IsWrong (first_form (file_first moved_names)) (at_word at words) number
 no_move_topology words at number misses = no_file_named moved_names misses
 
 pub no_move_journal : (words : List (List ℕ)) (at number : ℕ) (topology : List ℕ) → Misses IsFileName (at_word at words) number → IsWrong (operands_form (moved_names topology)) (at_word at words) number
-no_move_journal words at number topology misses = no_name (λ journal. name_and (new_names journal)) misses
+no_move_journal words at number topology misses = no_name (λ journal. name_operand (new_names journal)) misses
 
-pub no_new_topology : (words : List (List ℕ)) (at number : ℕ) (journal : List ℕ) → Misses IsFileName (at_word at words) number → IsWrong (operands_form (name_and (new_names journal))) (at_word at words) number
+pub no_new_topology : (words : List (List ℕ)) (at number : ℕ) (journal : List ℕ) → Misses IsFileName (at_word at words) number → IsWrong (operands_form (name_operand (new_names journal))) (at_word at words) number
 no_new_topology words at number journal misses = no_name (new_names journal) misses
 
 pub no_new_journal : (words : List (List ℕ)) (at number : ℕ) (journal new_topology : List ℕ) → Misses (IsOtherFile journal) (at_word at words) number → IsWrong (operands_form (new_names journal new_topology)) (at_word at words) number
@@ -422,7 +423,7 @@ ends_at_names words from at next live of to chosen naming none = by live chosen
 
 -- the words are those of a move
 pub are_move_words : (names words : List (List ℕ)) (tariff : Option ℕ) (from at next : ℕ) (live : Bool) (of to : Names) → AsksFor command.Move words → Chooses names words tariff from → ChoosesLive words from live at → NamesMove words at next of to → (at_word next words).left ≡ []
-    → AreWords names words command.Move ((tariff, live), of.topology.now, (of.journal.now, (to.topology.now, (to.journal.now, tt))))
+    → AreArgumentWords names words command.Move ((tariff, live), of.topology.now, (of.journal.now, (to.topology.now, (to.journal.now, tt))))
 are_move_words names words tariff from at next live of to asks chosen lives naming none = record {
   are = all_words names command.Move words tariff from asks chosen ∙ (ap (λ (left : List (List ℕ)). program_word command.Move ∷ tariff_words names tariff ++ left) (ends_at_names words from at next live of to lives naming none)
       ∙ ap (λ (left : List (List ℕ)). program_word command.Move ∷ left) (sym (append_assoc (tariff_words names tariff) (live_words live) _)));
@@ -446,7 +447,7 @@ no_live_name name is same = no_live_file (subst IsFileName same is)
 
 module _ (names : List (List ℕ)) (form : Form) (first : FirstWord) (word : List ℕ) (words : List (List ℕ)) where
   -- a tariff, if one is chosen, and then what passes
-  tariff_passes : (tariff : Option ℕ) → IsChosen names tariff → (word ≡ tariff_option → ⊥) → first.may word → Passes (first.after word) words → Passes form (word ∷ words) → Passes (first_form (with_tariff names form first)) (tariff_words names tariff ++ word ∷ words)
+  tariff_passes : (tariff : Option ℕ) → IsChosen names tariff → (word ≡ tariff_option → ⊥) → first.may word → Passes (first.after word) words → Passes form (word ∷ words) → Passes (first_form (first_with_tariff names form first)) (tariff_words names tariff ++ word ∷ words)
   tariff_passes None chosen never may passes whole = pass_branch word (inr may) same_apart (skip_passes tariff_option (place (IsTariffName names) form) first word words never may passes)
   tariff_passes (Some which) chosen never may passes whole = option_passes tariff_option (place (IsTariffName names) form) first (get_or names which [] ∷ word ∷ words) (pass_place (is_named names which chosen) whole)
 
@@ -481,18 +482,18 @@ any_file_passes names None (Some name) chosen is =
 any_file_passes names (Some which) (Some name) chosen is =
     pass_maybe (tariff_passes names (maybe (first_form last_file)) last_file name [] (Some which) chosen (no_tariff_file name is) is pass_finish (pass_maybe (file_passes names (λ name. no_more) name is tt tt)))
 
-task_passes : (names : List (List ℕ)) (arguments : Arguments) (task : ArgumentValues arguments) → MayBeTold names arguments task → Passes (arguments_form names arguments) (argument_words names arguments task)
+task_passes : (names : List (List ℕ)) (arguments : Arguments) (task : ArgumentValues arguments) → MayBeAsked names arguments task → Passes (arguments_form names arguments) (argument_words names arguments task)
 task_passes names (only_operands these) values may = operands_pass these values may
 task_passes names (options_and_file options more) (chosen, name, values) may = options_pass names more name may.1 values may.2 options chosen may.0
 task_passes names tariff_and_any_file (tariff, name) may = any_file_passes names tariff name may.0 may.1
 
 -- none of the words of a command is wrong
-pub none_wrong : (names words : List (List ℕ)) (verb : ProgramVerb) (task : Task verb) (number : ℕ) → AreWords names words verb task → IsFirstWrong names words number → ⊥
+pub none_wrong : (names words : List (List ℕ)) (verb : ProgramVerb) (task : ArgumentTask verb) (number : ℕ) → AreArgumentWords names words verb task → IsFirstUnfit names words number → ⊥
 none_wrong names words verb task number are wrong =
     (subst (Passes (words_form names)) (sym are.are) (pass_branch verb are.available (verbs_apart names) (task_passes names (verb_arguments verb) task are.may))).none number wrong
 
 -- they ask for it
-pub asks_for : (names words : List (List ℕ)) (verb : ProgramVerb) (task : Task verb) → AreWords names words verb task → AsksFor verb words
+pub asks_for : (names words : List (List ℕ)) (verb : ProgramVerb) (task : ArgumentTask verb) → AreArgumentWords names words verb task → AsksFor verb words
 asks_for names words verb task are = subst (AsksFor verb) (sym are.are) refl
 
 -- ---- words tell one thing
@@ -601,7 +602,7 @@ one_any_file names one other name name' chosen chosen' is is' same =
     back (Some file) (Some file') same = ap Some (ap first_of_words same)
 
 -- the words of a command tell one task
-one_task : (names : List (List ℕ)) (arguments : Arguments) (one other : ArgumentValues arguments) → MayBeTold names arguments one → MayBeTold names arguments other → argument_words names arguments one ≡ argument_words names arguments other → one ≡ other
+one_task : (names : List (List ℕ)) (arguments : Arguments) (one other : ArgumentValues arguments) → MayBeAsked names arguments one → MayBeAsked names arguments other → argument_words names arguments one ≡ argument_words names arguments other → one ≡ other
 one_task names (only_operands these) one other may may' same = one_values these one other may may' same
 one_task names (options_and_file options more) (chosen, name, values) (chosen', name', values') may may' same =
     let both = one_choice names options chosen chosen' name name' (operand_words (more name) values) (operand_words (more name') values') may.0 may'.0 may.1 may'.1 same in
@@ -612,14 +613,14 @@ one_task names tariff_and_any_file (tariff, name) (tariff', name') may may' same
     λ i. (both.0 i, both.1 i)
 
 -- what is so of a task that words tell is so of each of the same command
-pub of_same : (names words : List (List ℕ)) (verb : ProgramVerb) (P : Task verb → Type 0) (task : Task verb) → AreWords names words verb task → P task → (other : Task verb) → AreWords names words verb other → P other
+pub of_same : (names words : List (List ℕ)) (verb : ProgramVerb) (P : ArgumentTask verb → Type 0) (task : ArgumentTask verb) → AreArgumentWords names words verb task → P task → (other : ArgumentTask verb) → AreArgumentWords names words verb other → P other
 of_same names words verb P task are holds other are' = subst P (one_task names (verb_arguments verb) task other are.may are'.may (ap (drop 1) (sym are.are ∙ are'.are))) holds
 
 -- and of each of any command
-pub of_each : (names words : List (List ℕ)) (P : (verb : ProgramVerb) → Task verb → Type 0) (verb : ProgramVerb) (task : Task verb) → AreWords names words verb task → P verb task
-    → (other : ProgramVerb) (other_task : Task other) → AreWords names words other other_task → P other other_task
+pub of_each : (names words : List (List ℕ)) (P : (verb : ProgramVerb) → ArgumentTask verb → Type 0) (verb : ProgramVerb) (task : ArgumentTask verb) → AreArgumentWords names words verb task → P verb task
+    → (other : ProgramVerb) (other_task : ArgumentTask other) → AreArgumentWords names words other other_task → P other other_task
 of_each names words P verb task are holds other other_task are' =
-    subst (λ (v : ProgramVerb). (t : Task v) → AreWords names words v t → P v t) (one_verb verb other words (asks_for names words verb task are) (asks_for names words other other_task are'))
+    subst (λ (v : ProgramVerb). (t : ArgumentTask v) → AreArgumentWords names words v t → P v t) (one_verb verb other words (asks_for names words verb task are) (asks_for names words other other_task are'))
     (of_same names words verb (P verb) task are holds) other_task are'
 
 -- ---- tariffs

@@ -11,8 +11,8 @@ use Rattle.hose_words.proofs.Listing.{Listing, listing_more, wrong_item}
 use Rattle.hose_graph.specs.Limit.{IsUpTo}
 use Rattle.hose_graph.specs.Name.{IsName}
 use Rattle.hose_graph.specs.declared.limits.TheConstants.{LEAST_ENDS, MOST_ENDS, MOST_RATE}
-use Rattle.hose_proto.specs.EndWords.{AreNewEndWords, end_words_form, name_in, named_rate}
-use Rattle.hose_proto.specs.steps.EndWords.{IsNewEndWord}
+use Rattle.hose_proto.specs.EndWords.{AreNewEndWords, name_in, named_rate}
+use Rattle.hose_proto.specs.steps.EndWords.{IsNewEndWord, end_words_form}
 use Rattle.hose_proto.proofs.EndWords.{end_words_more, makes_end_words, name_of_end}
 use Rattle.hosed.specs.steps.ProgramWords.{at_word}
 

@@ -11,7 +11,8 @@ use Rattle.hose_words.specs.steps.Cursor.{IsWrong}
 use Rattle.hose_words.specs.Form.{Follows, grammar_of}
 use Rattle.hose_words.specs.Grammar.{IsFirstNotAllowed}
 use Rattle.hose_words.proofs.Passing.{All-front, IsClosed, Passes, pass_list}
-use Rattle.hosed.specs.HostWords.{AreDoorWords, doors_form}
+use Rattle.hosed.specs.HostWords.{AreDoorWords}
+use Rattle.hosed.specs.steps.HostForms.{doors_form}
 use Rattle.hosed.specs.steps.ProgramWords.{at_word}
 
 -- ---- one door more
@@ -91,7 +92,7 @@ all_doors doors count told all = record {
   doors = λ k d below. subst NamesDoor (get_or_default doors k [] d below) (told.named k (omega (arith, below, all)));
 }
 
-doors_closed : IsClosed AreDoorWords
+pub doors_closed : IsClosed AreDoorWords
 doors_closed = record {
   front = λ xs ys some are. record { few = omega (arith, are.few, length-append xs ys); doors = All-front NamesDoor xs ys are.doors };
 }

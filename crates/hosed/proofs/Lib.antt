@@ -1,9 +1,11 @@
 pub mod Commands
 pub mod Connections
 mod EndsSeen
-pub mod HostCommands
+mod HostCommands
 mod HostDoors
+pub mod HostShapes
 mod Names
 pub mod Outcomes
+mod ProgramShapes
 pub mod Served
 pub mod Sharing

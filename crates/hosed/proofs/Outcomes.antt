@@ -8,39 +8,40 @@ use Rattle.hose_offline.specs.Auditing.{PricedNames}
 use Rattle.hosed.specs.Offline.{Does, Offer, OfflineOutcome}
 use Rattle.hosed.specs.ServeOutcome.{ServeOutcome}
 use Rattle.hosed.specs.ServerDoor.{DoorSeen, DoorTask}
-use Rattle.hosed.specs.ProgramWords.{AreWords, AreWrongWords, IsFirstWrong, Task}
+use Rattle.hosed.specs.ProgramWords.{AreWrongWords}
+use Rattle.hosed.specs.steps.Arguments.{AreArgumentWords, ArgumentTask, IsFirstUnfit}
 use Rattle.hosed.specs.declared.verb.ProgramVerb.{ProgramVerb}
 use Rattle.hosed.specs.declared.verb.ProgramVerb.TheVariants as command
-use Rattle.hosed.proofs.Commands.{none_wrong, of_each}
+use Rattle.hosed.proofs.ProgramShapes.{are_told, each_task, no_task, task_told, unfit_wrong}
 
 -- words of which one is the first that is not allowed are wrong
-pub are_wrong : (names words : List (List ℕ)) (number : ℕ) → IsFirstWrong names words number → AreWrongWords names words
-are_wrong names words number wrong = λ verb task are. none_wrong names words verb task number are wrong
+pub are_wrong : (names words : List (List ℕ)) (number : ℕ) → IsFirstUnfit names words number → AreWrongWords names words
+are_wrong names words number wrong = λ verb task are. no_task names words verb task number are wrong
 
 module _ {I O C E : Type 0} (tells : Tellings I O C E) (offer : Offer) (before after : Parts I O C) (status : ℕ) (words : List (List ℕ)) where
   -- the command did what its task says, and does not end with the status of wrong words
-  pub right_words : (verb : ProgramVerb) (task : Task verb) → AreWords offer.pricing.names words verb task → status ≢ 1 → Does tells offer before after status verb task → OfflineOutcome tells offer before after status words
+  pub right_words : (verb : ProgramVerb) (task : ArgumentTask verb) → AreArgumentWords offer.pricing.names words verb task → status ≢ 1 → Does tells offer before after status verb (task_told offer.pricing.names verb task) → OfflineOutcome tells offer before after status words
   right_words verb task are not_1 done = record {
-    words_at_1 = λ none. ((λ one. absurd (not_1 one)), λ wrong. absurd (wrong verb task are));
-    wrong_words = λ wrong. absurd (wrong verb task are);
-    does = of_each offer.pricing.names words (Does tells offer before after status) verb task are done;
+    words_at_1 = λ none. ((λ one. absurd (not_1 one)), λ wrong. absurd (wrong verb _ (are_told offer.pricing.names words verb task are)));
+    wrong_words = λ wrong. absurd (wrong verb _ (are_told offer.pricing.names words verb task are));
+    does = each_task offer.pricing.names words (Does tells offer before after status) verb task are done;
   }
 
   -- a proof may end with it
-  pub proof_words : (task : Task command.Prove) → AreWords offer.pricing.names words command.Prove task → Does tells offer before after status command.Prove task → OfflineOutcome tells offer before after status words
+  pub proof_words : (task : ArgumentTask command.Prove) → AreArgumentWords offer.pricing.names words command.Prove task → Does tells offer before after status command.Prove (task_told offer.pricing.names command.Prove task) → OfflineOutcome tells offer before after status words
   proof_words task are done = record {
-    words_at_1 = λ none. absurd (none task are);
-    wrong_words = λ wrong. absurd (wrong command.Prove task are);
-    does = of_each offer.pricing.names words (Does tells offer before after status) command.Prove task are done;
+    words_at_1 = λ none. absurd (none _ (are_told offer.pricing.names words command.Prove task are));
+    wrong_words = λ wrong. absurd (wrong command.Prove _ (are_told offer.pricing.names words command.Prove task are));
+    does = each_task offer.pricing.names words (Does tells offer before after status) command.Prove task are done;
   }
 
   -- and wrong words do, and take nothing
-  pub wrong_words : (number : ℕ) → IsFirstWrong offer.pricing.names words number → after.input ≡ before.input → after.cabinet ≡ before.cabinet → status ≡ 1 → IsOut tells.sink before.output after.output (last_line (Words number))
+  pub wrong_words : (number : ℕ) → IsFirstUnfit offer.pricing.names words number → after.input ≡ before.input → after.cabinet ≡ before.cabinet → status ≡ 1 → IsOut tells.sink before.output after.output (last_line (Words number))
       → OfflineOutcome tells offer before after status words
   wrong_words number wrong same_input same_cabinet is_1 out = record {
     words_at_1 = λ none. ((λ one. are_wrong offer.pricing.names words number wrong), λ all. is_1);
-    wrong_words = λ all. (same_input, same_cabinet, (number, wrong, out));
-    does = λ verb task are. absurd (none_wrong offer.pricing.names words verb task number are wrong);
+    wrong_words = λ all. (same_input, same_cabinet, (number, unfit_wrong offer.pricing.names words number wrong, out));
+    does = λ verb task are. absurd (no_task offer.pricing.names words verb task number are wrong);
   }
 
 -- what is beside a command, told part by part as it was lent and as it comes back

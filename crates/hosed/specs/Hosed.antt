@@ -1,11 +1,12 @@
 -- What the program's words come to.
 use Rattle.std.specs.Prelude.{◌≡◌, ◌↔◌, ℕ, List}
+use Rattle.hose_words.specs.Shapes.{IsFirstWrong}
 use Rattle.hose_offline.specs.Auditing.{priced_names}
 use Rattle.hose_offline.specs.Ending.{IsOut}
 use Rattle.hose_offline.specs.Fault.{last_line}
 use Rattle.hose_offline.specs.Parts.{Tellings}
 use Rattle.hosed.specs.Offline.{Offer, OfflineOutcome}
-use Rattle.hosed.specs.ProgramWords.{AreWords, AreWrongWords, AsksToServe, IsFirstWrong, Task}
+use Rattle.hosed.specs.ProgramWords.{AreWords, AreWrongWords, AsksToServe, Task, words_shape}
 use Rattle.hosed.specs.declared.verb.ProgramVerb.TheVariants as command
 use Rattle.hosed.specs.ServeOutcome.{ServeOutcome}
 use Rattle.hosed.specs.ServerDoor.{OutsideDoor}
@@ -14,8 +15,8 @@ use Rattle.hose_offline.specs.declared.fault.Fault.TheVariants.{Words}
 module _ {I O C E : Type 0} (tells : Tellings I O C E) (offer : Offer)
     (before after : OutsideDoor I O C) (status : ℕ) where
   -- A server did what its task says, at the prices of the tariff that is chosen.
-  abbrev pub Serves : Task command.Serve → Type 0
-  Serves (tariff, topology, (journal, (port, (connections, (workers, _))))) =
+  abbrev pub Serves : Task offer.pricing.names command.Serve → Type 0
+  Serves (tariff, (topology, (journal, (port, (connections, (workers, _)))))) =
       ServeOutcome tells (priced_names (offer.prices tariff) topology journal)
       (record { port = port; connections = connections }) before after status
 
@@ -31,8 +32,8 @@ module _ {I O C E : Type 0} (tells : Tellings I O C E) (offer : Offer)
     pub wrong_words : AsksToServe words → status ≡ 1
         → (after.others.input ≡ before.others.input)
         × (after.others.cabinet ≡ before.others.cabinet) × (after.door ≡ before.door)
-        × ((word : ℕ) × IsFirstWrong offer.pricing.names words word
+        × ((word : ℕ) × IsFirstWrong (words_shape offer.pricing.names) words word
         × IsOut tells.sink before.others.output after.others.output (last_line (Words word)))
-    pub serves : (task : Task command.Serve)
+    pub serves : (task : Task offer.pricing.names command.Serve)
         → AreWords offer.pricing.names words command.Serve task
         → Serves task

@@ -1,8 +1,14 @@
 -- What the words of a host name.
 use Rattle.std.specs.Prelude.{◌≡◌, ℕ, List, MatchOption, Option, ⊤, map, option_map}
 use Rattle.std.specs.String.{string_bytes}
-use Rattle.hosed.specs.HostWords.{AreHostWords, HostAsked, IsFirstWrongOfHost, first_door, operator_number}
+use Rattle.hosed.specs.HostWords.{AreHostWords, HostAsked, IsFirstWrongOfHost, StandbyAsked, first_door, operator_number}
 use Rattle.hosed.specs.declared.host_line.HostWords.{HostWords}
+use Rattle.hosed.specs.declared.host_line.StandbyWords.{StandbyWords}
+
+-- what was read of a standby, as it is asked
+abbrev pub standby_of : StandbyWords → StandbyAsked
+standby_of found =
+    record { path = found.path.now; seconds = found.seconds; or_stop = found.or_stop }
 
 -- what was read, as it is asked
 abbrev pub asked_of : HostWords → HostAsked
@@ -10,6 +16,7 @@ asked_of found = record {
   tariff = found.tariff;
   operator = option_map (λ operator. operator.0.now) found.operator;
   quiet = found.quiet;
+  standby = option_map standby_of found.standby;
   topology = found.topology.now;
   journal = found.journal.now;
   doors = map string_bytes found.doors.now;

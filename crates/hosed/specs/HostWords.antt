@@ -1,10 +1,12 @@
 -- The words that a host is run with.
-use Rattle.std.specs.Prelude.{◌≡◌, ℕ, ◌+◌, ◌≤◌, List, [], ◌∷◌, ◌++◌, All, Bool, true, false, codes, length, MatchOption, Option, None, Some, ⊤}
+use Rattle.std.specs.Prelude.{◌≡◌, ℕ, ◌+◌, ◌-◌, ◌≤◌, List, All, Bool, codes, decimal, length, Option, None, Some}
+use mathlib.Core.Logic.{◌⊎◌, inl, inr}
 use Rattle.hose_doors.specs.Doors.{IsSocketPath, NamesDoor}
 use Rattle.hose_doors.specs.Limits.{most_doors}
-use Rattle.hose_words.specs.Form.{Form, grammar_of, list, place, this}
-use Rattle.hose_words.specs.Grammar.{IsFirst, IsFirstNotAllowed}
-use Rattle.hosed.specs.ProgramWords.{FirstWord, IsChosen, IsFileName, first_form, tariff_words, with_option, with_tariff}
+use Rattle.hose_words.specs.Form.{IsWithin}
+use Rattle.hose_words.specs.Grammar.{IsFirst}
+use Rattle.hose_words.specs.Shapes.{IsFirstWrong, Shape, Tells, Values, choice, flag, items, line_end, option, value, words_told}
+use Rattle.hosed.specs.ProgramWords.{file_and, with_tariff}
 
 -- ---- what a host is to do
 
@@ -20,95 +22,103 @@ operator_option = codes "--operator"
 abbrev pub quiet_option : List ℕ
 quiet_option = codes "--quiet"
 
+-- the word that stands before the path of a standby's socket
+abbrev pub standby_option : List ℕ
+standby_option = codes "--standby"
+
+-- the word that stands before the seconds for which nothing may be heard of the standby
+abbrev pub seconds_option : List ℕ
+seconds_option = codes "--standby-seconds"
+
+-- the word by which the host ends where the standby is gone
+abbrev pub stop_option : List ℕ
+stop_option = codes "--standby-or-stop"
+
+-- the standby of a host: the path of its socket, for how many seconds nothing may be heard of it,
+-- where that is said, and whether the host ends where it is gone
+pub record StandbyAsked : Type 0 where
+  pub path : List ℕ
+  pub seconds : Option ℕ
+  pub or_stop : Bool
+
 -- what a host is to do: by which tariff, if one is chosen, with which socket for the operator
--- alone, if there is one, with a log or without, by which topology and journal, and at which doors
+-- alone, if there is one, with a log or without, with which standby, if there is one, by which
+-- topology and journal, and at which doors
 pub record HostAsked : Type 0 where
   pub tariff : Option ℕ
   pub operator : Option (List ℕ)
   pub quiet : Bool
+  pub standby : Option StandbyAsked
   pub topology : List ℕ
   pub journal : List ℕ
   pub doors : List (List ℕ)
 
 -- ---- the words of it
 
--- the words of the operator's socket, if there is one
-abbrev pub operator_words : Option (List ℕ) → List (List ℕ)
-operator_words None = []
-operator_words (Some path) = operator_option ∷ path ∷ []
-
--- the words by which no log is written, or one is
-abbrev pub quiet_words : Bool → List (List ℕ)
-quiet_words true = quiet_option ∷ []
-quiet_words false = []
-
--- the words of a host
-abbrev pub host_line : List (List ℕ) → HostAsked → List (List ℕ)
-host_line names asked =
-    host_word ∷ tariff_words names asked.tariff ++ (operator_words asked.operator
-    ++ (quiet_words asked.quiet ++ asked.topology ∷ asked.journal ∷ asked.doors))
+-- for so many seconds nothing may be heard of a standby
+abbrev pub IsPatience : ℕ → Type 0
+IsPatience seconds = IsWithin 1 3600 seconds
 
 -- words name the doors of one host, which may have more of them
 pub record AreDoorWords (words : List (List ℕ)) : Type 0 where
   pub few : length words ≤ most_doors
   pub doors : All NamesDoor words
 
--- a host may be asked so: of tariffs with these names the chosen one is there, and at least one
--- door is named
-pub record MayHost (names : List (List ℕ)) (asked : HostAsked) : Type 0 where
-  pub tariff : IsChosen names asked.tariff
-  pub operator : MatchOption asked.operator ⊤ IsSocketPath
-  pub topology : IsFileName asked.topology
-  pub journal : IsFileName asked.journal
-  pub some : 1 ≤ length asked.doors
-  pub doors : AreDoorWords asked.doors
+-- a topology, a journal, and the doors of a host, one at least
+abbrev pub hosted : Shape
+hosted = file_and (λ topology. file_and (λ journal. items AreDoorWords (λ door. door) 1))
 
--- the words are those of a host, which may be asked so
-pub record AreHostWords (names words : List (List ℕ)) (asked : HostAsked) : Type 0 where
-  pub are : words ≡ host_line names asked
-  pub may : MayHost names asked
+-- the path of a standby's socket, its seconds if they are said, whether a host ends where it is
+-- gone, and what comes after them
+abbrev pub standby_and : Shape → Shape
+standby_and shape = value IsSocketPath (λ path. path)
+    (λ path. option seconds_option IsPatience decimal (flag stop_option shape))
+
+-- what comes after the first word of a host, where the tariffs have these names
+abbrev pub host_shape : List (List ℕ) → Shape
+host_shape names = with_tariff (option operator_option IsSocketPath (λ path. path)
+    (flag quiet_option (choice standby_option (standby_and hosted) hosted))) names
+
+-- what words tell of a standby, if there is one, before a topology, a journal and doors
+abbrev pub with_standby : Option StandbyAsked → Values hosted
+    → Values (standby_and hosted) ⊎ Values hosted
+with_standby None files = inr files
+with_standby (Some standby) files =
+    inl (standby.path, (standby.seconds, (standby.or_stop, files)))
+
+-- what words tell after the first one, where such a host is asked for
+abbrev pub host_values : (names : List (List ℕ)) → HostAsked → Values (host_shape names)
+host_values names asked = (
+  asked.tariff,
+  (
+    asked.operator,
+    (asked.quiet, with_standby asked.standby (asked.topology, (asked.journal, asked.doors))),
+  ),
+)
+
+-- the words that a host may be run with
+abbrev pub host_words_shape : List (List ℕ) → Shape
+host_words_shape names = value (λ word. word ≡ host_word) (λ word. word) (λ word. host_shape names)
+
+-- the words are those of this host
+abbrev pub AreHostWords : List (List ℕ) → List (List ℕ) → HostAsked → Type 0
+AreHostWords names words asked =
+    Tells (host_words_shape names) words (host_word, host_values names asked)
+
+-- the first of the words of a host that is not allowed
+abbrev pub IsFirstWrongOfHost : List (List ℕ) → List (List ℕ) → ℕ → Type 0
+IsFirstWrongOfHost names words word = IsFirstWrong (host_words_shape names) words word
 
 -- the number of the word that names the operator's socket, counted from 1
 abbrev pub operator_number : List (List ℕ) → HostAsked → ℕ
-operator_number names asked = length (tariff_words names asked.tariff) + 3
+operator_number names asked =
+    length (words_told (with_tariff line_end names) (asked.tariff, tt)) + 3
 
--- the number of the word that names the first of the other doors
+-- the number of the word that names the first of the other doors, which are the last words
 abbrev pub first_door : List (List ℕ) → HostAsked → ℕ
 first_door names asked =
-    length (tariff_words names asked.tariff) + length (operator_words asked.operator)
-    + length (quiet_words asked.quiet) + 4
-
--- ---- which words are wrong
+    length (words_told (host_shape names) (host_values names asked)) + 2 - length asked.doors
 
 -- the first word is `host`
 abbrev pub AsksToHost : List (List ℕ) → Type 0
 AsksToHost words = IsFirst (λ word. word ≡ host_word) words
-
--- the doors of a host, one at least
-abbrev pub doors_form : Form
-doors_form = list (λ word. word) AreDoorWords 1
-
--- the name of a topology, and after it that of a journal and the doors
-abbrev pub files_first : FirstWord
-files_first = record { may = IsFileName; after = λ topology. place IsFileName doors_form }
-
--- what may stand first, and before it the choice of no log or none
-abbrev pub with_quiet : FirstWord → FirstWord
-with_quiet first = with_option quiet_option (first_form first) first
-
--- what may stand first, and before it the path of the operator's socket or none
-abbrev pub with_operator : FirstWord → FirstWord
-with_operator first = with_option operator_option (place IsSocketPath (first_form first)) first
-
--- what may stand first after the choice of a tariff
-abbrev pub host_first : FirstWord
-host_first = with_operator (with_quiet files_first)
-
--- what the words of a host may be
-abbrev pub host_form : List (List ℕ) → Form
-host_form names = this host_word (first_form (with_tariff names (first_form host_first) host_first))
-
--- the first of the words of a host that is not allowed
-abbrev pub IsFirstWrongOfHost : List (List ℕ) → List (List ℕ) → ℕ → Type 0
-IsFirstWrongOfHost names words word =
-    IsFirstNotAllowed (grammar_of (host_form names)) [] words word

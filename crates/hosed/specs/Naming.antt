@@ -24,29 +24,29 @@ files_named topology journal = record {
 }
 
 -- what a task names
-abbrev pub task_names : (verb : ProgramVerb) → Task verb → TaskNames
-task_names command.Run (tariff, journal) = files_named None journal
-task_names command.Audit (tariff, topology, (journal, _)) =
+abbrev pub task_names : (names : List (List ℕ)) (verb : ProgramVerb) → Task names verb → TaskNames
+task_names names command.Run (tariff, journal) = files_named None journal
+task_names names command.Audit (tariff, (topology, (journal, _))) =
     files_named (Some topology) (Some journal)
-task_names command.Generate numbers = files_named None None
-task_names command.Prove (tariff, topology, ends) = files_named (Some topology) None
-task_names command.Check (tariff, topology, _) = files_named (Some topology) None
-task_names command.Price (_, topology, _) = files_named (Some topology) None
-task_names command.Ship (tariff, topology, (journal, (from, _))) =
+task_names names command.Generate numbers = files_named None None
+task_names names command.Prove (tariff, (topology, ends)) = files_named (Some topology) None
+task_names names command.Check (tariff, (topology, _)) = files_named (Some topology) None
+task_names names command.Price (topology, _) = files_named (Some topology) None
+task_names names command.Ship (tariff, (topology, (journal, (from, _)))) =
     files_named (Some topology) (Some journal)
-task_names command.Follow (tariff, topology, (journal, _)) =
+task_names names command.Follow (tariff, (topology, (journal, _))) =
     files_named (Some topology) (Some journal)
-task_names command.Move ((tariff, live), topology, (journal, (new_topology, (new_journal, _)))) =
+task_names names command.Move (_, (_, (topology, (journal, (new_topology, (new_journal, _)))))) =
     record (files_named (Some topology) (Some journal)) {
       new_topology = Some new_topology;
       new_journal = Some new_journal;
     }
-task_names command.Cut (tariff, topology, (journal, (count, (new_journal, _)))) =
+task_names names command.Cut (tariff, (topology, (journal, (count, (new_journal, _))))) =
     record (files_named (Some topology) (Some journal)) {
       new_topology = Some topology;
       new_journal = Some new_journal;
     }
-task_names command.Serve (tariff, topology, (journal, (port, (connections, (workers, _))))) =
+task_names names command.Serve (_, (topology, (journal, (port, (connections, (workers, _)))))) =
     record (files_named (Some topology) (Some journal)) { port = Some port }
 
 -- what is named, by the bytes of each name
@@ -62,9 +62,9 @@ named_bytes named = record {
 -- The words are those of a command and a task, which names these files and this port.
 pub record AreNamed (names words : List (List ℕ)) (named : NamedByWords) : Type 0 where
   pub verb : ProgramVerb
-  pub task : Task verb
+  pub task : Task names verb
   pub are : AreWords names words verb task
-  pub same : named_bytes named ≡ task_names verb task
+  pub same : named_bytes named ≡ task_names names verb task
 
 -- what words name, where they are not wrong
 abbrev pub NamesOf : List (List ℕ) → List (List ℕ) → Option NamedByWords → Type 0

@@ -1,13 +1,13 @@
 -- The words that the program is run with.
-use Rattle.std.specs.Prelude.{◌≡◌, ◌≢◌, ◌⊎◌, ℕ, ◌-◌, ◌^◌, ◌<◌, ◌≤◌, List, [], ◌∷◌, ◌++◌, codes, decimal, get_or, length, Bool, true, false, Option, MatchOption, None, Some, suc, zero, ⊤}
-use Rattle.std.specs.Str.{bytes_eq}
-use Rattle.hose_words.specs.Form.{Fits64, Form, IsWithin, branch, finish, grammar_of, maybe, place}
-use Rattle.hose_words.specs.Grammar.{IsFirst, IsFirstNotAllowed}
+use Rattle.std.specs.Prelude.{◌≡◌, ◌≢◌, ℕ, ◌-◌, ◌^◌, ◌<◌, ◌≤◌, List, [], ◌∷◌, codes, decimal, get_or, length, Option, None, Some, suc, zero, ⊤}
+use Rattle.hose_words.specs.Form.{Fits64, IsWithin}
+use Rattle.hose_words.specs.Grammar.{IsFirst}
+use Rattle.hose_words.specs.Shapes.{Shape, Tells, Values, flag, items, last, line_end, option, value}
 use Rattle.hose_gen.specs.Limits.{least_nodes, most_hoses}
 use Rattle.hose_graph.specs.Network.{Network}
-use Rattle.hose_graph.specs.Limits.{most_epoch, most_links, most_nodes}
+use Rattle.hose_graph.specs.Limits.{least_ends, most_epoch, most_links, most_nodes}
 use Rattle.hose_offline.specs.TopologyTold.{own_costs}
-use Rattle.hose_proto.specs.EndWords.{AreEndWords, end_words_form}
+use Rattle.hose_proto.specs.EndWords.{AreNewEndWords}
 use Rattle.hose_pool.specs.Limits.{most_workers}
 use Rattle.hose_price.specs.Limits.{most_tariffs}
 use Rattle.hosed.specs.Limits.{most_connections}
@@ -30,25 +30,10 @@ tariff_option = codes "--tariff"
 abbrev pub live_option : List ℕ
 live_option = codes "--live"
 
--- a word names a file, and another one than this name does
-pub record IsOtherFile (name word : List ℕ) : Type 0 where
-  pub is_name : IsFileName word
-  pub other : word ≢ name
-
--- a word is the name of a tariff, of tariffs with these names
-pub record IsTariffName (names : List (List ℕ)) (word : List ℕ) : Type 0 where
-  pub place : ℕ
-  pub within : place < length names
-  pub is : word ≡ get_or names place []
-
 -- the tariff of this place is the first with its name
 pub record IsFirstNamed (names : List (List ℕ)) (place : ℕ) : Type 0 where
   pub within : place < length names
   pub first : (other : ℕ) → other < place → get_or names other [] ≢ get_or names place []
-
--- a tariff may be chosen, by its place, or none
-abbrev pub IsChosen : List (List ℕ) → Option ℕ → Type 0
-IsChosen names tariff = MatchOption tariff ⊤ (IsFirstNamed names)
 
 -- the tariff that is chosen, if one is
 abbrev pub chosen_of : {T : Type 0} → List T → Option ℕ → Option T
@@ -69,205 +54,83 @@ module _ {T : Type 0} (prices : T → Network → Network → Type 0) where
 
 -- ---- the table
 
--- what one word tells: the name of a file; that of another file than this one; or a number from the
--- least to the most
-pub data Operand : Type 0 where
-  file_name : Operand
-  other_name : List ℕ → Operand
-  number_within : ℕ → ℕ → Operand
+-- the name of a file, and what this makes of the words after it
+abbrev pub file_and : (List ℕ → Shape) → Shape
+file_and after = value IsFileName (λ name. name) after
 
--- what a word tells is a name or a number
-abbrev pub OperandValue : Operand → Type 0
-OperandValue file_name = List ℕ
-OperandValue (other_name name) = List ℕ
-OperandValue (number_within least most) = ℕ
+-- the name of another file than this one, and what this makes of the words after it
+abbrev pub other_and : List ℕ → (List ℕ → Shape) → Shape
+other_and name after = value (λ other. IsFileName other × (other ≢ name)) (λ other. other) after
 
--- What words tell, one after the other, to the last one. What a word tells may bear on those after
--- it.
-pub data Operands : Type 0 where
-  no_more : Operands
-  -- the endpoints of a hose
-  end_words : Operands
-  next_word : (operand : Operand) → (OperandValue operand → Operands) → Operands
+-- a number from the least to the most, which 64 bits hold, and what this makes of the words after
+-- it
+abbrev pub number_and : ℕ → ℕ → (ℕ → Shape) → Shape
+number_and least most after =
+    value (λ number. IsWithin least most number × Fits64 number) decimal after
 
--- the options that may stand before the name of a file: none, the choice of a tariff, or that and
--- then the choice of live VPNs
-pub data Options : Type 0 where
-  without : Options
-  by_tariff : Options
-  by_tariff_and_live : Options
+-- the choice of one of the tariffs with these names by its place, or of none, and the words after
+-- it
+abbrev pub with_tariff : Shape → List (List ℕ) → Shape
+with_tariff shape names =
+    option tariff_option (IsFirstNamed names) (λ which. get_or names which []) shape
 
--- what stands after a command's own word
-pub data Arguments : Type 0 where
-  -- no option and no file
-  only_operands : Operands → Arguments
-  -- options, the name of a file, and what that makes of the words after it
-  options_and_file : Options → (List ℕ → Operands) → Arguments
-  -- the choice of a tariff or none, and then the name of a file or nothing
-  tariff_and_any_file : Arguments
+-- a topology after the choice of a tariff or none, and what comes after it
+abbrev pub topology_and : (List ℕ → Shape) → List (List ℕ) → Shape
+topology_and after names = with_tariff (file_and after) names
 
--- the name of a file, and what that makes of the words after it
-abbrev pub name_and : (List ℕ → Operands) → Operands
-name_and more = next_word file_name more
+-- such a topology, a journal, and what this makes of the words after it
+abbrev pub journal_and : (List ℕ → Shape) → List (List ℕ) → Shape
+journal_and after names = topology_and (λ topology. file_and after) names
 
--- a number from the least to the most, and what that makes of the words after it
-abbrev pub number_and : ℕ → ℕ → (ℕ → Operands) → Operands
-number_and least most more = next_word (number_within least most) more
-
--- after a topology: a journal, and these
-abbrev pub journal_and : Operands → List ℕ → Operands
-journal_and more topology = name_and (λ journal. more)
-
--- after the topology of a move: its journal, a new topology, and a journal of another name
-abbrev pub moved_names : List ℕ → Operands
-moved_names topology = name_and (λ journal. name_and (λ new_topology.
-    next_word (other_name journal) (λ new_journal. no_more)))
-
--- after the topology of a cut: its journal, how many entries are cut off, and a journal of another
--- name
-abbrev pub cut_operands : List ℕ → Operands
-cut_operands topology = name_and (λ journal. number_and 0 most_epoch (λ n.
-    next_word (other_name journal) (λ new_journal. no_more)))
-
--- the numbers of a server: a port, which 16 bits hold and which is not 0, how many connections it
--- accepts, and how many workers answer them
-abbrev pub server_numbers : Operands
-server_numbers = number_and 1 65535 (λ port. number_and 1 most_connections (λ connections.
-    number_and 1 most_workers (λ workers. no_more)))
-
--- the numbers by which a network and a script are generated: a seed of 64 bits, so many nodes, so
--- many links, which are enough to join them, and so many hoses
-abbrev pub generated_numbers : Operands
-generated_numbers = number_and 0 (2 ^ 64 - 1) (λ seed. number_and least_nodes most_nodes (λ nodes.
-    number_and (nodes - 1) most_links (λ links. number_and 0 most_hoses (λ hoses. no_more))))
-
--- The word that each command begins with, and what stands after it, in the order of the usage text;
--- the name of each operand is its name there. Entries are shipped from an epoch on; the first one's
--- is 1.
-abbrev pub program_line : ProgramVerb → List ℕ × Arguments
-program_line command.Run = (codes "run", tariff_and_any_file)
-program_line command.Audit = (codes "audit", options_and_file by_tariff (journal_and no_more))
-program_line command.Serve =
-    (codes "serve", options_and_file by_tariff (journal_and server_numbers))
-program_line command.Prove = (codes "prove", options_and_file by_tariff (λ topology. end_words))
-program_line command.Check = (codes "check", options_and_file by_tariff (λ topology. no_more))
-program_line command.Price = (codes "price", options_and_file without (λ topology. no_more))
-program_line command.Ship = (
-  codes "ship",
-  options_and_file by_tariff
-      (journal_and (number_and 1 most_epoch (λ from. no_more))),
+-- The word that each command begins with, and what comes after it where the tariffs have such
+-- names, in the order of the usage text; each file and each number has its name there. A port has
+-- 16 bits and is not 0; a seed has 64; links are enough to join the nodes. Entries are shipped from
+-- an epoch on; the first one's is 1.
+abbrev pub program_line : ProgramVerb → List ℕ × (List (List ℕ) → Shape)
+program_line command.Run = (codes "run", with_tariff (last IsFileName (λ journal. journal)))
+program_line command.Audit = (codes "audit", journal_and (λ journal. line_end))
+program_line command.Serve = (
+  codes "serve",
+  journal_and (λ journal. number_and 1 65535 (λ port. number_and 1 most_connections
+      (λ connections. number_and 1 most_workers (λ workers. line_end)))),
 )
-program_line command.Follow = (codes "follow", options_and_file by_tariff (journal_and no_more))
-program_line command.Move = (codes "move", options_and_file by_tariff_and_live moved_names)
-program_line command.Cut = (codes "cut", options_and_file by_tariff cut_operands)
-program_line command.Generate = (codes "gen", only_operands generated_numbers)
+program_line command.Prove =
+    (codes "prove", topology_and (λ topology. items AreNewEndWords (λ end. end) least_ends))
+program_line command.Check = (codes "check", topology_and (λ topology. line_end))
+program_line command.Price = (codes "price", λ names. file_and (λ topology. line_end))
+program_line command.Ship =
+    (codes "ship", journal_and (λ journal. number_and 1 most_epoch (λ from. line_end)))
+program_line command.Follow = (codes "follow", journal_and (λ journal. line_end))
+program_line command.Move = (
+  codes "move",
+  with_tariff (flag live_option (file_and (λ topology. file_and (λ journal. file_and
+      (λ new_topology. other_and journal (λ new_journal. line_end)))))),
+)
+program_line command.Cut = (
+  codes "cut",
+  journal_and (λ journal. number_and 0 most_epoch (λ n. other_and journal
+      (λ new_journal. line_end))),
+)
+program_line command.Generate = (
+  codes "gen",
+  λ names. number_and 0 (2 ^ 64 - 1) (λ seed. number_and least_nodes most_nodes
+      (λ nodes. number_and (nodes - 1) most_links (λ links. number_and 0 most_hoses
+      (λ hoses. line_end)))),
+)
 
 -- the word that a command begins with
 abbrev pub program_word : ProgramVerb → List ℕ
 program_word verb = (program_line verb).0
 
--- what stands after a command's own word
-abbrev pub verb_arguments : ProgramVerb → Arguments
-verb_arguments verb = (program_line verb).1
-
--- ---- what a command is to do
-
--- what the words tell, one after the other
-abbrev pub OperandValues : Operands → Type 0
-OperandValues no_more = ⊤
-OperandValues end_words = List (List ℕ)
-OperandValues (next_word operand more) =
-    (value : OperandValue operand) × OperandValues (more value)
-
--- what options tell: the tariff that is chosen, if one is, and whether the live VPNs alone are
-abbrev pub OptionValues : Options → Type 0
-OptionValues without = ⊤
-OptionValues by_tariff = Option ℕ
-OptionValues by_tariff_and_live = Option ℕ × Bool
-
--- what all words after a command's own tell
-abbrev pub ArgumentValues : Arguments → Type 0
-ArgumentValues (only_operands these) = OperandValues these
-ArgumentValues (options_and_file options more) =
-    OptionValues options × (name : List ℕ) × OperandValues (more name)
-ArgumentValues tariff_and_any_file = Option ℕ × Option (List ℕ)
+-- what comes after a command's own word, where the tariffs have these names
+abbrev pub program_shape : List (List ℕ) → ProgramVerb → Shape
+program_shape names verb = (program_line verb).1 names
 
 -- what a command is to do
-abbrev pub Task : ProgramVerb → Type 0
-Task verb = ArgumentValues (verb_arguments verb)
+abbrev pub Task : List (List ℕ) → ProgramVerb → Type 0
+Task names verb = Values (program_shape names verb)
 
 -- ---- the words of a task
-
--- the word that tells this
-abbrev pub operand_word : (operand : Operand) → OperandValue operand → List ℕ
-operand_word file_name name = name
-operand_word (other_name name) other = other
-operand_word (number_within least most) number = decimal number
-
--- the words that tell these, one after the other
-abbrev pub operand_words : (these : Operands) → OperandValues these → List (List ℕ)
-operand_words no_more values = []
-operand_words end_words words = words
-operand_words (next_word operand more) (value, values) =
-    operand_word operand value ∷ operand_words (more value) values
-
--- the words by which a tariff is chosen, if one is
-abbrev pub tariff_words : List (List ℕ) → Option ℕ → List (List ℕ)
-tariff_words names None = []
-tariff_words names (Some which) = tariff_option ∷ get_or names which [] ∷ []
-
--- the words by which the live VPNs alone are chosen, or all entries
-abbrev pub live_words : Bool → List (List ℕ)
-live_words true = live_option ∷ []
-live_words false = []
-
--- the words of options
-abbrev pub option_words : List (List ℕ) → (options : Options) → OptionValues options
-    → List (List ℕ)
-option_words names without values = []
-option_words names by_tariff tariff = tariff_words names tariff
-option_words names by_tariff_and_live (tariff, live) = tariff_words names tariff ++ live_words live
-
--- the words of a name, if there is one
-abbrev pub name_words : Option (List ℕ) → List (List ℕ)
-name_words None = []
-name_words (Some name) = name ∷ []
-
--- all words after a command's own, of what they tell
-abbrev pub argument_words : List (List ℕ) → (arguments : Arguments) → ArgumentValues arguments
-    → List (List ℕ)
-argument_words names (only_operands these) values = operand_words these values
-argument_words names (options_and_file options more) (chosen, name, values) =
-    option_words names options chosen ++ name ∷ operand_words (more name) values
-argument_words names tariff_and_any_file (tariff, name) =
-    tariff_words names tariff ++ name_words name
-
--- a word may tell this; a number has to be one that 64 bits hold
-abbrev pub MayTell : (operand : Operand) → OperandValue operand → Type 0
-MayTell file_name name = IsFileName name
-MayTell (other_name name) other = IsOtherFile name other
-MayTell (number_within least most) number = IsWithin least most number × Fits64 number
-
--- words may tell these, one after the other
-abbrev pub MayTellAll : (these : Operands) → OperandValues these → Type 0
-MayTellAll no_more values = ⊤
-MayTellAll end_words words = AreEndWords words
-MayTellAll (next_word operand more) (value, values) =
-    MayTell operand value × MayTellAll (more value) values
-
--- options may tell this
-abbrev pub MayChoose : List (List ℕ) → (options : Options) → OptionValues options → Type 0
-MayChoose names without values = ⊤
-MayChoose names by_tariff tariff = IsChosen names tariff
-MayChoose names by_tariff_and_live (tariff, live) = IsChosen names tariff
-
--- the words after a command's own may tell this
-abbrev pub MayBeTold : List (List ℕ) → (arguments : Arguments) → ArgumentValues arguments → Type 0
-MayBeTold names (only_operands these) values = MayTellAll these values
-MayBeTold names (options_and_file options more) (chosen, name, values) =
-    MayChoose names options chosen × IsFileName name × MayTellAll (more name) values
-MayBeTold names tariff_and_any_file (tariff, name) =
-    IsChosen names tariff × MatchOption name ⊤ IsFileName
 
 -- there are tariffs with these names to price under, and no more than there may be
 abbrev pub ArePriceable : List (List ℕ) → Type 0
@@ -287,25 +150,24 @@ IsAvailable names command.Move = ⊤
 IsAvailable names command.Cut = ⊤
 IsAvailable names command.Generate = ⊤
 
--- The words are that of the command, which there is, and then those of its task, which it may be
--- given.
-pub record AreWords (names words : List (List ℕ)) (verb : ProgramVerb) (task : Task verb) :
-    Type 0 where
-  pub are : words ≡ program_word verb ∷ argument_words names (verb_arguments verb) task
-  pub may : MayBeTold names (verb_arguments verb) task
-  pub available : IsAvailable names verb
+-- the word of a command that there is, and what comes after it
+abbrev pub words_shape : List (List ℕ) → Shape
+words_shape names = value (IsAvailable names) program_word (program_shape names)
+
+-- the words are those of a command and of a task
+abbrev pub AreWords : (names words : List (List ℕ)) (verb : ProgramVerb) → Task names verb
+    → Type 0
+AreWords names words verb task = Tells (words_shape names) words (verb, task)
 
 -- the words are those of no command
 abbrev pub AreWrongWords : List (List ℕ) → List (List ℕ) → Type 0
 AreWrongWords names words =
-    (verb : ProgramVerb) (task : Task verb) → ¬ AreWords names words verb task
+    (verb : ProgramVerb) (task : Task names verb) → ¬ AreWords names words verb task
 
 -- the number of the first of the endpoints of a certificate among the words
 abbrev pub first_end : Option ℕ → ℕ
 first_end None = 3
 first_end (Some which) = 5
-
--- ---- which words are wrong
 
 -- the first word is that of the command, whatever follows it
 abbrev pub AsksFor : ProgramVerb → List (List ℕ) → Type 0
@@ -314,74 +176,3 @@ AsksFor verb words = IsFirst (λ word. word ≡ program_word verb) words
 -- the first word is `serve`
 abbrev pub AsksToServe : List (List ℕ) → Type 0
 AsksToServe words = AsksFor command.Serve words
-
--- what may stand where words tell these
-abbrev pub operands_form : Operands → Form
-operands_form no_more = finish
-operands_form end_words = end_words_form
-operands_form (next_word operand more) =
-    branch (MayTell operand) (operand_word operand) (λ value. operands_form (more value))
-
--- which word may stand first, and what may stand after each
-pub record FirstWord : Type 1 where
-  pub may : List ℕ → Type 0
-  pub after : List ℕ → Form
-
--- a word that may stand first, and what may stand after it
-abbrev pub first_form : FirstWord → Form
-first_form first = branch first.may (λ word. word) first.after
-
--- the first of two forms where this is so, else the second
-abbrev pub form_if : Bool → Form → Form → Form
-form_if true form other = form
-form_if false form other = other
-
--- this option and a form after it, or what may stand first without it
-abbrev pub with_option : List ℕ → Form → FirstWord → FirstWord
-with_option option form first = record {
-  may = λ word. (word ≡ option) ⊎ first.may word;
-  after = λ word. form_if (bytes_eq word option) form (first.after word);
-}
-
--- the choice of a tariff and a form after it, or what may stand first without it
-abbrev pub with_tariff : List (List ℕ) → Form → FirstWord → FirstWord
-with_tariff names form first = with_option tariff_option (place (IsTariffName names) form) first
-
--- what may stand first, and before it the choice of live VPNs or none
-abbrev pub with_live : FirstWord → FirstWord
-with_live first = with_option live_option (first_form first) first
-
--- what may stand first, and before it such options
-abbrev pub with_options : List (List ℕ) → Options → FirstWord → FirstWord
-with_options names without first = first
-with_options names by_tariff first = with_tariff names (first_form first) first
-with_options names by_tariff_and_live first =
-    with_tariff names (first_form (with_live first)) (with_live first)
-
--- the name of a file, and what may stand after it
-abbrev pub file_first : (List ℕ → Operands) → FirstWord
-file_first more = record { may = IsFileName; after = λ name. operands_form (more name) }
-
--- the name of a file and nothing more
-abbrev pub last_file : FirstWord
-last_file = file_first (λ name. no_more)
-
--- what may stand after a command's own word
-abbrev pub arguments_form : List (List ℕ) → Arguments → Form
-arguments_form names (only_operands these) = operands_form these
-arguments_form names (options_and_file options more) =
-    first_form (with_options names options (file_first more))
-arguments_form names tariff_and_any_file =
-    maybe (first_form (with_tariff names (maybe (first_form last_file)) last_file))
-
--- what may stand after the word of a command
-abbrev pub program_form : List (List ℕ) → ProgramVerb → Form
-program_form names verb = arguments_form names (verb_arguments verb)
-
--- what the words may be
-abbrev pub words_form : List (List ℕ) → Form
-words_form names = branch (IsAvailable names) program_word (program_form names)
-
--- the first of the words that is not allowed
-abbrev pub IsFirstWrong : List (List ℕ) → List (List ℕ) → ℕ → Type 0
-IsFirstWrong names words word = IsFirstNotAllowed (grammar_of (words_form names)) [] words word

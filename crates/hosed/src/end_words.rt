@@ -2,8 +2,8 @@
 ghost use Rattle.std.specs.Prelude.{◌≡◌, ◌↔◌, ◌+◌, ◌≤◌, Any, IfErr, IfNone, IfOk, IfSome, IsTrue, length, map};
 ghost use Rattle.std.specs.String.{string_bytes};
 ghost use Rattle.hose_words.specs.steps.Cursor.{IsWrong};
-ghost use Rattle.hose_proto.specs.EndWords.{AreEndWords, end_words_form, name_in};
-ghost use Rattle.hose_proto.specs.steps.EndWords.{IsNewEndWord};
+ghost use Rattle.hose_proto.specs.EndWords.{name_in};
+ghost use Rattle.hose_proto.specs.steps.EndWords.{AreEndWords, IsNewEndWord, end_words_form};
 ghost use Rattle.hosed.specs.steps.ProgramWords.{at_word};
 
 use hose_graph::{LEAST_ENDS, MOST_ENDS};

@@ -48,16 +48,17 @@ mod verb;
 mod words;
 
 pub use chosen::{ChosenCosts, costs_of};
-use doing::{do_lent, serve_lent};
+use doing::do_request;
 pub use hose_crew::Context;
 use hose_disk::Cabinet;
 use hose_io::{Door, Sink, Source};
-use hose_offline::{Fault, Why, end};
+use hose_offline::{Fault, Outside, Why, end};
 use hose_pool::Gate;
 use hose_tariff::{Prices, Tariff};
-pub use host_line::{HostWords, asks_to_host, host_words};
+pub use host_line::{HostWords, MOST_PATIENCE, StandbyWords, asks_to_host, host_words};
 pub use naming::NamedByWords;
 use naming::{named_of, server_named};
+use server::serve;
 use std::alloc::Global;
 use std::sync::Wait;
 use std::thread::Threads;
@@ -188,10 +189,14 @@ pub fn hosed_ended<
         return offline_ended(context.alloc, words, input, output, cabinet, tariffs);
     }
     match serve_of(words, tariffs) {
-        Ok(request) => Ended {
-            why: serve_lent(context, request, tariffs, input, output, cabinet, door),
-            named: Some(server_named(request)),
-        },
+        Ok(request) => {
+            let costs = costs_of(tariffs, request.tariff);
+            let mut outside = Outside::of(input, output, cabinet);
+            Ended {
+                why: serve(context, &costs, request, &mut outside, door),
+                named: Some(server_named(request)),
+            }
+        }
         Err(wrong) => Ended {
             why: end(Err(Fault::Words(wrong)), output),
             named: None,
@@ -251,10 +256,13 @@ pub fn offline_ended<'w, I: Source, O: Sink, C: Cabinet>(
         (parts input.old output.old cabinet.old) (parts input.new output.new cabinet.new) }
 {
     match request_of(words, tariffs) {
-        Ok(request) => Ended {
-            why: do_lent(alloc, request, tariffs, input, output, cabinet),
-            named: Some(named_of(request)),
-        },
+        Ok(request) => {
+            let mut outside = Outside::of(input, output, cabinet);
+            Ended {
+                why: do_request(alloc, request, tariffs, &mut outside),
+                named: Some(named_of(request)),
+            }
+        }
         Err(wrong) => Ended {
             why: end(Err(Fault::Words(wrong)), output),
             named: None,

@@ -4,7 +4,8 @@ ghost use Rattle.std.specs.String.{string_bytes};
 ghost use Rattle.hose_words.specs.steps.Cursor.{IsWrong, Misses, Took};
 ghost use Rattle.hose_words.specs.Form.{IsWithin, TellsNumber, finish};
 ghost use Rattle.hose_words.specs.Grammar.{IsFirst};
-ghost use Rattle.hosed.specs.ProgramWords.{ArePriceable, AsksFor, AsksToServe, IsFileName, IsFirstNamed, IsFirstWrong, IsOtherFile, IsTariffName, file_first, first_form, moved_names, program_form};
+ghost use Rattle.hosed.specs.ProgramWords.{ArePriceable, AsksFor, AsksToServe, IsFileName, IsFirstNamed};
+ghost use Rattle.hosed.specs.steps.Arguments.{IsFirstUnfit, IsOtherFile, IsTariffName, file_first, first_form, moved_names, program_form};
 ghost use Rattle.hosed.specs.steps.ProgramWords.{AreServeWords, at_word};
 ghost use Rattle.hosed.specs.steps.Reading.{AreJournalWords, Chooses, ChoosesLive, NamesJournal, NamesMove, NamesNoJournal, NamesNoTariff, NamesNoTopology, NamesTopology, ReadsRequest};
 ghost use Rattle.hosed.specs.declared.verb.ProgramVerb.TheVariants as command;
@@ -329,7 +330,7 @@ pub fn serve_of<'w>(words: &'w [String], tariffs: &[Tariff]) -> Result<ServeRequ
     requires { AsksToServe (map string_bytes words.now) }
     ensures ok { IfOk result (AreServeWords (map (λ tariff. tariff.name) tariffs.now)
         (map string_bytes words.now)) }
-    ensures wrong { IfErr result (IsFirstWrong (map (λ tariff. tariff.name) tariffs.now)
+    ensures wrong { IfErr result (IsFirstUnfit (map (λ tariff. tariff.name) tariffs.now)
         (map string_bytes words.now)) }
 {
     let (of, at) = journal_at(words, tariffs)?;
@@ -425,8 +426,8 @@ pub fn name_at(words: &[String], at: u64) -> Result<&str, u64>
     }
 }
 
-// The number that this word tells, counted from 1, which has to be from the least to the most.
-fn number_at(words: &[String], at: u64, least: u64, most: u64) -> Result<u64, u64>
+/// The number that this word tells, counted from 1, which has to be from the least to the most.
+pub fn number_at(words: &[String], at: u64, least: u64, most: u64) -> Result<u64, u64>
     requires { 1 ≤ at }
     ensures ok { IfOk result (λ value. Took (at_word at (map string_bytes words.now))
         (at_word (at + 1) (map string_bytes words.now)) (decimal value)) }

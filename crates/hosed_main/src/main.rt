@@ -10,8 +10,8 @@ use hose_io::{StdSink, StdSource};
 use hose_pool::PlainGate;
 use hose_sockets::Ports;
 use hosed_program::{
-    Context, FrontKept, Hints, HostOutside, OwnedOutside, SystemWords, Watched, flat, hops, long,
-    no_memory, start, tariffs,
+    Context, Hints, HostOutside, OwnedOutside, SystemWords, Watched, flat, hops, long, no_memory,
+    start, tariffs,
 };
 use std::cell::Cell;
 use std::process::ExitCode;
@@ -20,7 +20,7 @@ fn main(rt: HostRuntime) -> ExitCode {
     let alloc = rt.alloc();
     let unread = Cell::new(false);
     let mut world = OwnedOutside {
-        input: FrontKept::new(StdSource::new(rt.stdin())),
+        input: StdSource::new(rt.stdin()),
         output: StdSink::new(Watched::new(rt.stdout(), &unread)),
         cabinet: DirCabinet::new(rt),
         door: TcpDoor::new(rt),

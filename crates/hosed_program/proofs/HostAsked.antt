@@ -1,16 +1,22 @@
 -- The doors that the words of a host ask for, and what comes of a host that was lent what it needs.
-use Rattle.std.proofs.Common.{◌≡◌, ℕ, List, subst}
+use Rattle.std.proofs.Common.{◌≡◌, ℕ, List, Option, None, Some, option_map, refl, subst}
 use Rattle.hose_offline.specs.Auditing.{PricedNames}
 use Rattle.hose_offline.specs.Parts.{Parts, Tellings, parts}
-use Rattle.hosed.specs.HostNaming.{ReadsHost, asked_of}
+use Rattle.hosed.specs.HostNaming.{ReadsHost, asked_of, standby_of}
 use Rattle.hosed.specs.declared.host_line.HostWords.{HostWords}
-use Rattle.hosed.proofs.HostCommands.{operator_numbered}
+use Rattle.hosed.specs.declared.host_line.StandbyWords.{StandbyWords}
+use Rattle.hosed.proofs.HostShapes.{operator_numbered}
 use Rattle.hosed_host.specs.HostBook.{DoorTellings}
 use Rattle.hosed_host.specs.HostDoors.{DoorsAsked}
 use Rattle.hosed_host.specs.HostOutcome.{HostOutcome}
-use Rattle.hosed_host.specs.steps.HostOutcome.{asked_of as doors_asked}
-use Rattle.hosed_program.specs.HostCommand.{beside_doors, doors_of}
-use Rattle.hosed_program.specs.steps.HostWords.{doors_said}
+use Rattle.hosed_host.specs.steps.HostOutcome.{asked_of as doors_asked, plan_at}
+use Rattle.hosed_program.specs.HostCommand.{beside_doors, doors_of, place_of}
+use Rattle.hosed_program.specs.steps.HostWords.{doors_said, plan_said}
+
+-- the standby that is led is the one that the words tell
+same_standby : (said : Option StandbyWords) → option_map plan_at (option_map plan_said said) ≡ option_map place_of (option_map standby_of said)
+same_standby None = refl
+same_standby (Some standby) = refl
 
 -- the doors that are opened are those that the words ask for
 pub same_doors : (names words : List (List ℕ)) (said : HostWords) → ReadsHost names words said → doors_asked (doors_said said) ≡ doors_of names (asked_of said)
@@ -18,6 +24,7 @@ same_doors names words said reads = λ i. record {
   operator = operator_numbered names words said reads i;
   doors = (asked_of said).doors;
   first = reads.first i;
+  standby = same_standby said.standby i;
 }
 
 -- what was lent is what there is now

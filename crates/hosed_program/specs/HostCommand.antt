@@ -5,11 +5,15 @@ use Rattle.hose_offline.specs.Ending.{IsOut}
 use Rattle.hose_offline.specs.Fault.{last_line}
 use Rattle.hose_offline.specs.Parts.{Parts, Tellings}
 use Rattle.hose_offline.specs.declared.fault.Fault.TheVariants.{Words}
-use Rattle.hosed.specs.HostWords.{AreHostWords, HostAsked, IsFirstWrongOfHost, first_door, operator_number}
+use Rattle.hosed.specs.HostWords.{AreHostWords, HostAsked, IsFirstWrongOfHost, StandbyAsked, first_door, operator_number}
 use Rattle.hosed.specs.Offline.{Offer}
 use Rattle.hosed_host.specs.HostBook.{DoorTellings}
-use Rattle.hosed_host.specs.HostDoors.{DoorsAsked}
+use Rattle.hosed_host.specs.HostDoors.{DoorsAsked, StandbyPlace}
 use Rattle.hosed_host.specs.HostOutcome.{HostOutcome, OutsideDoors}
+
+-- where a standby is, and what is done where it is gone
+abbrev pub place_of : StandbyAsked → StandbyPlace
+place_of standby = record { path = standby.path; or_stop = standby.or_stop }
 
 -- the doors that a host is asked for, with the numbers of their words
 abbrev pub doors_of : List (List ℕ) → HostAsked → DoorsAsked
@@ -17,6 +21,7 @@ doors_of names asked = record {
   operator = option_map (λ path. (path, operator_number names asked)) asked.operator;
   doors = asked.doors;
   first = first_door names asked;
+  standby = option_map place_of asked.standby;
 }
 
 -- all that is outside of a host, of its parts

@@ -1,19 +1,15 @@
 // A host, as the program's words ask for it.
-ghost use Rattle.std.specs.Prelude.{◌≡◌, ◌≢◌, None, map};
+ghost use Rattle.std.specs.Prelude.{◌≡◌, None, map, option_map};
 ghost use Rattle.std.specs.String.{string_bytes};
-ghost use Rattle.hose_offline.specs.Auditing.{priced_names};
 ghost use Rattle.hose_offline.specs.Parts.{AllStay, parts, tellings};
 ghost use Rattle.hosed.specs.HostNaming.{HostNamesOf};
 ghost use Rattle.hosed.specs.HostWords.{AreHostWords, AsksToHost, HostAsked};
 ghost use Rattle.hosed.specs.Offline.{offer_of};
-ghost use Rattle.hosed.specs.ProgramWords.{costs_at};
-ghost use Rattle.hose_store.specs.steps.Store.{KeptStore};
+ghost use Rattle.hose_lead.specs.LedStore.{LedState};
 ghost use Rattle.hosed_host.specs.HostBook.{TellsDoor, door_tellings};
-ghost use Rattle.hosed_host.specs.HostOutcome.{HostOutcome};
 ghost use Rattle.hosed_host.specs.HostWhy.{TellsWhy, host_status};
-ghost use Rattle.hosed_host.specs.steps.HostOutcome.{AreServable, asked_of};
-ghost use Rattle.hosed_program.specs.steps.HostWords.{doors_said};
-ghost use Rattle.hosed_program.specs.HostCommand.{HostCommand, beside_doors, doors_of};
+ghost use Rattle.hosed_program.specs.HostCommand.{HostCommand, doors_of};
+ghost use Rattle.hosed_program.specs.steps.HostWords.{plan_said};
 
 use hose_disk::Cabinet;
 use hose_io::{Sink, Source};
@@ -21,13 +17,16 @@ use hose_log::ErrorLog;
 use hose_net::Doors;
 use hose_offline::{Fault, Outside, end};
 use hose_tariff::{Prices, Tariff};
-use hosed::{HostWords, costs_of, host_words};
-use hosed_host::{HostDoors, HostRequest, HostWhy, host_by_names};
+use hosed::{HostWords, StandbyWords, costs_of, host_words};
+use hosed_host::{HostDoors, HostRequest, HostWhy, StandbyPlan, host_by_names};
 use std::alloc::Global;
 use std::io::Write;
 use std::sync::Wait;
 use std::thread::Threads;
 use std::time::Clock;
+
+/// For so many seconds nothing may be heard of a standby, where no other number is told.
+const PATIENCE: u64 = 10;
 
 /// What a host reaches besides: its doors, the threads and the clock of its log, and standard
 /// error, which a log takes.
@@ -69,7 +68,7 @@ pub fn host_ended<
     requires asks { AsksToHost (map string_bytes words.now) }
     ensures outcome { HostCommand (tellings I.Source O.Sink C.Cabinet C.Disk.Disk)
         (door_tellings D.Doors D.Network.Connections.did
-        (D.Network.Connections.saw (KeptStore C.Disk)))
+        (D.Network.Connections.saw (LedState C.Disk)))
         (offer_of ⟦<Tariff as Prices>⟧.prices (λ tariff. tariff.name) (λ tariff. tariff.base)
         (λ tariff. tariff.per) tariffs.now)
         (parts input.old output.old cabinet.old) (parts input.new output.new cabinet.new)
@@ -86,10 +85,26 @@ pub fn host_ended<
         (parts input.old output.old cabinet.old) (parts input.new output.new cabinet.new) }
 {
     match host_words(words, tariffs) {
-        Ok(said) => HostEnded {
-            why: host_lent(rt, alloc, said, tariffs, input, output, cabinet, host),
-            named: Some(said),
-        },
+        Ok(said) => {
+            let costs = costs_of(tariffs, said.tariff);
+            let request = HostRequest {
+                topology: said.topology,
+                journal: said.journal,
+                doors: HostDoors {
+                    operator: said.operator,
+                    words: said.doors,
+                    first: said.first,
+                    standby: plan_of(said.standby),
+                },
+            };
+            let log = log_of(host.threads, alloc, &mut host.errors, said.quiet);
+            let mut outside = Outside::of(input, output, cabinet);
+            let doors = &mut host.doors;
+            HostEnded {
+                why: host_by_names(rt, alloc, &costs, request, &mut outside, doors, log),
+                named: Some(said),
+            }
+        }
         Err(wrong) => HostEnded {
             why: HostWhy::Ended(end(Err(Fault::Words(wrong)), output)),
             named: None,
@@ -97,64 +112,16 @@ pub fn host_ended<
     }
 }
 
-// Does what a host's words say with what is lent to it.
-fn host_lent<
-    W: Wait,
-    I: Source,
-    O: Sink,
-    C: Cabinet,
-    D: Doors,
-    T: Threads + Wait + Clock + Copy + Drop + Send + 'static,
-    S: Write + Drop + Send + 'static,
->(
-    rt: &W,
-    alloc: Global,
-    said: HostWords<'_>,
-    tariffs: &[Tariff],
-    input: &mut I,
-    output: &mut O,
-    cabinet: &mut C,
-    host: &mut HostOutside<D, T, S>,
-) -> HostWhy
-    requires none_out { (C.frame cabinet.old).out ≡ None }
-    requires doors { AreServable (doors_said said) }
-    ensures outcome { HostOutcome (tellings I.Source O.Sink C.Cabinet C.Disk.Disk)
-        (door_tellings D.Doors D.Network.Connections.did
-        (D.Network.Connections.saw (KeptStore C.Disk)))
-        (priced_names (costs_at ⟦<Tariff as Prices>⟧.prices tariffs.now said.entry.tariff)
-        said.entry.topology.now said.entry.journal.now) (asked_of (doors_said said.entry))
-        (beside_doors (parts input.old output.old cabinet.old) host.old.doors)
-        (beside_doors (parts input.new output.new cabinet.new) host.new.doors)
-        (host_status result) }
-    ensures told { TellsWhy O.Sink output.new result }
-    ensures door { TellsDoor D.Doors (asked_of (doors_said said.entry)) host.old.doors
-        host.new.doors result }
-    ensures not_words { host_status result ≢ 1 }
-    ensures back { (C.frame cabinet.new).out ≡ None }
-    ensures keeps { AllStay (tellings I.Source O.Sink C.Cabinet C.Disk.Disk)
-        (parts input.old output.old cabinet.old) (parts input.new output.new cabinet.new) }
+// The standby that words tell.
+fn plan_of(standby: Option<StandbyWords<'_>>) -> Option<StandbyPlan<'_>>
+    ensures { result ≡ option_map plan_said standby.entry }
 {
-    let costs = costs_of(tariffs, said.tariff);
-    let request = HostRequest {
-        topology: said.topology,
-        journal: said.journal,
-        doors: HostDoors {
-            operator: said.operator,
-            words: said.doors,
-            first: said.first,
-        },
-    };
-    let log = log_of(host.threads, alloc, &mut host.errors, said.quiet);
-    let mut outside = Outside::of(input, output, cabinet);
-    host_by_names(
-        rt,
-        alloc,
-        &costs,
-        request,
-        &mut outside,
-        &mut host.doors,
-        log,
-    )
+    let said = standby?;
+    Some(StandbyPlan {
+        path: said.path,
+        seconds: said.seconds.unwrap_or(PATIENCE),
+        or_stop: said.or_stop,
+    })
 }
 
 // The log of a host: at standard error where that is not taken, or none for who wants quiet.

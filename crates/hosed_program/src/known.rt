@@ -5,8 +5,8 @@ use std::cell::Cell;
 use std::fs::File;
 use std::rt::Files;
 
-/// By what a sentence is told: standard error and the files that it is about, and whether it was
-/// noted that who reads the output has gone.
+/// By what a sentence is told: standard error, and whether it was noted that who reads the output
+/// has gone.
 #[derive(Clone, Copy)]
 pub struct Hints<'h, E> {
     pub rt: &'h E,
@@ -16,8 +16,6 @@ pub struct Hints<'h, E> {
 /// What is known besides of what ended the program.
 #[derive(Clone, Copy)]
 pub struct Known {
-    /// A carriage return stands in the line of the input that was refused.
-    pub returning: bool,
     /// Who reads the output has gone.
     pub unread: bool,
     /// What the system said where a call on a file failed last.
@@ -28,7 +26,6 @@ impl Known {
     /// Nothing is known.
     pub fn nothing() -> Known {
         Known {
-            returning: false,
             unread: false,
             trouble: None,
         }

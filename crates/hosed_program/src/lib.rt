@@ -13,11 +13,9 @@
 #![tactic(auto)]
 
 mod choice;
-mod front;
 mod given;
 mod hosting;
 mod known;
-mod looking;
 mod reasons;
 mod rules;
 mod starting;
@@ -26,7 +24,6 @@ mod watched;
 mod words;
 
 pub use choice::{OwnedOutside, TextOrCommand, program};
-pub use front::{FrontKept, Fronted};
 pub use given::{Given, ListedWords, SystemWords};
 pub use hosed::{Context, Ended};
 pub use hosting::{HostEnded, HostOutside, host_ended};

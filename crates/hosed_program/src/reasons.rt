@@ -1,21 +1,14 @@
 // Why the program ended, as one sentence on standard error.
 use crate::hosting::HostEnded;
 use crate::known::{Known, told};
-use crate::looking::returns_in;
 use hose_disk::Trouble;
 use hose_net::DoorTrouble;
 use hose_offline::{Fault, MoveStop, Refusal, Why};
 use hosed::{Ended, NamedByWords};
 use hosed_host::HostWhy;
 use std::fmt::{Display, Formatter};
-use std::fs::File;
 use std::io::Eprint;
-use std::rt::Files;
 use std::{fmt, io};
-
-// What is told of a line in which a carriage return stands.
-const RETURNS: &str =
-    ": a carriage return stands in that line, and a line ends with a line feed alone";
 
 // Which topology: that of a name, or the one in the input.
 #[derive(Clone, Copy)]
@@ -34,12 +27,7 @@ impl Display for Which<'_> {
 
 /// Tells on standard error why the program ended, if not all was done. Where who reads the output
 /// has gone, nothing is told: that was their choice.
-pub fn tell_why<R: Eprint + Files<File = File>>(
-    rt: &R,
-    words: &[String],
-    ended: Ended<'_>,
-    known: Known,
-) {
+pub fn tell_why<R: Eprint>(rt: &R, words: &[String], ended: Ended<'_>, known: Known) {
     let named = ended.named.unwrap_or(NamedByWords::nothing());
     // The output tells it too, so a standard error that fails is passed over.
     let _ = match ended.why {
@@ -57,12 +45,7 @@ pub fn tell_why<R: Eprint + Files<File = File>>(
 }
 
 /// Tells on standard error why a host ended, if not all was done.
-pub fn tell_host_why<R: Eprint + Files<File = File>>(
-    rt: &R,
-    words: &[String],
-    ended: HostEnded<'_>,
-    known: Known,
-) {
+pub fn tell_host_why<R: Eprint>(rt: &R, words: &[String], ended: HostEnded<'_>, known: Known) {
     let named = match ended.named {
         Some(said) => NamedByWords::of_journal(said.topology, said.journal),
         None => NamedByWords::nothing(),
@@ -70,6 +53,13 @@ pub fn tell_host_why<R: Eprint + Files<File = File>>(
     // The output tells it too, so a standard error that fails is passed over.
     let _ = match ended.why {
         HostWhy::Door(number, trouble) => tell_host_door(rt, word_at(words, number), trouble),
+        HostWhy::StandbyGone => {
+            eprintln!(rt; "hosed: nothing was heard of the standby for too long, so the host ended")
+        }
+        HostWhy::StandbyAhead(count) => eprintln!(rt;
+            "hosed: the standby has {count} orders, more than the journal: orders of the journal \
+            were lost, or it is of an earlier time"
+        ),
         HostWhy::Ended(Why::Stopped(Fault::Door)) => {
             eprintln!(rt; "hosed: the system tells no more of the connections of the doors")
         }
@@ -126,7 +116,7 @@ fn tell_word<R: Eprint>(
 }
 
 // A fault of the network that these names are of.
-fn tell_fault<R: Eprint + Files<File = File>>(
+fn tell_fault<R: Eprint>(
     rt: &R,
     fault: Fault,
     of: NamedByWords<'_>,
@@ -138,7 +128,7 @@ fn tell_fault<R: Eprint + Files<File = File>>(
     let journal = of.journal.unwrap_or("");
     let trouble = known.trouble.unwrap_or(Trouble::Disk);
     match fault {
-        Fault::Topology(refusal) => tell_refused(rt, refusal, which, known.returning),
+        Fault::Topology(refusal) => tell_refused(rt, refusal, which),
         Fault::Text => {
             let why = told(trouble);
             eprintln!(rt; "hosed: the topology {which} could not be read: {why}")
@@ -172,24 +162,17 @@ fn none_made(trouble: Trouble) -> &'static str {
 }
 
 // A topology is not allowed.
-fn tell_refused<R: Eprint + Files<File = File>>(
-    rt: &R,
-    refusal: Refusal,
-    which: Which<'_>,
-    returning: bool,
-) -> io::Result<()> {
-    let Refusal::Word { line, word } = refusal else {
-        return eprintln!(rt;
+fn tell_refused<R: Eprint>(rt: &R, refusal: Refusal, which: Which<'_>) -> io::Result<()> {
+    match refusal {
+        Refusal::Word { line, word } => eprintln!(rt;
+            "hosed: the topology {which} is not allowed at line {line}, word {word} (a line ends \
+            with a line feed alone)"
+        ),
+        _ => eprintln!(rt;
             "hosed: the topology {which} is not allowed at the place that the last line of the \
             output tells"
-        );
-    };
-    let returns = match which.topology {
-        Some(name) => returns_in(rt, name, line),
-        None => returning,
-    };
-    let why = if returns { RETURNS } else { "" };
-    eprintln!(rt; "hosed: the topology {which} is not allowed at line {line}, word {word}{why}")
+        ),
+    }
 }
 
 // A fault of what is named by no word.

@@ -6,12 +6,11 @@ ghost use Rattle.hose_offline.specs.Parts.{tellings};
 ghost use Rattle.hose_offline.specs.declared.fault.Fault.TheVariants as fault;
 ghost use Rattle.hosed.specs.Offline.{offer_of};
 ghost use Rattle.hosed.specs.ServerDoor.{seen_of, with_door};
-ghost use Rattle.hose_store.specs.steps.Store.{KeptStore};
+ghost use Rattle.hose_lead.specs.LedStore.{LedState};
 ghost use Rattle.hosed_host.specs.HostBook.{door_tellings};
 ghost use Rattle.hosed_program.specs.Program.{StartOutcome};
 
 use crate::choice::{OwnedOutside, program};
-use crate::front::Fronted;
 use crate::given::Given;
 use crate::hosting::{HostOutside, host_ended};
 use crate::known::{Hints, Known, Troubled};
@@ -20,13 +19,11 @@ use crate::words::program_words;
 use hose_disk::Cabinet;
 use hose_io::{Door, Sink, Source, write_all};
 use hose_net::Doors;
-use hose_offline::{Fault, Refusal, Why};
+use hose_offline::{Fault, Why};
 use hose_pool::Gate;
 use hose_tariff::{Prices, Tariff};
 use hosed::{Context, Ended, asks_to_host};
-use std::fs::File;
 use std::io::{Eprint, Write};
-use std::rt::Files;
 use std::sync::Wait;
 use std::thread::Threads;
 use std::time::Clock;
@@ -35,9 +32,9 @@ use std::time::Clock;
 /// ended, and gives the exit status. The tariffs are the program's three.
 pub fn start<
     R: Threads + Wait + Sync,
-    E: Eprint + Files<File = File>,
+    E: Eprint,
     W: Given,
-    I: Source + Fronted,
+    I: Source,
     O: Sink,
     C: Cabinet + Troubled,
     L: Door + Send,
@@ -60,7 +57,7 @@ pub fn start<
     requires pers { map (λ tariff. tariff.per) tariffs.now ≡ 1 ∷ 0 ∷ 2 ∷ [] }
     ensures { StartOutcome (tellings I.Source O.Sink C.Cabinet C.Disk.Disk)
         (door_tellings D.Doors D.Network.Connections.did
-        (D.Network.Connections.saw (KeptStore C.Disk)))
+        (D.Network.Connections.saw (LedState C.Disk)))
         (offer_of ⟦<Tariff as Prices>⟧.prices (λ tariff. tariff.name) (λ tariff. tariff.base)
         (λ tariff. tariff.per) tariffs.now)
         (with_door world.old.input world.old.output world.old.cabinet
@@ -82,12 +79,11 @@ pub fn start<
                     &mut world.cabinet,
                     host,
                 );
-                tell_host_why(hints.rt, &words, ended, known(hints, world, false));
+                tell_host_why(hints.rt, &words, ended, known(hints, world));
                 return ended.why.status();
             }
             let ended = program(context, &words, tariffs, world);
-            let returning = is_of_return(ended.why, &world.input);
-            tell_why(hints.rt, &words, ended, known(hints, world, returning));
+            tell_why(hints.rt, &words, ended, known(hints, world));
             ended.why.status()
         }
         Err(_) => no_memory(hints.rt, &mut world.output),
@@ -98,25 +94,15 @@ pub fn start<
 fn known<E, I: Source, O: Sink, C: Cabinet + Troubled, L: Door>(
     hints: Hints<'_, E>,
     world: &OwnedOutside<I, O, C, L>,
-    returning: bool,
 ) -> Known {
     Known {
-        returning,
         unread: hints.unread.get(),
         trouble: world.cabinet.last_trouble(),
     }
 }
 
-// Whether the topology in the input was refused in a line in which a carriage return stands.
-fn is_of_return<I: Fronted>(why: Why, input: &I) -> bool {
-    match why {
-        Why::Stopped(Fault::Topology(Refusal::Word { line, word: _ })) => input.returns_in(line),
-        _ => false,
-    }
-}
-
 /// Tells that there is no memory to begin with, and gives the status.
-pub fn no_memory<E: Eprint + Files<File = File>, O: Sink>(errors: &E, output: &mut O) -> u8
+pub fn no_memory<E: Eprint, O: Sink>(errors: &E, output: &mut O) -> u8
     ensures status { result ≡ 7 }
     ensures line { IsOut O.Sink output.old output.new (last_line fault.Memory) }
 {

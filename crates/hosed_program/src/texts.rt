@@ -5,7 +5,7 @@ pub const HELP: &str = "\
 usage: hosed run [--tariff NAME] [JOURNAL] < FILE
        hosed audit [--tariff NAME] TOPOLOGY JOURNAL
        hosed serve [--tariff NAME] TOPOLOGY JOURNAL PORT CONNECTIONS WORKERS
-       hosed host [--tariff NAME] [--operator PATH] [--quiet] TOPOLOGY JOURNAL DOOR ..
+       hosed host [--tariff NAME] [--operator PATH] [--quiet] [STANDBY] TOPOLOGY JOURNAL DOOR ..
        hosed prove [--tariff NAME] TOPOLOGY NAME:RATE ..
        hosed check [--tariff NAME] TOPOLOGY < CERTIFICATE
        hosed price TOPOLOGY < SHEET
@@ -92,6 +92,12 @@ writes `ready` once all doors are open, and a line for each order on standard er
 DOOR is a port at 127.0.0.1, 1 to 65535; or the path of a Unix socket, with a `/` in it; or
 PATH=NAME, where no other name than NAME may be said. PATH of --operator is a socket where operator
 alone may greet, who then may do so at no other door but one of that name.
+
+STANDBY is --standby PATH [--standby-seconds N] [--standby-or-stop]. Behind the Unix socket PATH is
+a `hosed follow`, and each reply waits until it has all orders that the reply tells of. Where
+nothing was heard of it for N seconds, 1 to 3600, 10 if not told, customers are served without it
+until it has all again; with --standby-or-stop the host ends. A host keeps packets of 64 MiB for it:
+what lacks more is brought up by `ship` first.
 
 hosed prove reads a topology from the file TOPOLOGY, as audit does, plans a hose of 2 to 64
 endpoints on the whole network, as if nothing were reserved and whatever links can carry, and writes
@@ -202,6 +208,10 @@ status  comes                           last line
 14      NEW_JOURNAL has another one     differs at N
 15      JOURNAL has M entries, fewer
         than N                          less M
+16      the standby is gone, with
+        --standby-or-stop               standby
+17      the standby has N orders, and
+        the host fewer                  ahead N
 
 What is wrong with NEW_TOPOLOGY or NEW_JOURNAL at a status up to 8 is told after `new `.
 ";

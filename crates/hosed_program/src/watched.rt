@@ -23,20 +23,15 @@ impl<'g, W: Write> Write for Watched<'g, W> {
 
     fn write(&mut self, bytes: &[u8]) -> io::Result<usize> {
         let written = self.writer.write(bytes);
-        if is_of_no_reader(&written) {
-            self.gone.set(true);
+        if let Err(error) = &written {
+            if error.kind() == ErrorKind::BrokenPipe {
+                self.gone.set(true);
+            }
         }
         written
     }
 
     fn flush(&mut self) -> io::Result<()> {
         self.writer.flush()
-    }
-}
-
-fn is_of_no_reader(written: &io::Result<usize>) -> bool {
-    match written {
-        Err(error) => error.kind() == ErrorKind::BrokenPipe,
-        Ok(_) => false,
     }
 }

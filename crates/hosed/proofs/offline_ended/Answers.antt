@@ -1,16 +1,17 @@
-use Rattle.std.proofs.Common.{refl}
+use Rattle.std.proofs.Common.{ap, refl, rules}
 use Rattle.hose_offline.specs.Parts.{parts}
-use Rattle.hosed.proofs.Outcomes.{are_wrong, wrong_words}
+use Rattle.hose_offline.specs.steps.Parts.{held}
+use Rattle.hosed.proofs.Outcomes.{are_wrong, told_of, wrong_words}
 use Rattle.hosed.proofs.offline_ended.Goals as goal
 
 pub returns-in-Ok-clause-outcome : goal.returns-in-Ok-clause-outcome
-returns-in-Ok-clause-outcome g c = c.do_lent.ensures.outcome _ c.in-Ok.ensures
+returns-in-Ok-clause-outcome g c = told_of (held c.do_request.new.outside) (ap held c.of-outside.ensures) (search rules) (search rules) (search rules) (c.do_request.ensures.outcome _ c.in-Ok.ensures)
 
 pub returns-in-Ok-clause-names : goal.returns-in-Ok-clause-names
 returns-in-Ok-clause-names g c = c.named_of.ensures _ _ c.in-Ok.ensures
 
-pub do_lent-requires-clause-words : goal.do_lent-requires-clause-words
-do_lent-requires-clause-words g c = λ _ _. (_, c.in-Ok.ensures)
+pub do_request-requires-clause-words : goal.do_request-requires-clause-words
+do_request-requires-clause-words g c = λ _ _. (_, c.in-Ok.ensures)
 
 pub returns-in-Err-clause-outcome : goal.returns-in-Err-clause-outcome
 returns-in-Err-clause-outcome g c =

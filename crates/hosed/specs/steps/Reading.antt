@@ -2,7 +2,8 @@
 use Rattle.std.specs.Prelude.{◌≡◌, ◌⊎◌, ℕ, ◌+◌, List, [], ◌∷◌, get_or, Bool, true, false, Option, None, Some, MatchResult, Result}
 use Rattle.hose_words.specs.steps.Cursor.{Misses, Took}
 use Rattle.hose_words.specs.Grammar.{IsFirst}
-use Rattle.hosed.specs.ProgramWords.{AsksFor, IsFileName, IsFirstNamed, IsFirstWrong, IsTariffName, IsOtherFile, MayBeTold, argument_words, live_option, program_word, tariff_option, verb_arguments}
+use Rattle.hosed.specs.ProgramWords.{AsksFor, IsFileName, IsFirstNamed, live_option, program_word, tariff_option}
+use Rattle.hosed.specs.steps.Arguments.{IsFirstUnfit, IsTariffName, IsOtherFile, MayBeAsked, argument_words, verb_arguments}
 use Rattle.hosed.specs.steps.ProgramWords.{AreWordsOf, at_word, journal_task}
 use Rattle.hosed.specs.declared.verb.ProgramVerb.{ProgramVerb}
 use Rattle.hosed.specs.declared.verb.ProgramVerb.TheVariants as command
@@ -14,7 +15,7 @@ use Rattle.hosed.specs.declared.words.Request.{Request}
 -- the request of the words, or the first of them that is not allowed
 abbrev pub ReadsRequest : List (List ℕ) → List (List ℕ) → Result Request ℕ → Type 0
 ReadsRequest names words result =
-    MatchResult result (AreWordsOf names words) (IsFirstWrong names words)
+    MatchResult result (AreWordsOf names words) (IsFirstUnfit names words)
 
 -- the second word is not the option, and the others follow from it on
 pub record HasNoTariff (words : List (List ℕ)) (at : ℕ) : Type 0 where
@@ -95,4 +96,4 @@ pub record NamesMove (words : List (List ℕ)) (at next : ℕ) (of to : Names) :
 pub record AreJournalWords (names words : List (List ℕ)) (of : OfJournal) : Type 0 where
   pub are : (verb : ProgramVerb) → AsksFor verb words → words ≡ program_word verb
       ∷ argument_words names (verb_arguments command.Audit) (journal_task of)
-  pub may : MayBeTold names (verb_arguments command.Audit) (journal_task of)
+  pub may : MayBeAsked names (verb_arguments command.Audit) (journal_task of)

@@ -6,36 +6,36 @@ use Rattle.hosed.proofs.Outcomes.{proof_words, right_words}
 use Rattle.hosed.proofs.doing.do_request.Goals as goal
 
 pub returns-in-Run-clause-outcome : goal.returns-in-Run-clause-outcome
-returns-in-Run-clause-outcome g c = λ words are. right_words _ _ _ _ _ _ command.Run _ (rw c.in-Run.is at are) c.run_by.ensures.not_words c.run_by.ensures.outcome
+returns-in-Run-clause-outcome g c = λ words are. right_words _ _ _ _ _ _ command.Run _ (rw c.in-Run.is at are) c.run.ensures.not_words (rw (c.costs_of-by.ensures, c.tariff_of.ensures, c.in-Run.is) at c.run.ensures.outcome)
 
 pub returns-in-Audit-clause-outcome : goal.returns-in-Audit-clause-outcome
-returns-in-Audit-clause-outcome g c = λ words are. right_words _ _ _ _ _ _ command.Audit _ (rw c.in-Audit.is at are) c.audit_by.ensures.not_words c.audit_by.ensures.outcome
+returns-in-Audit-clause-outcome g c = λ words are. right_words _ _ _ _ _ _ command.Audit _ (rw c.in-Audit.is at are) c.audit.ensures.not_words (rw (c.costs_of-by.ensures, c.tariff_of.ensures, c.in-Audit.is) at c.audit.ensures.outcome)
+
+pub returns-in-Check-clause-outcome : goal.returns-in-Check-clause-outcome
+returns-in-Check-clause-outcome g c = λ words are. right_words _ _ _ _ _ _ command.Check _ (rw c.in-Check.is at are) c.check.ensures.not_words (rw (c.costs_of-by.ensures, c.tariff_of.ensures, c.in-Check.is) at c.check.ensures.outcome)
+
+pub returns-in-Ship-clause-outcome : goal.returns-in-Ship-clause-outcome
+returns-in-Ship-clause-outcome g c = λ words are. right_words _ _ _ _ _ _ command.Ship _ (rw c.in-Ship.is at are) c.ship.ensures.not_words (rw (c.costs_of-by.ensures, c.tariff_of.ensures, c.in-Ship.is) at c.ship.ensures.outcome)
+
+pub returns-in-Follow-clause-outcome : goal.returns-in-Follow-clause-outcome
+returns-in-Follow-clause-outcome g c = λ words are. right_words _ _ _ _ _ _ command.Follow _ (rw c.in-Follow.is at are) c.follow.ensures.not_words (rw (c.costs_of-by.ensures, c.tariff_of.ensures, c.in-Follow.is) at c.follow.ensures.outcome)
+
+pub returns-in-Cut-clause-outcome : goal.returns-in-Cut-clause-outcome
+returns-in-Cut-clause-outcome g c = λ words are. right_words _ _ _ _ _ _ command.Cut _ (rw c.in-Cut.is at are) c.cut_journal.ensures.not_words (rw (c.costs_of-by.ensures, c.tariff_of.ensures, c.in-Cut.is) at c.cut_journal.ensures.outcome)
+
+pub returns-in-Move-clause-outcome : goal.returns-in-Move-clause-outcome
+returns-in-Move-clause-outcome g c = λ words are. right_words _ _ _ _ _ _ command.Move _ (rw c.in-Move.is at are) c.move_journal.ensures.not_words (rw (c.costs_of-by.ensures, c.tariff_of.ensures, c.in-Move.is) at c.move_journal.ensures.outcome)
 
 pub returns-in-Generate-clause-outcome : goal.returns-in-Generate-clause-outcome
 returns-in-Generate-clause-outcome g c = λ words are. right_words _ _ _ _ _ _ command.Generate _ (rw c.in-Generate.is at are) c.run_generated.ensures.not_words c.run_generated.ensures.outcome
 
-pub returns-in-Check-clause-outcome : goal.returns-in-Check-clause-outcome
-returns-in-Check-clause-outcome g c = λ words are. right_words _ _ _ _ _ _ command.Check _ (rw c.in-Check.is at are) c.check_by.ensures.not_words c.check_by.ensures.outcome
-
 pub returns-in-Price-clause-outcome : goal.returns-in-Price-clause-outcome
 returns-in-Price-clause-outcome g c = λ words are. right_words _ _ _ _ _ _ command.Price _ (rw c.in-Price.is at are) c.price.ensures.not_words c.price.ensures.outcome
-
-pub returns-in-Ship-clause-outcome : goal.returns-in-Ship-clause-outcome
-returns-in-Ship-clause-outcome g c = λ words are. right_words _ _ _ _ _ _ command.Ship _ (rw c.in-Ship.is at are) c.ship_by.ensures.not_words c.ship_by.ensures.outcome
-
-pub returns-in-Follow-clause-outcome : goal.returns-in-Follow-clause-outcome
-returns-in-Follow-clause-outcome g c = λ words are. right_words _ _ _ _ _ _ command.Follow _ (rw c.in-Follow.is at are) c.follow_by.ensures.not_words c.follow_by.ensures.outcome
-
-pub returns-in-Cut-clause-outcome : goal.returns-in-Cut-clause-outcome
-returns-in-Cut-clause-outcome g c = λ words are. right_words _ _ _ _ _ _ command.Cut _ (rw c.in-Cut.is at are) c.cut_by.ensures.not_words c.cut_by.ensures.outcome
-
-pub returns-in-Move-clause-outcome : goal.returns-in-Move-clause-outcome
-returns-in-Move-clause-outcome g c = λ words are. right_words _ _ _ _ _ _ command.Move _ (rw c.in-Move.is at are) c.move_by.ensures.not_words c.move_by.ensures.outcome
 
 pub returns-in-Prove-clause-outcome : goal.returns-in-Prove-clause-outcome
 returns-in-Prove-clause-outcome g c = λ words are.
     let prove = rw c.in-Prove.is at are in
-    proof_words _ _ _ _ _ _ _ prove.0 (rw prove.1 at c.prove_by.ensures.outcome)
+    proof_words _ _ _ _ _ _ _ prove.0 (rw (c.costs_of-by.ensures, c.tariff_of.ensures, c.in-Prove.is, prove.1) at c.prove.ensures.outcome)
 
 pub run_generated-requires : goal.run_generated-requires
 run_generated-requires g c =
@@ -50,11 +50,11 @@ run_generated-requires g c =
       },
     )
 
-pub prove_by-requires-clause-ends : goal.prove_by-requires-clause-ends
-prove_by-requires-clause-ends g c = λ _ _. (rw c.in-Prove.is at c.requires.words.1).0.may.2
+pub prove-requires-clause-ends : goal.prove-requires-clause-ends
+prove-requires-clause-ends g c = λ _ _. (rw c.in-Prove.is at c.requires.words.1).0.may.2
 
-pub prove_by-requires-clause-first : goal.prove_by-requires-clause-first
-prove_by-requires-clause-first g c = λ _ _. first_small c.in-Prove.of.tariff c.in-Prove.first (rw c.in-Prove.is at c.requires.words.1).1
+pub prove-requires-clause-first : goal.prove-requires-clause-first
+prove-requires-clause-first g c = λ _ _. first_small c.in-Prove.of.tariff c.in-Prove.first (rw c.in-Prove.is at c.requires.words.1).1
 
 pub price-requires-clause-some : goal.price-requires-clause-some
 price-requires-clause-some g c = omega (arith, (rw c.in-Price.is at c.requires.words.1).available.0, length-map c.args.tariffs.now (λ tariff. tariff.name))

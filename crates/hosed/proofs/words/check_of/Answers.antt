@@ -1,7 +1,7 @@
 use Rattle.std.proofs.Common.{◌≡◌, Err, map, rules}
 use Rattle.std.specs.String.{string_bytes}
 use Rattle.hosed.specs.declared.verb.ProgramVerb.TheVariants as command
-use Rattle.hosed.specs.ProgramWords.Operands.{no_more}
+use Rattle.hosed.specs.steps.Arguments.Operands.{no_more}
 use Rattle.hosed.proofs.Commands.{no_topology, topology_then, verb_wrong}
 use Rattle.hosed.proofs.words.check_of.Goals as goal
 

@@ -1,9 +1,9 @@
 use Rattle.std.proofs.Common.{◌≡◌, ℕ, ◌+◌, List, Err, arith, map, rules}
 use Rattle.std.specs.String.{string_bytes}
 use Rattle.hose_graph.specs.Limits.{most_epoch}
-use Rattle.hosed.specs.ProgramWords.{Operands, number_and}
-use Rattle.hosed.specs.ProgramWords.Operand.{number_within, other_name}
-use Rattle.hosed.specs.ProgramWords.Operands.{next_word, no_more}
+use Rattle.hosed.specs.steps.Arguments.{Operands, number_operand}
+use Rattle.hosed.specs.steps.Arguments.Operand.{number_within, other_name}
+use Rattle.hosed.specs.steps.Arguments.Operands.{next_word, no_more}
 use Rattle.hosed.specs.declared.verb.ProgramVerb.TheVariants as command
 use Rattle.hosed.proofs.Commands.{named_journal_then, no_named_journal, no_number, no_other_name, took_to, value_then, verb_wrong}
 use Rattle.hosed.proofs.words.cut_of.Goals as goal
@@ -13,7 +13,7 @@ abbrev of_count : List ℕ → ℕ → Operands
 of_count journal count = next_word (other_name journal) (λ new_journal. no_more)
 
 abbrev of_journal : List ℕ → Operands
-of_journal journal = number_and 0 most_epoch (of_count journal)
+of_journal journal = number_operand 0 most_epoch (of_count journal)
 
 pub returns-in_err-of : goal.returns-in_err-of
 returns-in_err-of g c =

@@ -2,22 +2,22 @@ use Rattle.std.proofs.Common.{◌≡◌, ℕ, ◌-◌, ◌^◌, Err, arith, map,
 use Rattle.std.specs.String.{string_bytes}
 use Rattle.hose_gen.specs.Limits.{least_nodes, most_hoses}
 use Rattle.hose_graph.specs.Limits.{most_links, most_nodes}
-use Rattle.hosed.specs.ProgramWords.{Operands, number_and}
-use Rattle.hosed.specs.ProgramWords.Operand.{number_within}
-use Rattle.hosed.specs.ProgramWords.Operands.{no_more}
+use Rattle.hosed.specs.steps.Arguments.{Operands, number_operand}
+use Rattle.hosed.specs.steps.Arguments.Operand.{number_within}
+use Rattle.hosed.specs.steps.Arguments.Operands.{no_more}
 use Rattle.hosed.specs.declared.verb.ProgramVerb.TheVariants as command
 use Rattle.hosed.proofs.Commands.{no_number, value_then, verb_wrong}
 use Rattle.hosed.proofs.words.generate_of.Goals as goal
 
 -- what stands after the numbers of hoses, of links, of nodes, and after the seed
 abbrev of_links : ℕ → Operands
-of_links links = number_and 0 most_hoses (λ hoses. no_more)
+of_links links = number_operand 0 most_hoses (λ hoses. no_more)
 
 abbrev of_nodes : ℕ → Operands
-of_nodes nodes = number_and (nodes - 1) most_links of_links
+of_nodes nodes = number_operand (nodes - 1) most_links of_links
 
 abbrev of_seed : ℕ → Operands
-of_seed seed = number_and least_nodes most_nodes of_nodes
+of_seed seed = number_operand least_nodes most_nodes of_nodes
 
 pub returns-in_err-seed : goal.returns-in_err-seed
 returns-in_err-seed c =

@@ -1,5 +1,5 @@
 use Rattle.std.proofs.Common.{◌≡◌, Err, rules}
-use Rattle.hosed.specs.ProgramWords.Operands.{no_more}
+use Rattle.hosed.specs.steps.Arguments.Operands.{no_more}
 use Rattle.hosed.proofs.Commands.{ends_at_journal, journal_then, no_journal}
 use Rattle.hosed.proofs.words.journal_of.Goals as goal
 

@@ -1,7 +1,7 @@
 use Rattle.std.proofs.Common.{◌≡◌, Err, map, rules}
 use Rattle.std.specs.String.{string_bytes}
 use Rattle.hosed.specs.declared.verb.ProgramVerb.TheVariants as command
-use Rattle.hosed.specs.ProgramWords.Operands.{end_words}
+use Rattle.hosed.specs.steps.Arguments.Operands.{end_words}
 use Rattle.hosed.proofs.Commands.{no_topology, topology_then, verb_wrong}
 use Rattle.hosed.proofs.words.prove_of.Goals as goal
 

@@ -2,19 +2,19 @@ use Rattle.std.proofs.Common.{◌≡◌, ℕ, ◌+◌, Err, arith, map, rules}
 use Rattle.std.specs.String.{string_bytes}
 use Rattle.hose_pool.specs.Limits.{most_workers}
 use Rattle.hosed.specs.Limits.{most_connections}
-use Rattle.hosed.specs.ProgramWords.{Operands, number_and, server_numbers}
-use Rattle.hosed.specs.ProgramWords.Operand.{number_within}
-use Rattle.hosed.specs.ProgramWords.Operands.{no_more}
+use Rattle.hosed.specs.steps.Arguments.{Operands, number_operand, server_numbers}
+use Rattle.hosed.specs.steps.Arguments.Operand.{number_within}
+use Rattle.hosed.specs.steps.Arguments.Operands.{no_more}
 use Rattle.hosed.specs.declared.verb.ProgramVerb.TheVariants as command
 use Rattle.hosed.proofs.Commands.{journal_then, no_journal, no_number, took_to, value_then, verb_wrong}
 use Rattle.hosed.proofs.words.serve_of.Goals as goal
 
 -- what stands after the connections of a server, and after its port
 abbrev of_connections : ℕ → Operands
-of_connections connections = number_and 1 most_workers (λ workers. no_more)
+of_connections connections = number_operand 1 most_workers (λ workers. no_more)
 
 abbrev of_port : ℕ → Operands
-of_port port = number_and 1 most_connections of_connections
+of_port port = number_operand 1 most_connections of_connections
 
 pub returns-in_err-of-clause-wrong : goal.returns-in_err-of-clause-wrong
 returns-in_err-of-clause-wrong g c =

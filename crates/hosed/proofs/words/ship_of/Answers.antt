@@ -1,8 +1,8 @@
 use Rattle.std.proofs.Common.{◌≡◌, Err, arith, map, rules}
 use Rattle.std.specs.String.{string_bytes}
-use Rattle.hosed.specs.ProgramWords.{Operands, number_and}
-use Rattle.hosed.specs.ProgramWords.Operand.{number_within}
-use Rattle.hosed.specs.ProgramWords.Operands.{no_more}
+use Rattle.hosed.specs.steps.Arguments.{Operands, number_operand}
+use Rattle.hosed.specs.steps.Arguments.Operand.{number_within}
+use Rattle.hosed.specs.steps.Arguments.Operands.{no_more}
 use Rattle.hose_graph.specs.Limits.{most_epoch}
 use Rattle.hosed.specs.declared.verb.ProgramVerb.TheVariants as command
 use Rattle.hosed.proofs.Commands.{journal_then, no_journal, no_number, value_then, verb_wrong}
@@ -10,7 +10,7 @@ use Rattle.hosed.proofs.words.ship_of.Goals as goal
 
 -- the epoch from which on entries are shipped
 abbrev from_epoch : Operands
-from_epoch = number_and 1 most_epoch (λ from. no_more)
+from_epoch = number_operand 1 most_epoch (λ from. no_more)
 
 pub returns-in_err-of : goal.returns-in_err-of
 returns-in_err-of g c =
