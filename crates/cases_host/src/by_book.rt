@@ -82,6 +82,6 @@ fn tell_why<R: Print>(rt: &R, why: HostWhy) -> io::Result<()> {
                 name_of(trouble)
             )
         }
-        HostWhy::Ended(_) => println!(rt; "    status {status}"),
+        _ => println!(rt; "    status {status}"),
     }
 }

@@ -2,8 +2,10 @@
 ghost use Rattle.std.specs.Prelude.{◌≡◌, ℕ, List, Option, ⊤};
 ghost use Rattle.cases_host.specs.steps.Numbers.{Numbering, is_new_at, is_over_at, stage_at, text_of};
 
+use crate::outgoing::Outgoing;
 use hose_host::HostAnswers;
 use hose_io::{Failed, Sink, write_all};
+use hose_net::Hold;
 use hose_words::Line;
 use itoa::Buffer;
 use std::alloc::{AllocError, Global};
@@ -36,16 +38,25 @@ impl Model for Numbered {
 
 /// It answers each line by its number, the place and the door, a `+` at a connection's first line,
 /// and the line. After `bye` a connection is over, after `end` all are. At the first eight places
-/// alone it knows who is new there.
+/// alone it knows who is new there. A standby is sent `hello`, the last number where that is new,
+/// and `?` where it is asked for a sign of life; it says `have N`, and the link is of no use after
+/// `bye`.
 #[derive(Drop)]
 pub struct Counter {
     alloc: Global,
     count: u64,
     stages: Vec<Stage>,
     ended: bool,
+    standby: Option<String>,
+    unsent: Outgoing,
+    told: u64,
+    heard: Option<u64>,
+    bye: bool,
 }
 
 impl Model for Counter {
+    ghost use Rattle.std.specs.Prelude.{option_map};
+    ghost use Rattle.std.specs.String.{string_bytes};
     ghost use Rattle.cases_host.specs.steps.Numbers.{Numbering};
 
     ghost Value = { Numbering };
@@ -54,11 +65,14 @@ impl Model for Counter {
       count = counter.count;
       stages = counter.stages.items;
       ended = counter.ended;
+      standby = option_map (λ path. string_bytes path) counter.standby;
+      unsent = counter.unsent;
     } };
 }
 
 impl Counter {
-    pub fn new(alloc: Global) -> Result<Counter, AllocError> {
+    /// One that may have a standby.
+    pub fn new(alloc: Global, standby: Option<String>) -> Result<Counter, AllocError> {
         let mut stages = Vec::new(alloc);
         for _ in 0..PLACES {
             stages.push(Stage::Known)?;
@@ -68,7 +82,22 @@ impl Counter {
             count: 0,
             stages,
             ended: false,
+            standby,
+            unsent: Outgoing::new(alloc),
+            told: 0,
+            heard: None,
+            bye: false,
         })
+    }
+
+    // Takes in a line of the standby.
+    fn take_answer(&mut self, line: &str)
+        ensures { self.new ≡ self.old }
+    {
+        match line.strip_prefix("have ") {
+            Some(number) => self.heard = number.parse().ok(),
+            None => self.bye = line == "bye",
+        }
     }
 
     // What is known of who is at a place.
@@ -87,14 +116,14 @@ impl HostAnswers for Counter {
 
     type Kept = u64;
 
-    ghost use Rattle.std.specs.Prelude.{ℕ, List, ⊤};
+    ghost use Rattle.std.specs.Prelude.{ℕ, List, Option, true, ⊤};
     ghost use Rattle.cases_host.specs.steps.Numbers.{is_new_at, is_over_at, stage_at, text_of};
 
     ghost said = { ⊤ };
 
-    ghost subject = { ⊤ };
+    ghost subject = { Option (List ℕ) };
 
-    ghost about = { λ _. tt };
+    ghost about = { λ counter. counter.standby };
 
     ghost says = { λ _ _ _ _ _. ⊤ };
 
@@ -102,7 +131,15 @@ impl HostAnswers for Counter {
 
     ghost origin = { ⊤ };
 
-    ghost comes = { λ _ _ _. ⊤ };
+    ghost standby_at = { λ standby. standby };
+
+    ghost goes_alone = { λ _. true };
+
+    ghost comes = { λ _ _ _ _. ⊤ };
+
+    ghost leads = { λ _ _ _ _. ⊤ };
+
+    ghost is_ahead = { λ _ _ _ _. ⊤ };
 
     ghost stands = { λ _ _ _. ⊤ };
 
@@ -117,6 +154,8 @@ impl HostAnswers for Counter {
     ghost ends = { λ counter. counter.ended };
 
     ghost count = { λ counter. counter.count };
+
+    ghost unsent = { λ counter. counter.unsent };
 
     fn begin(&mut self, _door: usize, place: usize) -> Result<(), AllocError> {
         if place >= self.stages.len() {
@@ -171,6 +210,85 @@ impl HostAnswers for Counter {
     fn is_ending(&self) -> bool {
         self.ended
     }
+
+    fn standby(&self) -> Option<&str> {
+        match &self.standby {
+            Some(path) => Some(path.as_str()),
+            None => None,
+        }
+    }
+
+    fn may_go_alone(&self) -> bool {
+        true
+    }
+
+    fn patience(&self) -> (u64, u64) {
+        (60, 10)
+    }
+
+    fn link_opened(&mut self) {
+        self.unsent = Outgoing::new(self.alloc);
+        self.unsent.add(b"hello\n");
+        self.told = 0;
+        self.heard = None;
+        self.bye = false;
+    }
+
+    fn take_in(&mut self, bytes: &[u8]) {
+        let text = std::str::from_utf8(bytes).unwrap_or("");
+        self.take_answer(text.strip_suffix("\n").unwrap_or(text));
+    }
+
+    fn gather(&mut self, asks: bool) {
+        if asks {
+            self.unsent.add(b"?\n");
+        }
+        if self.told == self.count {
+            return;
+        }
+        self.told = self.count;
+        let mut buffer = Buffer::new();
+        self.unsent.add(buffer.format(self.count).as_bytes());
+        self.unsent.add(b"\n");
+    }
+
+    fn unsent(&self) -> &[u8] {
+        self.unsent.unsent()
+    }
+
+    fn was_sent(&mut self, sent: usize) {
+        self.unsent.was_sent(sent);
+    }
+
+    fn heard(&self) -> Option<u64> {
+        match self.heard {
+            Some(heard) => {
+                if heard > self.count {
+                    return None;
+                }
+                Some(heard)
+            }
+            None => None,
+        }
+    }
+
+    fn ahead(&self) -> Option<u64> {
+        match self.heard {
+            Some(heard) => {
+                if heard > self.count {
+                    return Some(heard);
+                }
+                None
+            }
+            None => None,
+        }
+    }
+
+    fn is_link_over(&self) -> bool {
+        self.bye
+    }
+
+    fn tell_hold(&mut self, _hold: Hold) {}
 }
 
 fn is_bye(line: Line<'_>) -> bool {

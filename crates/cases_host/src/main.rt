@@ -2,11 +2,12 @@
 //! line is an act, and an empty line ends a script; in the bytes that a connection gives, `/` is a
 //! line feed. Where the words of a host stand in a script, its lines are answered by the book of a
 //! journal at the doors of these words, of which `shut` has one that cannot be opened; else lines
-//! are counted.
+//! are counted, and `standby` says where a standby is.
 #![tactic(auto)]
 
 mod by_book;
 mod counter;
+mod outgoing;
 mod script;
 mod telling;
 
@@ -17,7 +18,7 @@ use hose_net::MemConnections;
 use script::Script;
 use std::alloc::Global;
 use std::io;
-use telling::tell;
+use telling::{tell, tell_parting};
 
 /// How many bytes a write takes at most.
 pub const ROOM: usize = 40;
@@ -49,7 +50,8 @@ fn count_lines<R: Print + std::sync::Wait>(
     script: Script,
 ) -> io::Result<()> {
     let mut network = MemConnections::new(alloc, script.acts, ROOM);
-    let mut answers = Counter::new(alloc)?;
-    host(rt, alloc, &mut network, &mut answers);
-    tell(rt, network.happened())
+    let mut answers = Counter::new(alloc, script.standby)?;
+    let why = host(rt, alloc, &mut network, &mut answers);
+    tell(rt, network.happened())?;
+    tell_parting(rt, why)
 }

@@ -9,6 +9,8 @@ pub struct Script {
     pub words: Vec<String>,
     /// The door that cannot be opened, by its place, and why.
     pub shut: Option<(usize, DoorTrouble)>,
+    /// The path of a standby, where lines are counted.
+    pub standby: Option<String>,
     pub acts: VecDeque<Act>,
 }
 
@@ -17,6 +19,7 @@ impl Script {
         Script {
             words: Vec::new(alloc),
             shut: None,
+            standby: None,
             acts: VecDeque::new(alloc),
         }
     }
@@ -27,12 +30,15 @@ impl Script {
         if verb == "host" {
             return self.add_words(alloc, line);
         }
+        if verb == "standby" {
+            self.standby = Some(String::from_str(alloc, words)?);
+        }
         let (number, text) = words.split_once(' ').unwrap_or((words, ""));
         let at: usize = number.parse().ok().unwrap_or(0);
         if verb == "shut" {
             self.shut = Some((at, trouble_of(text)));
         }
-        if let Some(act) = act_of(alloc, verb, at, text)? {
+        if let Some(act) = act_of(alloc, verb, words, at, text)? {
             self.acts.push_back(act)?;
         }
         Ok(())
@@ -47,14 +53,24 @@ impl Script {
 }
 
 // The act that a line is, if it is one.
-fn act_of(alloc: Global, verb: &str, at: usize, text: &str) -> Result<Option<Act>, AllocError> {
+fn act_of(
+    alloc: Global,
+    verb: &str,
+    words: &str,
+    at: usize,
+    text: &str,
+) -> Result<Option<Act>, AllocError> {
     match verb {
         "comes" => Ok(Some(Act::Comes(at))),
         "gives" => Ok(Some(Act::Gives(at, bytes_of(alloc, text)?))),
         "stalls" => Ok(Some(Act::Stalls(at))),
         "takes" => Ok(Some(Act::Takes(at))),
         "ends" => Ok(Some(Act::Ends(at))),
-        "hears" => Ok(Some(Act::Hears(at as u64))),
+        "reaches" => Ok(Some(Act::Reaches)),
+        "passes" => Ok(Some(Act::Passes)),
+        "answers" => Ok(Some(Act::Answers(bytes_of(alloc, words)?))),
+        "breaks" => Ok(Some(Act::Breaks)),
+        "late" => Ok(Some(Act::IsLate)),
         _ => Ok(None),
     }
 }

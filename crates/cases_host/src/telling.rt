@@ -1,5 +1,5 @@
 // What happened, in lines.
-use hose_net::{DoorTrouble, DoorsEvent, DoorsFault, Happened, KeptAddress};
+use hose_net::{DoorTrouble, DoorsEvent, DoorsFault, Happened, KeptAddress, Parting};
 use std::io;
 
 /// What happened at connections.
@@ -13,12 +13,29 @@ pub fn tell<R: Print>(rt: &R, happened: &[Happened]) -> io::Result<()> {
                 println!(rt; "    {place} was sent {text:?}")?;
             }
             Happened::Refused(place) => println!(rt; "    {place} took no more")?,
-            Happened::Heard(upto) => println!(rt; "    heard {upto}")?,
+            Happened::Opened(path) => println!(rt; "    the link was opened to {path}")?,
+            Happened::Gave(bytes) => println!(rt; "    the link gave {}", bytes.len())?,
+            Happened::Took(bytes) => {
+                let text = std::str::from_utf8(bytes).unwrap_or("?");
+                println!(rt; "    the link was sent {text:?}")?;
+            }
+            Happened::Closed => println!(rt; "    the link was closed")?,
+            Happened::Late => println!(rt; "    the standby is late")?,
             Happened::Left(place) => println!(rt; "    {place} left")?,
             Happened::Stopped => println!(rt; "    was told to stop")?,
         }
     }
     Ok(())
+}
+
+/// Why a host ended.
+pub fn tell_parting<R: Print>(rt: &R, why: Parting) -> io::Result<()> {
+    match why {
+        Parting::Asked => println!(rt; "    ended: asked"),
+        Parting::Told => println!(rt; "    ended: told"),
+        Parting::Late => println!(rt; "    ended: late"),
+        Parting::Ahead(count) => println!(rt; "    ended: ahead {count}"),
+    }
 }
 
 /// What was done with doors.
