@@ -16,9 +16,10 @@ value after N entries both ends have the same ones, and what is sent from there 
 history.
 """
 import re
-from typing import NamedTuple, Optional
+from hashlib import sha256
+from typing import Callable, Iterator, List, NamedTuple, Optional
 
-from journals import VALUE, Record
+from journals import MOST_BODY, VALUE, Record
 from live_journal import LiveJournal, OtherHistory
 
 FRONT = 2 + 4 + VALUE  # bytes of a packet before its body
@@ -31,6 +32,16 @@ DIFFERS = re.compile("differs at ([0-9]{1,10}) ([0-9a-f]{64}) ([0-9a-f]{64})")
 
 class WrongAnswer(Exception):
     """A line that no follower answers there, as one sentence."""
+
+
+class Packet(NamedTuple):
+    epoch: int
+    before: bytes
+    body: bytes
+
+    def after(self) -> bytes:
+        """The chain value behind its entry."""
+        return sha256(self.before + self.body).digest()
 
 
 class Answer(NamedTuple):
@@ -48,6 +59,31 @@ def packet(epoch: int, before: bytes, body: bytes) -> bytes:
 
 def packet_of(record: Record) -> bytes:
     return packet(record.epoch, record.before, record.body)
+
+
+def packet_at(held: bytes, at: int = 0) -> Optional[Packet]:
+    """The packet that begins there, if it is there whole."""
+    size, front = int.from_bytes(held[at:at + 2], "big"), at + FRONT
+    if len(held) >= at + 2 and not 1 <= size <= MOST_BODY:
+        raise WrongAnswer("what came is no packet")
+    if len(held) < front + max(1, size):
+        return None
+    epoch = int.from_bytes(held[at + 2:at + 6], "big")
+    return Packet(epoch, held[at + 6:front], held[front:front + size])
+
+
+def packets_of(read: Callable[[], bytes]) -> Iterator[List[Packet]]:
+    """The packets whose ends came with each piece of a stream."""
+    held = b""
+    for piece in iter(read, b""):
+        held, at, found = held + piece, 0, []
+        packet = packet_at(held)
+        while packet:
+            at += FRONT + len(packet.body)
+            found.append(packet)
+            packet = packet_at(held, at)
+        held = held[at:]
+        yield found
 
 
 def read_answer(line: str) -> Answer:

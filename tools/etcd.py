@@ -1,0 +1,123 @@
+"""etcd 3.4 by its JSON gateway: transactions and leases over http or https.
+
+A call goes to one member after another until one answers. So it may be done twice, or be done after
+`Unsure` was raised: whoever changes something does so by a transaction that compares what it
+changes.
+"""
+import base64
+import http.client
+import json
+import ssl
+from typing import Dict, List, NamedTuple, Optional, Tuple
+from urllib.parse import urlsplit
+
+REFUSALS = 3, 5, 9, 11  # gRPC's codes where asking again gives the same: 5 is a lease that is gone
+SECONDS = 1.0  # for which one member is waited for
+
+
+class Unsure(Exception):
+    """No member has said that it is done, nor that it is not."""
+
+
+class Refused(Exception):
+    """etcd says no, as for a lease that is gone."""
+
+
+class Value(NamedTuple):
+    key: str
+    value: bytes
+    created: int
+    """The revision at which the key came to be."""
+
+
+def coded(text) -> str:
+    return base64.b64encode(text.encode() if isinstance(text, str) else text).decode()
+
+
+# ---- Parts of a transaction.
+
+
+def put(key: str, value: bytes, lease: int = 0) -> Dict:
+    return {"request_put": {"key": coded(key), "value": coded(value), "lease": str(lease)}}
+
+
+def get(key: str, end: str = "", **more) -> Dict:
+    return {"request_range": {"key": coded(key), "range_end": coded(end), **more}}
+
+
+def delete(key: str, end: str) -> Dict:
+    return {"request_delete_range": {"key": coded(key), "range_end": coded(end)}}
+
+
+def value_is(key: str, value: bytes) -> Dict:
+    return {"key": coded(key), "target": "VALUE", "value": coded(value)}
+
+
+def created_at(key: str, revision: int) -> Dict:
+    """That a key is there since a revision; that it is not there, for 0."""
+    return {"key": coded(key), "target": "CREATE", "create_revision": str(revision)}
+
+
+def none_in(key: str, end: str) -> Dict:
+    return {"key": coded(key), "range_end": coded(end), "target": "VERSION", "version": "0"}
+
+
+def values(answer: Dict) -> List[Value]:
+    return [Value(base64.b64decode(one["key"]).decode(), base64.b64decode(one.get("value", "")),
+                  int(one["create_revision"]))
+            for one in answer.get("response_range", {}).get("kvs", [])]
+
+
+class Etcd:
+    """Its members by their URLs, with commas between them. It serves one thread."""
+
+    def __init__(self, urls: str, tls: Optional[ssl.SSLContext] = None):
+        self.urls, self.tls = urls, tls
+        self._places = [urlsplit(url) for url in urls.split(",")]
+        self._link: Optional[http.client.HTTPConnection] = None
+
+    def call(self, path: str, question: Dict) -> Dict:
+        fault: Exception = OSError("there is none")
+        for _ in self._places:
+            try:
+                return self._ask(path, question)
+            except (OSError, http.client.HTTPException, ValueError) as this:
+                fault = this
+                if self._link:
+                    self._link.close()
+                self._link, self._places = None, self._places[1:] + self._places[:1]
+        raise Unsure(f"no member of etcd answers: {fault}")
+
+    def _ask(self, path: str, question: Dict) -> Dict:
+        if self._link is None:
+            scheme, place = self._places[0][:2]
+            self._link = http.client.HTTPConnection(place, timeout=SECONDS) if scheme == "http" \
+                else http.client.HTTPSConnection(place, timeout=SECONDS, context=self.tls)
+        self._link.request("POST", path, json.dumps(question))
+        response = self._link.getresponse()
+        answer = json.loads(response.read())
+        if response.status == 200 and "error" not in answer:
+            return answer
+        if answer.get("code") in REFUSALS:
+            raise Refused(answer["error"])
+        raise OSError(str(answer.get("error")))
+
+    def transact(self, compare: List[Dict], success: List[Dict]) -> Tuple[bool, List[List[Value]]]:
+        """Whether what is compared holds, and what was found where it does."""
+        answer = self.call("/v3/kv/txn", {"compare": compare, "success": success})
+        return answer.get("succeeded", False), list(map(values, answer.get("responses", [])))
+
+    def grant(self, seconds: int) -> int:
+        return int(self.call("/v3/lease/grant", {"TTL": seconds})["ID"])
+
+    def keep_alive(self, lease: int) -> int:
+        """The seconds that a lease has from now on; 0 where it is gone."""
+        return int(self.call("/v3/lease/keepalive", {"ID": str(lease)})["result"].get("TTL", 0))
+
+    def revoke(self, lease: int) -> None:
+        self.call("/v3/lease/revoke", {"ID": str(lease)})
+
+    def compact(self, key: str) -> None:
+        """Lets go of what keys were before now. `key` is any."""
+        here = self.call("/v3/kv/range", {"key": coded(key)})["header"]["revision"]
+        self.call("/v3/kv/compaction", {"revision": here, "physical": True})
