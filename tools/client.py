@@ -187,7 +187,7 @@ def answers(reply: Reply, line: str) -> bool:
         return False
     if isinstance(reply, Newest):
         return command == "admit-after" and str(reply.id) != number
-    return isinstance(reply, Refusal) or type(reply) is DONE.get(command)
+    return isinstance(reply, (Refusal, DONE.get(command, ())))
 
 
 def hose(ends: Mapping[str, int]) -> str:

@@ -50,13 +50,28 @@ _hosed() {
         [[ ${words[${#words[@]} - place + 1]} == --live ]] && ((place > 2)) && place=$((place - 1))
     fi
     if [[ $verb == host ]]; then
-        ((place == 2)) && _hosed_words "--operator --quiet"
-        if [[ ${words[${#words[@]} - place + 1]} == --operator ]] && ((place > 2)); then
-            ((place == 3)) && _hosed_files && return
-            place=$((place - 2))
-            ((place == 2)) && _hosed_words --quiet
-        fi
-        [[ ${words[${#words[@]} - place + 1]} == --quiet ]] && ((place > 2)) && place=$((place - 1))
+        # Options stand in one order: `next` are those that may come behind the last one.
+        local option next="--operator --quiet --standby"
+        while ((place > 2)); do
+            option=${words[${#words[@]} - place + 1]}
+            case $option in
+                --operator) next="--quiet --standby" ;;
+                --quiet) next=--standby ;;
+                --standby) next="--standby-seconds --standby-or-stop" ;;
+                --standby-seconds) next=--standby-or-stop ;;
+                --standby-or-stop) next= ;;
+                *) break ;;
+            esac
+            place=$((place - 1))
+            if [[ $option == --operator || $option == --standby || $option == --standby-seconds ]]; then
+                if ((place == 2)); then
+                    [[ $option == --standby-seconds ]] || _hosed_files
+                    return
+                fi
+                place=$((place - 1))
+            fi
+        done
+        ((place == 2)) && _hosed_words "$next"
     fi
     [[ $typed == -* ]] && return
     case $verb:$place in

@@ -93,6 +93,8 @@ REPLIES.update({
                "over-100ms <over_100ms> over-1s <over_1s> over-10s <over_10s> "
                "synced <synced> at <epoch>",
 })
+# and where replies wait for a standby
+REPLIES["FiguresWithStandby"] = REPLIES["Figures"] + " standby <standby> alone <alone>"
 
 ORDERS = tuple(word for word, command in COMMANDS.items() if command.entered)
 """The commands that may leave an entry."""

@@ -9,8 +9,8 @@ room of its file system; with --operator what a host tells at its operator's doo
 lines, orders by their replies, lost lines of the log, how long orders and quotes took, and when an
 order was on the disk last, so that `hosed_up` is an answer of the host; with --ask whether a server
 answers a question, and in which time, by a session of the customer `metrics` that stays open; with
---figures what tools/standby.py, or a front, writes into a file by its own --figures. A file older
-than 30 seconds is left out, and `hosed_figures_age_seconds` tells its age. They are written once
+--figures what tools/standby.py writes into a file by its own --figures. A file older than 30 seconds
+is left out, and `hosed_figures_age_seconds` tells its age. They are written once
 
 - as a text for Prometheus, on standard output, or to the file of --write, which is replaced as a
   whole, as the textfile collector of node_exporter wants it; with --every again and again, and
@@ -257,7 +257,7 @@ def words_of() -> argparse.ArgumentParser:
     words.add_argument("--as", metavar="NAME", dest="customer", default=server_state.NAME,
                        help=f"the customer who asks there ({server_state.NAME})")
     words.add_argument("--figures", metavar="FILE", action="append", default=[],
-                       help="figures of a standby or a front, which are told, too; may come again")
+                       help="figures of standby.py, which are told, too; may come again")
     words.add_argument("--every", metavar="SECONDS", type=number_word(1, 86_400),
                        help="write again and again, with a pause of so long")
     return networks.add_tariff(words)

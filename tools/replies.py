@@ -154,6 +154,17 @@ class Figures(Reply):
     epoch: int
 
 
+@dataclass
+class FiguresWithStandby(Figures):
+    """And how far the standby is for which replies wait."""
+
+    line = "FiguresWithStandby"
+    standby: int
+    """Orders that it was heard to have."""
+    alone: int
+    """1 where the host goes on without it, else 0."""
+
+
 @dataclass(eq=False)
 class Refused(Refusal):
     line = "Refused"
@@ -307,6 +318,7 @@ def reader_of(kind):
 
 KINDS = [
     Welcome, Admitted, Quoted, Released, Vpn, Vpns, LinkState, Down, Up, Bye, Ending, Figures,
+    FiguresWithStandby,
     *Refusal.__subclasses__(),
 ]
 READERS = {}  # by the first word

@@ -1,6 +1,5 @@
 """What is seen of a server from beside it: whether a program has its journal open, whether it
-answers a question, what a host tells its operator, and what its front and its standby write into
-files of their own.
+answers a question, what a host tells its operator, and what tools/standby.py writes into a file.
 
 Nothing of this asks anything of a server but to answer a question as a customer, or a host to tell
 its figures.
@@ -11,12 +10,13 @@ import time
 from typing import Dict, Iterator, List, Optional
 
 import client
+import replies
 from figures import Family, Histogram, Sample, gauge
 
 LOCKS = "/proc/locks"
 LOCK = re.compile(r"[0-9]+: (?!->).* ([0-9a-f]+:[0-9a-f]+):([0-9]+) [0-9]+ \S+")
 PATIENCE = 5.0  # seconds for an answer
-FRESH = 30.0  # seconds for which a file of figures holds; a front writes its own every five
+FRESH = 30.0  # seconds for which a file of figures holds; standby.py writes its own every few
 NAME, OPERATOR = "metrics", "operator"
 
 
@@ -136,6 +136,11 @@ def of_host(told: client.Figures, now: float) -> Iterator[Family]:
                 "When an order was on the disk last, or the host began, in seconds since 1970.",
                 f"{now - told.synced / 1000:.3f}")
     yield gauge("hosed_host_epoch", "Orders in the host's book.", told.epoch)
+    if isinstance(told, replies.FiguresWithStandby):
+        yield gauge("hosed_host_standby_epoch", "Orders that the standby was heard to have.",
+                    told.standby)
+        yield gauge("hosed_host_alone", "1 where the host goes on without its standby, else 0.",
+                    told.alone)
 
 
 def reply_times(told: client.Figures) -> Iterator[Sample]:
@@ -152,7 +157,7 @@ def reply_times(told: client.Figures) -> Iterator[Sample]:
 
 
 class Figures:
-    """Files which a front or tools/standby.py replaces again and again."""
+    """Files which tools/standby.py replaces again and again."""
 
     def __init__(self, paths: List[str]):
         self.paths = paths
@@ -181,6 +186,6 @@ class Figures:
     def families(self) -> Iterator[Family]:
         if self.paths:
             yield Family("hosed_figures_age_seconds", "gauge",
-                         "How old a file of figures is, of a front or a standby.",
+                         "How old a file of figures is, of standby.py.",
                          [Sample({"file": path}, "+Inf" if age == float("inf") else f"{age:.3f}")
                           for path, age in self.ages().items()])

@@ -19,13 +19,9 @@ has descriptors for few customers at a time, or whose accepts fail, serves all o
 a socket lies that nobody serves is taken over; one that is served, and a file, are left alone, and
 so is at the end what another program put at a host's path.
 
-With --front the first part is tried on `tools/front.py` over the PROGRAM, whose sessions go on for
-as long as a customer wants: the status at a port that is taken is 23, and a front that has
-descriptors for few customers at a time serves all of many.
-
 Prints what each was answered; or the first difference, and ends with status 1.
 
-usage: bench/judge/bad_clients.py [--host | --front] [PROGRAM]
+usage: bench/judge/bad_clients.py [--host] [PROGRAM]
 The PROGRAM (./hosed) is seen from the top of the repository.
 """
 
@@ -42,8 +38,7 @@ import time
 sys.path.insert(0, os.path.join(os.path.dirname(os.path.abspath(__file__)), "..", "parts"))
 from usage import tell_usage
 
-from histories import HANGS, TRIES, WAYS, Differs, client, same, start, start_front, start_host
-from histories import told_of_front, told_of_host, way_of
+from histories import HANGS, TRIES, Differs, client, same, start, start_host, told_of_host, way_of
 
 HOST = "127.0.0.1"
 STAR = "demo/star.txt"
@@ -52,6 +47,7 @@ HOSE = {"a": 3, "b": 4, "c": 5}
 QUIET = 2  # seconds in which nothing more is taken of one who never reads
 SHORT = 2  # seconds after which a session ends where the peer stands still
 PATIENCE = 10  # seconds for which an accept that fails is made again
+FEW, MANY = 24, 40  # descriptors of a host, and customers at once
 
 
 def connect(port):
@@ -321,8 +317,12 @@ def host_alone(program, work):
     host, port = start_host(program, STAR, journal)
     told = say(port, b"hello acme\nadmit a:3 b:4 c:5\nshow 1\nbye\n").decode()
     same(told, ALONE, "one who is alone")
-    same(told_of_host(host, program, STAR, journal), (0, BOOK_OF_ONE), "the book of one")
+    same(told_of_host(host, journal), (0, BOOK_OF_ONE), "the book of one")
     print("one who is alone was served")
+
+
+def limited():
+    resource.setrlimit(resource.RLIMIT_NOFILE, (FEW, FEW))
 
 
 def serve_many(program, journal, name, **how):
@@ -334,7 +334,7 @@ def serve_many(program, journal, name, **how):
     for peer in peers:
         with peer:
             same(read_all(peer), b"welcome at 0\nbye\n", "one of many")
-    same(told_of_host(host, program, STAR, journal)[0], 0, "the status")
+    same(told_of_host(host, journal)[0], 0, "the status")
     print(f"{name}, {MANY} customers at once: all were served")
 
 
@@ -364,7 +364,7 @@ def meet_at_paths(program, work):
     with socket.socket(socket.AF_UNIX) as other:
         other.bind(path)
         other.listen()
-        same(told_of_host(host, program, STAR, journal)[0], 0, "the status")
+        same(told_of_host(host, journal)[0], 0, "the status")
         same(os.path.exists(path), True, "what another program put at the path")
     os.remove(path)
     with open(path, "w", encoding="ascii") as file:
@@ -386,7 +386,7 @@ def serve_at_host(program, work):
     try:
         same((second.returncode, second.stdout.split()[:1]), (9, ["door"]), "a port that is taken")
         serve_all(port, customers, TOLD_OF_HOST)
-        status, audit = told_of_host(host, program, STAR, journal)
+        status, audit = told_of_host(host, journal)
         same(status, 0, "the status")
         same(audit.splitlines()[0], f"epoch {customers.epoch}", "the audit")
         same(audit.splitlines()[-1], "live 0 cost 0", "the audit")
@@ -402,66 +402,13 @@ def serve_at_host(program, work):
     meet_at_paths(program, work)
 
 
-# ---- A front.
-
-FEW, MANY = 24, 40  # descriptors of a front or a host, and customers at once
-
-
-def limited():
-    resource.setrlimit(resource.RLIMIT_NOFILE, (FEW, FEW))
-
-
-def front_alone(program, work):
-    """One customer is the only one of a front."""
-    journal = os.path.join(work, "alone")
-    front, port = start_front(program, STAR, journal)
-    told = say(port, b"hello acme\nadmit a:3 b:4 c:5\nshow 1\nbye\n").decode()
-    same(told, ALONE, "one who is alone")
-    same(told_of_front(front, program, STAR, journal), (0, BOOK_OF_ONE), "the book of one")
-    print("one who is alone was served")
-
-
-def few_descriptors(program, work):
-    """More customers than descriptors: others wait for the end of the first."""
-    journal = os.path.join(work, "few")
-    front, port = start_front(program, STAR, journal, files=limited)
-    peers = [connect(port) for _ in range(MANY)]
-    for peer in peers:
-        peer.sendall(b"hello acme\nbye\n")
-    for peer in peers:
-        with peer:
-            same(read_all(peer), b"welcome at 0\nbye\n", "one of many")
-    same(told_of_front(front, program, STAR, journal)[0], 0, "the status")
-    print(f"{FEW} descriptors, {MANY} customers at once: all were served")
-
-
-def serve_at_front(program, work):
-    front_alone(program, work)
-    journal, other = os.path.join(work, "journal"), os.path.join(work, "other")
-    front, port = start_front(program, STAR, journal)
-    words = [sys.executable, "tools/front.py", "--program", program, "--port", str(port)]
-    second = subprocess.run([*words, STAR, other], stdout=subprocess.PIPE, text=True,
-                            stderr=subprocess.DEVNULL, timeout=HANGS)
-    customers = Behaved(port)
-    try:
-        same((second.returncode, second.stdout), (23, ""), "a port that is taken")
-        serve_all(port, customers)
-        status, audit = told_of_front(front, program, STAR, journal)
-        same(status, 0, "the status")
-        same(audit.splitlines()[0], f"epoch {customers.epoch}", "the audit")
-        same(audit.splitlines()[-1], "live 0 cost 0", "the audit")
-        few_descriptors(program, work)
-    finally:
-        front.kill()
-
-
 def main():
-    way, words = way_of(sys.argv[1:])
+    by_host, words = way_of(sys.argv[1:])
     program = os.path.abspath(words[0] if words else "./hosed")
-    if way:
+    if by_host:
         with tempfile.TemporaryDirectory() as work:
             try:
-                (serve_at_host if way is WAYS["--host"] else serve_at_front)(program, work)
+                serve_at_host(program, work)
             except (Differs, OSError, *client.FAULTS) as difference:
                 sys.exit(f"bad clients: {difference}")
         return

@@ -1,5 +1,5 @@
 #!/usr/bin/env python3
-"""Judges concurrent random sessions of `hosed serve`, a host or `tools/front.py` from outside.
+"""Judges concurrent random sessions of `hosed serve` or a host from outside.
 
 Each run serves some customers at once over a random network of up to 9 nodes. Its history is read
 off the replies: each epoch is that of one admission, release or change of a link's service, which
@@ -9,24 +9,19 @@ of the last book. Prints how many runs, sessions and replies of each kind there 
 difference, and ends with status 1.
 
 With --host the sessions are those of a host, and what it counted, which its operator is told, has
-to be what the sessions were told. With --front they are those of a front over the PROGRAM. There a
-quote is its customer's, and not its session's. So the lines of all sessions of a customer are put
-into one order that explains the numbers of quotes, in which no line comes before one that was
-answered before it was said.
+to be what the sessions were told.
 
-usage: bench/judge/histories.py [--host | --front] [PROGRAM [RUNS [SEED]]]
+usage: bench/judge/histories.py [--host] [PROGRAM [RUNS [SEED]]]
 The PROGRAM (./hosed) is seen from the top of the repository.
 """
 
 import os
 import random
-import signal
 import socket
 import subprocess
 import sys
 import tempfile
 import threading
-import time
 from collections import Counter
 from typing import NamedTuple
 
@@ -69,7 +64,6 @@ class Session(threading.Thread):
         self.port, self.network, self.draw = port, network, random.Random(seed)
         self.customer = self.draw.choice(NAMES)
         self.said, self.fault = [], None  # pairs of a command and its reply
-        self.times = []  # when each was said, and answered
         self.out = set()  # the links that it took out of service and has not put back
         self.known = 0  # the customer's newest VPN, as far as this session was told
 
@@ -102,9 +96,7 @@ class Session(threading.Thread):
     def run(self):
         try:
             self.said.append(("hello", None, ""))
-            begun = time.monotonic()
             with client.Session("127.0.0.1", self.port, self.customer, HANGS) as session:
-                self.times.append((begun, time.monotonic()))
                 self.said[-1] = ("hello", None, str(session.welcome))
                 own = []
                 for _ in range(LINES):
@@ -118,9 +110,7 @@ class Session(threading.Thread):
     def ask(self, session, kind, value, text):
         """The reply to a line; what was said has none where the server is gone before it."""
         self.said.append((kind, value, ""))
-        begun = time.monotonic()
         reply = session.reply_to(f"{kind} {text}")
-        self.times.append((begun, time.monotonic()))
         self.said[-1] = (kind, value, str(reply))
         if isinstance(reply, client.Down):
             self.out.add(value)
@@ -199,10 +189,11 @@ class History:
 
 
 class Judge:
-    """One session against the books. `held` are the quotes of its customer, or its own."""
+    """One session against the books."""
 
-    def __init__(self, history, session, held):
-        self.history, self.session, self.last, self.held = history, session, 0, held
+    def __init__(self, history, session):
+        self.history, self.session, self.last = history, session, 0
+        self.held = {}  # its quotes
 
     def refused(self, epoch, hose):
         kind, side = self.history.decided(epoch, hose)
@@ -275,104 +266,6 @@ def before_of(reply):
     return place_of(reply) - (reply.split()[0] in ENTERED)
 
 
-# ---- The order of a customer's lines.
-
-
-def by_session(sessions):
-    """The lines of each session with the session, in their order: a quote is a session's own."""
-    return [[(session, *line) for line in session.said] for session in sessions]
-
-
-def by_customer(sessions):
-    """The lines of each customer, in an order that explains the quotes."""
-    names = sorted({session.customer for session in sessions})
-    return [Order([one for one in sessions if one.customer == name]).found() for name in names]
-
-
-def what_is_quoted(reply):
-    """What a quote and its take both tell: the cost, and the links."""
-    words = reply.split()
-    return words[words.index("cost") + 1], tuple(words[words.index("links"):])
-
-
-class Order:
-    """Looks for one order of the lines of some sessions: a step is the next line of one of them. A
-    `bye` tells no epoch, and comes last."""
-
-    def __init__(self, sessions):
-        self.sessions = sessions
-        self.said = [[line for line in one.said if line[0] != "bye"] for one in sessions]
-        self.seen = set()
-
-    def found(self):
-        """Depth first; what was tried once is not tried again."""
-        stack = [(tuple(0 for _ in self.sessions), (), None)]
-        while stack:
-            at, held, line = stack.pop()
-            if all(place == len(said) for place, said in zip(at, self.said)):
-                return self.lines(line)
-            if (at, held) not in self.seen:
-                self.seen.add((at, held))
-                stack += self.steps(at, held, line)
-        raise Differs(f"no order of the lines of {self.sessions[0].customer} explains the quotes")
-
-    def steps(self, at, held, line):
-        """Where each next line leads; one alone where it changes no quotes."""
-        after = []
-        for number in self.next_ones(at):
-            kept = self.quotes_after(number, at[number], dict(held))
-            if kept is None:
-                continue
-            there = tuple(place + (one == number) for one, place in enumerate(at))
-            step = (there, tuple(sorted(kept.items())), (line, number, at[number]))
-            if step[1] == held:
-                return [step]
-            after.append(step)
-        return after
-
-    def next_ones(self, at):
-        """The sessions whose next line may come now: those that enter nothing come before the one
-        that enters something at their epoch."""
-        heads = [number for number, said in enumerate(self.said) if at[number] < len(said)]
-        first_told = min(self.sessions[number].times[at[number]][1] for number in heads)
-        places = {number: self.place(number, at[number]) for number in heads}
-        least = min(places.values())
-        return [number for number in heads
-                if self.sessions[number].times[at[number]][0] <= first_told
-                and places[number] == least]
-
-    def place(self, number, at):
-        """The epoch before a line, and whether it enters something."""
-        reply = self.said[number][at][2]
-        return before_of(reply), reply.split()[0] in ENTERED
-
-    def quotes_after(self, number, at, held):
-        """The quotes that are held after a line, or none where its reply does not fit to them."""
-        kind, value, reply = self.said[number][at]
-        free = [one for one in range(1, QUOTES + 1) if one not in held]
-        words = reply.split()
-        if words[0] == "quoted":
-            if free[:1] != [int(words[1])]:
-                return None
-            held[free[0]] = (what_is_quoted(reply), int(words[5]))
-        elif reply.startswith("too many"):
-            return None if free else held
-        elif reply.startswith("no quote"):
-            return None if value in held else held
-        elif kind == "take":
-            what, epoch = held.pop(value, (None, None))
-            fits = str(epoch) == words[1] if words[0] == "stale" else what == what_is_quoted(reply)
-            return held if fits else None
-        return held
-
-    def lines(self, line):
-        found = [(one, *line) for one in self.sessions for line in one.said if line[0] == "bye"]
-        while line:
-            line, number, at = line
-            found.append((self.sessions[number], *self.said[number][at]))
-        return found[::-1]
-
-
 def hose_of(kind, value, quoted):
     """The hose of an admission, or the number of another order."""
     if kind == "take":
@@ -380,12 +273,12 @@ def hose_of(kind, value, quoted):
     return value[1] if kind == "admit-after" else value
 
 
-def entries(orders):
+def entries(sessions):
     """The entries of all lines by their epochs."""
     found = {}
-    for lines in orders:
+    for session in sessions:
         quoted = {}
-        for session, kind, value, reply in lines:
+        for kind, value, reply in session.said:
             words = reply.split()
             if words[0] == "quoted":
                 quoted[int(words[1])] = value
@@ -397,8 +290,8 @@ def entries(orders):
     return found
 
 
-def judge(network, orders, audit, kinds):
-    history, found = History(network), entries(orders)
+def judge(network, sessions, audit, kinds):
+    history, found = History(network), entries(sessions)
     same(sorted(found), list(range(1, len(found) + 1)), "the epochs of all entries")
     for epoch in sorted(found):
         session, what, value, reply = found[epoch]
@@ -413,10 +306,10 @@ def judge(network, orders, audit, kinds):
         if kind == "refused":
             raise Differs(f"epoch {epoch}: {reply}\nwhere the planner refuses")
         same(reply, history.admit(session.customer, hose, plan), f"epoch {epoch}")
-    for lines in orders:
-        judges, held = {}, {}
-        for session, *line in lines:
-            judges.setdefault(session, Judge(history, session, held)).judge(*line, kinds)
+    for session in sessions:
+        judged = Judge(history, session)
+        for line in session.said:
+            judged.judge(*line, kinds)
     same(audit, history.audit(), "the audit")
 
 
@@ -444,31 +337,14 @@ def start(program, topology, journal, connections):
     raise Differs("no port could be opened")
 
 
-def start_front(program, topology, journal, *options, files=None):
-    """A front that is ready, and its port. Its log is beside the journal."""
-    words = [sys.executable, "tools/front.py", "--program", program, "--log", f"{journal}.log"]
-    for _ in range(TRIES):
-        with socket.socket() as probe:
-            probe.bind(("127.0.0.1", 0))
-            port = probe.getsockname()[1]
-        front = subprocess.Popen([*words, "--port", str(port), *options, topology, journal],
-                                 stdout=subprocess.PIPE, text=True, preexec_fn=files)
-        first = front.stdout.readline()
-        if first:
-            same(first, "ready\n", "the first line")
-            return front, port
-        same(front.wait(HANGS), 23, "the status where a port is taken")
-    raise Differs("no port could be opened")
-
-
-def start_host(program, topology, journal, doors=(), files=None, environment=None):
+def start_host(program, topology, journal, doors=(), options=(), files=None, environment=None):
     """A host that is ready, and its port. A door of its operator's own is beside the journal."""
     doors = [f"{journal}.operator=operator", *doors]
     for _ in range(TRIES):
         with socket.socket() as probe:
             probe.bind(("127.0.0.1", 0))
             port = probe.getsockname()[1]
-        words = [program, "host", "--quiet", topology, journal, str(port), *doors]
+        words = [program, "host", "--quiet", *options, topology, journal, str(port), *doors]
         host = subprocess.Popen(words, stdout=subprocess.PIPE, text=True, preexec_fn=files,
                                 env=environment)
         first = host.stdout.readline()
@@ -501,7 +377,7 @@ def judge_figures(figures, sessions):
         raise Differs(f"{over} took {figures.took} ns in all")
 
 
-def told_of_host(host, _program, _topology, journal):
+def told_of_host(host, journal):
     """Ends a host by its operator, and gives its status and the audit that it wrote."""
     with socket.socket(socket.AF_UNIX) as operator:
         operator.settimeout(HANGS)
@@ -516,45 +392,18 @@ def told_of_host(host, _program, _topology, journal):
     return status, audit
 
 
-def audit_of(program, topology, journal):
-    words = [program, "audit", topology, journal]
-    return subprocess.run(words, stdout=subprocess.PIPE, text=True, check=True).stdout
-
-
-def told_of_front(front, program, topology, journal):
-    """Ends a front, and gives its status and the audit of its journal."""
-    front.send_signal(signal.SIGTERM)
-    status = front.wait(HANGS)
-    front.stdout.close()
-    return status, audit_of(program, topology, journal)
-
-
-class Way(NamedTuple):
-    """How customers are served who come as long as they like."""
-    name: str
-    start: object  # of a program, a topology and a journal: what serves, and its port
-    ended: object  # of what serves and these: its status and the audit
-    orders: object  # the lines of all sessions, as those whose quotes are the same
-    counted: object = None  # what it counted, of a journal, where it tells that
-
-
-WAYS = {"--front": Way("a front", start_front, told_of_front, by_customer),
-        "--host": Way("a host", start_host, told_of_host, by_session, figures_of_host)}
-
-
 def way_of(words):
-    """How customers are served, if not by `hosed serve`; and the other words."""
-    way = next((WAYS[word] for word in words if word in WAYS), None)
-    return way, [word for word in words if word not in WAYS]
+    """Whether customers are served by a host, and the other words."""
+    return "--host" in words, [word for word in words if word != "--host"]
 
 
-def serve(program, work, seed, kinds, way):
+def serve(program, work, seed, kinds, by_host):
     draw = random.Random(seed)
     network = random_network(draw, COMPARED)
     topology, journal = os.path.join(work, f"{seed}.txt"), os.path.join(work, f"{seed}.journal")
     write_topology(network, topology)
-    if way:
-        server, port = way.start(program, topology, journal)
+    if by_host:
+        server, port = start_host(program, topology, journal)
     else:
         server, port = start(program, topology, journal, SESSIONS)
     sessions = [Session(port, network, f"{seed} {number}") for number in range(SESSIONS)]
@@ -565,21 +414,19 @@ def serve(program, work, seed, kinds, way):
             session.join()
             if session.fault:
                 raise Differs(f"a session failed: {session.fault}")
-        if way and way.counted:
-            judge_figures(way.counted(journal), sessions)
-        if way:
-            status, audit = way.ended(server, program, topology, journal)
+        if by_host:
+            judge_figures(figures_of_host(journal), sessions)
+            status, audit = told_of_host(server, journal)
         else:
             audit, status = server.stdout.read(), server.wait(HANGS)
     finally:
         server.kill()
     same(status, 0, "the status")
-    orders = way.orders(sessions) if way else by_session(sessions)
-    judge(network, orders, audit.splitlines(), kinds)
+    judge(network, sessions, audit.splitlines(), kinds)
 
 
 def main():
-    way, words = way_of(sys.argv[1:])
+    by_host, words = way_of(sys.argv[1:])
     program = os.path.abspath(words[0] if words else "./hosed")
     runs = int(words[1]) if len(words) > 1 else 100
     seed = words[2] if len(words) > 2 else "1"
@@ -587,10 +434,10 @@ def main():
     with tempfile.TemporaryDirectory() as work:
         for number in range(runs):
             try:
-                serve(program, work, f"{seed}-{number}", kinds, way)
+                serve(program, work, f"{seed}-{number}", kinds, by_host)
             except Differs as difference:
                 sys.exit(f"run {number} of seed {seed}: {difference}")
-    by = way.name if way else f"{WORKERS} workers"
+    by = "a host" if by_host else f"{WORKERS} workers"
     print(f"{runs} runs of {SESSIONS} sessions with {by} agree")
     for kind, count in sorted(kinds.items()):
         print(f"{count:8} {kind}")

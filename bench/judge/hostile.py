@@ -12,10 +12,8 @@ printed, and it ends with status 1.
 
 With --host there are sessions alone, with a host, which never does a last line without a line feed,
 and denies its operator's lines, `end` and `figures`, to others.
-With --front there are sessions alone, with `tools/front.py` over the PROGRAM, where a quote is its
-customer's and not its session's.
 
-usage: bench/judge/hostile.py [--host | --front] [PROGRAM [LINES [SESSIONS [SEED]]]]
+usage: bench/judge/hostile.py [--host] [PROGRAM [LINES [SESSIONS [SEED]]]]
 The PROGRAM (./hosed) is seen from the top of the repository; LINES (1,000,000), SESSIONS (10,000).
 """
 
@@ -32,7 +30,7 @@ from collections import Counter, defaultdict
 sys.path.insert(0, os.path.join(os.path.dirname(os.path.abspath(__file__)), "..", "parts"))
 from usage import TOP, tell_usage
 
-from histories import WAYS, Differs, same, way_of
+from histories import Differs, same, start_host, told_of_host, way_of
 from lines import COMMANDS, ENDS, told
 from planner import FORCED, WEIGHTS, Server, audit_lines, random_command, random_network
 from planner import topology_lines
@@ -77,7 +75,6 @@ class Desk(Server):
         super().__init__(network)
         self.quotes = defaultdict(dict)
         self.customer_of = {}
-        self.shares_quotes = False  # whether a quote is its customer's, and not its session's
         self.needs_ends = False  # whether a last line without a line feed is never done
         self.nodes = {name.encode(): number for number, name in enumerate(network.nodes)}
 
@@ -146,7 +143,6 @@ class Desk(Server):
         if len(words) > 2:
             return [told("Bad", 3)]
         customer = words[1].decode()
-        session = customer if self.shares_quotes else session
         self.customer_of[session] = customer
         replies = [told("Welcome", self.epoch)]
         for line in lines[1:]:
@@ -321,20 +317,20 @@ def session_text(draw, good, asks_host):
     return text[:draw.randint(0, len(text))] if draw.random() < 0.2 else text
 
 
-def run_sessions(program, draw, count, kinds, way):
+def run_sessions(program, draw, count, kinds, by_host):
     """One server of so many sessions, one after another."""
     network = random_network(draw, FORCED)
     desk, good = Desk(network), Server(network)
-    desk.shares_quotes, desk.needs_ends = way is WAYS["--front"], way is WAYS["--host"]
+    desk.needs_ends = by_host
     with tempfile.TemporaryDirectory() as work:
         files = [os.path.join(work, name) for name in ("topology", "journal")]
         with open(files[0], "w", encoding="ascii") as file:
             file.write("\n".join(topology_lines(network)) + "\n")
-        served = way.start(program, *files) if way else start(program, *files, count)
+        served = start_host(program, *files) if by_host else start(program, *files, count)
         process, port = served
         try:
             for number in range(count):
-                text = session_text(draw, good, way is WAYS["--host"])
+                text = session_text(draw, good, by_host)
                 breaks_off = draw.random() < 0.05
                 if breaks_off:
                     # What it asks for changes nothing, whether it is read or not.
@@ -345,8 +341,8 @@ def run_sessions(program, draw, count, kinds, way):
                     continue
                 same(replies, desk.session(text, f"session {number}"), f"to {text[:400]!r}")
                 kinds.update(first_word(reply) for reply in replies)
-            if way:
-                status, told = way.ended(process, program, *files)
+            if by_host:
+                status, told = told_of_host(process, files[1])
             else:
                 told, status = process.communicate(timeout=HANGS)[0], process.returncode
             same(told.splitlines(), desk.audit(), "the book of a server")
@@ -360,21 +356,21 @@ def parts(count, most):
 
 
 def main():
-    way, words = way_of(sys.argv[1:])
+    by_host, words = way_of(sys.argv[1:])
     program = os.path.abspath(words[0] if words else "./hosed")
     given = words[1:4]
     lines, sessions, seed = map(int, given + ["1000000", "10000", "1"][len(given):])
     said, served = Counter(), Counter()
     try:
-        for number, count in enumerate(parts(0 if way else lines, LINES_OF_A_RUN)):
+        for number, count in enumerate(parts(0 if by_host else lines, LINES_OF_A_RUN)):
             run_lines(program, random.Random(f"{seed} lines {number}"), count, said)
         for number, count in enumerate(parts(sessions, MOST_CONNECTIONS)):
             draw = random.Random(f"{seed} sessions {number}")
-            run_sessions(program, draw, count, served, way)
+            run_sessions(program, draw, count, served, by_host)
     except (Differs, OSError, subprocess.TimeoutExpired) as difference:
         sys.exit(f"hostile: {difference}")
     told = [(f"{sessions} sessions", served)]
-    if not way:
+    if not by_host:
         told.insert(0, (f"{lines} lines", said))
     for name, kinds in told:
         counts = ", ".join(f"{count} {kind}" for kind, count in sorted(kinds.items()))

@@ -21,7 +21,8 @@ import time
 sys.path.insert(0, os.path.join(os.path.dirname(os.path.abspath(__file__)), "..", "parts"))
 from usage import tell_usage
 
-from histories import SESSIONS, Differs, Session, client, same, start, way_of, write_topology
+from histories import SESSIONS, Differs, Session, client, same, start, start_host, way_of
+from histories import write_topology
 from planner import COMPARED, random_network
 
 LONGEST = 0.12  # seconds until a server is killed, from its first line
@@ -65,15 +66,15 @@ def judge(sessions, audit):
     return told
 
 
-def kill(program, way, work, seed):
+def kill(program, by_host, work, seed):
     draw = random.Random(seed)
     topology, journal = os.path.join(work, "topology"), os.path.join(work, "journal")
     if os.path.exists(journal):
         os.remove(journal)
     network = random_network(draw, COMPARED)
     write_topology(network, topology)
-    if way:
-        server, port = way.start(program, topology, journal)
+    if by_host:
+        server, port = start_host(program, topology, journal)
     else:
         server, port = start(program, topology, journal, 10_000)
     sessions = [Session(port, network, f"{seed} {number}") for number in range(SESSIONS)]
@@ -92,7 +93,7 @@ def kill(program, way, work, seed):
 
 
 def main():
-    way, words = way_of(sys.argv[1:])
+    by_host, words = way_of(sys.argv[1:])
     program = os.path.abspath(words[0] if words else "./hosed")
     kills = int(words[1]) if len(words) > 1 else 100
     seed = words[2] if len(words) > 2 else "1"
@@ -100,7 +101,7 @@ def main():
     with tempfile.TemporaryDirectory() as work:
         for number in range(kills):
             try:
-                told += kill(program, way, work, f"{seed}-{number}")
+                told += kill(program, by_host, work, f"{seed}-{number}")
             except Differs as difference:
                 sys.exit(f"kill {number} of seed {seed}: {difference}")
     if not told:

@@ -2,10 +2,10 @@
 """Breaks the connections of customers at random moments, and judges by the program's audit that
 each order stands exactly once.
 
-Between the customers and `hosed serve`, a host with --host, or `tools/front.py` with --front,
-stands a proxy of this script. At a random line it breaks a connection off: before it has sent the
-line on, within it, behind it, or within the reply. Or it holds the line back, breaks off, and sends
-the line on after some lines of the customer's next connections, or at the end. Customers order by
+Between the customers and `hosed serve`, or a host with --host, stands a proxy of this script. At a
+random line it breaks a connection off: before it has sent the line on, within it, behind it, or
+within the reply. Or it holds the line back, breaks off, and sends the line on after some lines of
+the customer's next connections, or at the end. Customers order by
 `order_once` of tools/client.py; with --shell by lines that are typed into its shell, which tries no
 connection more than three times and then is told the line again. Each hose is ordered once, and no
 two are alike. In the audit each has to stand once, under the number that its customer was told.
@@ -14,7 +14,7 @@ as long: of these the audit has to tell that some stand twice. Prints how many c
 broken off in which way, and what came of the lines that were held back; or what differs, and ends
 with status 1.
 
-usage: bench/judge/lost_replies.py [--host | --front] [--shell] [PROGRAM [CONNECTIONS [SEED]]]
+usage: bench/judge/lost_replies.py [--host] [--shell] [PROGRAM [CONNECTIONS [SEED]]]
 The PROGRAM (./hosed) is seen from the top of the repository; CONNECTIONS (1,000) are broken off.
 """
 
@@ -34,7 +34,7 @@ from usage import TOP, tell_usage
 import client
 import client_shell
 import networks
-from histories import HANGS, Differs, way_of
+from histories import HANGS, Differs, start_host, way_of
 from hostile import free_port
 
 CUSTOMERS = ("acme", "beta", "zeta", "operator")
@@ -256,13 +256,13 @@ def start(program, topology, journal):
     raise Differs("no port could be opened")
 
 
-def audited(program, way, order, broken, seed):
+def audited(program, by_host, order, broken, seed):
     """What customers were told who order so, and the audit of what came of it."""
     with tempfile.TemporaryDirectory() as work:
         topology, journal = (os.path.join(work, name) for name in ("topology", "journal"))
         with open(topology, "w", encoding="ascii") as file:
             file.write(TOPOLOGY)
-        begin = way.start if way else start
+        begin = start_host if by_host else start
         server, port = begin(program, topology, journal)
         try:
             customers = [Orders(port, name, order, broken // len(CUSTOMERS), seed)
@@ -300,8 +300,8 @@ def sum_of(counters):
     return sum(counters, Counter())
 
 
-def judge(program, way, order, broken, seed):
-    customers, audit = audited(program, way, order, broken, seed)
+def judge(program, by_host, order, broken, seed):
+    customers, audit = audited(program, by_host, order, broken, seed)
     counts, strangers = standing(customers, audit)
     wrong = {order: count for order, count in counts.items() if count != 1}
     if wrong or strangers:
@@ -315,7 +315,7 @@ def judge(program, way, order, broken, seed):
         print(f"lost_replies: {count} lines held back and answered at last: {reply}")
     print(f"lost_replies: {len(counts)} orders stand once each, {sum(ways.values())} connections "
           "broken off")
-    customers, audit = audited(program, way, order_again, max(40, broken // 10), seed)
+    customers, audit = audited(program, by_host, order_again, max(40, broken // 10), seed)
     counts, strangers = standing(customers, audit)
     twice = sum(count > 1 for count in counts.values())
     if strangers or min(counts.values()) < 1:
@@ -328,13 +328,13 @@ def judge(program, way, order, broken, seed):
 
 def main():
     by_shell = "--shell" in sys.argv
-    way, words = way_of([word for word in sys.argv[1:] if word != "--shell"])
+    by_host, words = way_of([word for word in sys.argv[1:] if word != "--shell"])
     program = os.path.abspath(words[0] if words else "./hosed")
     broken, seed = (words[1:] + ["1000", "1"][len(words[1:]):])[:2]
     subprocess.run([program, "--version"], stdout=subprocess.DEVNULL, check=True)
     try:
         order = order_by_shell if by_shell else order_once
-        judge(program, way, order, int(broken), seed)
+        judge(program, by_host, order, int(broken), seed)
     except Differs as difference:
         sys.exit(f"lost_replies: {difference}")
 

@@ -4,8 +4,8 @@
 # admission on a backbone of eleven cities, a customer's numbers and an admission that is bound to
 # them, and each of a journal that is begun, gone on with and another network's; an audit, a
 # generated script, a certificate that is written and one that is judged, and two prices; a journal
-# that is moved, as a whole and what is live of it; a server with one customer; and a host with one
-# and its operator. Each has to end in one of three ways: with status 7 and the line `no memory`;
+# that is moved, as a whole and what is live of it, and one that is cut; packets that are shipped and
+# followed; a server with one customer; and a host with one and its operator. Each has to end in one of three ways: with status 7 and the line `no memory`;
 # with a line `memory` in the place of the command that was refused; or with the fault of an object
 # that wanted it, as `cabinet` and status 6, or `door K` and status 9. A host may let a connection
 # go besides, and serves who comes then; its log may lose a line, which it tells its operator. All
@@ -35,7 +35,7 @@ from collections import Counter
 
 sys.path[:0] = ["bench/judge", "bench/parts", "tools"]
 from planner import Link, Network
-from forged import CHAINED, journal_of, judged
+from forged import CHAINED, VALUE, journal_of, judged, spelled
 from generated import Sizes, planned
 from hostile import Desk
 
@@ -62,6 +62,10 @@ NETWORKS = {name: network_of(text) for name, text in TEXTS.items()}
 ADMIT = ["acme admit a:3 b:4 c:5"]
 ONE = [("admit", "acme", [(0, 3), (1, 4), (2, 5)], [(0, 3), (1, 4), (2, 5)])]
 KEPT = journal_of(NETWORKS["star"], ONE, CHAINED)
+# The packet of the entry that it has: the length of the body, the epoch after it, the chain value
+# before it, which is the network's digest, and the body.
+BODY = spelled(ONE[0])
+PACKET = b"".join([len(BODY).to_bytes(2, "big"), (1).to_bytes(4, "big"), KEPT[6:6 + VALUE], BODY])
 
 # Names, networks, lines, and what the journal has at first where there is one.
 RUNS = {
@@ -88,10 +92,13 @@ ASKED = {
               ["price acme flat 26 12 26 hops 12 12 12 long 112 60 112 best hops",
                "price beta flat 24 16 24 hops 16 16 16 long 128 80 128 best hops"]),
 }
-# A move of the kept journal to the same network, into one that is there and empty.
+# The kept journal is moved to the same network, or cut behind its entry, into one that is there and
+# empty.
 MOVES = {
-    "move": ([], ["moved 1 live 1"]),
-    "move_live": (["--live"], ["vpn 1 is 1", "moved 1 live 1"]),
+    "move": (["move", "demo/star.txt", "OLD", "demo/star.txt", "NEW"], ["moved 1 live 1"]),
+    "move_live": (["move", "--live", "demo/star.txt", "OLD", "demo/star.txt", "NEW"],
+                  ["vpn 1 is 1", "moved 1 live 1"]),
+    "cut": (["cut", "demo/star.txt", "OLD", "1", "NEW"], ["moved 1 live 1"]),
 }
 SESSION = ["hello acme", "admit a:3 b:4 c:5", "vpns", "admit-after 1 a:1 b:1", "show 1", "bye"]
 OPERATOR = ["hello operator", "figures", "end"]
@@ -192,11 +199,12 @@ def answer_without(growth, name, library, work):
 
 def move_without(growth, name, library, work):
     """The same of a move. The old journal stays, and the new one has a part of its orders."""
-    live, wanted = MOVES[name]
+    words, wanted = MOVES[name]
     old, new = work / "old.journal", work / "new.journal"
     old.write_bytes(KEPT)
     new.write_bytes(b"")
-    words = [PROGRAM, "move", *live, "demo/star.txt", str(old), "demo/star.txt", str(new)]
+    paths = {"OLD": str(old), "NEW": str(new)}
+    words = [PROGRAM, *(paths.get(word, word) for word in words)]
     done = subprocess.run(words, capture_output=True, text=True, timeout=SECONDS,
                           env=without(growth, library))
     status, output, after = done.returncode, done.stdout.splitlines(), new.read_bytes()
@@ -211,6 +219,40 @@ def move_without(growth, name, library, work):
     if after != KEPT and (whole or after and judged(NETWORKS["star"], after)[1] != 0):
         raise Wrong(f"status {status}, and the new journal has {after.hex()}")
     return whole, status
+
+
+def ship_without(growth, library, work):
+    """The same of a journal whose packets are written. It stays."""
+    journal = work / "leader.journal"
+    journal.write_bytes(KEPT)
+    done = subprocess.run([PROGRAM, "ship", "demo/star.txt", str(journal), "1"],
+                          capture_output=True, timeout=SECONDS, env=without(growth, library))
+    status, output = done.returncode, done.stdout
+    ends = {0: b"", 6: b"cabinet\n", 7: b"no memory\n"}
+    if status not in ends or journal.read_bytes() != KEPT:
+        raise Wrong(f"status {status} after {output}")
+    if output != PACKET + ends[status] and (status == 0 or output != ends[status]):
+        raise Wrong(f"status {status} after {output}")
+    return status == 0, status
+
+
+def follow_without(growth, library, work):
+    """The same of a follower that is sent one packet. What it has is in its journal."""
+    journal = work / "follower.journal"
+    journal.write_bytes(b"")
+    done = subprocess.run([PROGRAM, "follow", "demo/star.txt", str(journal)], input=PACKET,
+                          capture_output=True, timeout=SECONDS, env=without(growth, library))
+    status, output, after = done.returncode, done.stdout.decode().splitlines(), journal.read_bytes()
+    ends = {0: [], 6: ["cabinet"], 7: ["no memory"]}
+    lines = output[:-1] if status else output
+    is_by_rule = (status in ends and output[len(lines):] == ends[status]
+                  and lines in ([["have 1"], ["memory"]] if status == 0 else
+                                [[], ["have 1"], ["memory"]] if status == 6 else [[]]))
+    is_kept = after == KEPT if lines == ["have 1"] else (
+        not after or after == KEPT or judged(NETWORKS["star"], after)[1] == 0)
+    if not is_by_rule or not is_kept:
+        raise Wrong(f"status {status} after {output}, and the journal has {after.hex()}")
+    return status == 0 and lines == ["have 1"], status
 
 
 def customer(port, ended, replies):
@@ -376,6 +418,8 @@ def main():
             try_all(name, lambda growth: answer_without(growth, name, library, work))
         for name in MOVES:
             try_all(name, lambda growth: move_without(growth, name, library, work))
+        try_all("ship", lambda growth: ship_without(growth, library, work))
+        try_all("follow", lambda growth: follow_without(growth, library, work))
         try_all("server", lambda growth: server_without(growth, library, work))
         try_all("host", lambda growth: host_without(growth, library, work))
 

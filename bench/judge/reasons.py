@@ -42,7 +42,7 @@ HERE, ELSEWHERE = "127.0.0.1", "127.0.0.2"
 LAST = "the last line of the output tells"
 UNREAD, UNKEPT = "could not be read", "could not be opened or closed"
 OTHER = "is that of another network, or of other costs, than the topology"
-RETURNS = "a carriage return stands in that line, and a line ends with a line feed alone"
+RETURNS = "(a line ends with a line feed alone)"
 TWO_NODES = "node a\nnode b\nlink a b 10 7\nend\n"
 BESIDE = ("orders.journal", "other.journal", "beside.txt")  # that no words name
 ENDS = 64  # of a hose at most
@@ -131,13 +131,12 @@ def topologies(trials):
     trials.write("bad.txt", "# one\r\nnode a b\n")
     trials.write("bad.json", "{}\r\n")
     refused = "the topology in the input is not allowed at line"
-    for text, place in (("node a\r\n", "1, word 2"),
+    for text, place in (("node a\r\n", "1, word 2"), ("node a b\n", "1, word 3"),
                         (TWO_NODES.replace("7\n", "7\r\n"), "3, word 5")):
-        trials.comes(["run"], 2, f"{refused} {place}: {RETURNS}", text)
-    trials.comes(["run"], 2, f"{refused} 1, word 3", "node a b\n")
-    for name, place in (("returns.txt", f"line 1, word 2: {RETURNS}"),
-                        ("later.txt", f"line 4, word 5: {RETURNS}"),
-                        ("bad.txt", "line 2, word 3"),
+        trials.comes(["run"], 2, f"{refused} {place} {RETURNS}", text)
+    for name, place in (("returns.txt", f"line 1, word 2 {RETURNS}"),
+                        ("later.txt", f"line 4, word 5 {RETURNS}"),
+                        ("bad.txt", f"line 2, word 3 {RETURNS}"),
                         ("bad.json", f"the place that {LAST}")):
         for command in (["audit", name, "j"], ["host", name, "j", "./door"]):
             trials.comes(command, 2, f'the topology "{name}" is not allowed at {place}')
@@ -277,8 +276,9 @@ def moves(trials):
     trials.comes(["run", "kept"], 0, None, TWO_NODES + "acme admit a:2 b:2\n")
     comes(0, None)
     comes(0, None)
-    comes(2, 'the topology "bad.txt" is not allowed at line 2, word 3', "bad.txt")
-    comes(2, 'the topology "bad.txt" is not allowed at line 2, word 3', old="bad.txt")
+    refused = f'the topology "bad.txt" is not allowed at line 2, word 3 {RETURNS}'
+    comes(2, refused, "bad.txt")
+    comes(2, refused, old="bad.txt")
     comes(5, f'the journal "moved" {OTHER} "small.txt" tells', "small.txt")
     comes(5, f'the journal "kept" {OTHER} "big.txt" tells', old="big.txt")
     for new, old in (("none.txt", "net.txt"), ("big.txt", "none.txt")):
@@ -416,6 +416,52 @@ def hosts(trials):
     trials.comes(["audit", "net.txt", "hosted"], 0, None, "", book)
 
 
+def standbys(trials):
+    """A host ends where its standby has more orders, and where one that had all is gone."""
+    trials.comes(["run", "more"], 0, None, TWO_NODES + "acme admit a:1 b:1\n")
+    empty = "epoch 0\nlink 0 a b capacity 10 cost 7 load 0\nlive 0 cost 0\n"
+    with_order = ("epoch 1\nlink 0 a b capacity 10 cost 7 load 1\n"
+                  "vpn 1 acme cost 7 ends a:1 b:1 links 0:1\nlive 1 cost 7\n")
+    for follower, status, sentence, book, last in (
+            ("more", 17, "the standby has 1 orders, more than the journal: orders of the journal "
+             "were lost, or it is of an earlier time", empty, "ahead 1"),
+            ("as_many", 16, "nothing was heard of the standby for too long, so the host ended",
+             with_order, "standby")):
+        with tempfile.TemporaryDirectory() as folder:
+            path = os.path.join(folder, "door")
+            with socket.socket(socket.AF_UNIX) as door:
+                door.bind(path)
+                door.listen()
+                words = ["--quiet", "--standby", path, "--standby-seconds", "2",
+                         "--standby-or-stop", "net.txt", "led", "./any"]
+                host = subprocess.Popen([trials.program, "host", *words], cwd=trials.folder,
+                                        text=True, stdin=subprocess.DEVNULL,
+                                        stdout=subprocess.PIPE, stderr=subprocess.PIPE)
+                taken, _ = door.accept()
+            with taken:
+                follow = subprocess.Popen([trials.program, "follow", "net.txt", follower],
+                                          cwd=trials.folder, stdin=taken, stdout=taken)
+            if status == 16:
+                order_at(trials.path("any"))
+                follow.kill()
+            output, error = host.communicate(timeout=SECONDS)
+            follow.wait(SECONDS)
+        same = (host.returncode, error, output) == (
+            status, f"hosed: {sentence}\n", f"ready\n{book}{last}\n") and trials.are_beside()
+        trials.wrong += not same
+        print(f"{'as wanted' if same else 'OTHERWISE'}: host --standby: {host.returncode} "
+              f"{error.rstrip()} {output!r}")
+
+
+def order_at(path):
+    """An order at a host's socket. Once it was told the standby has it."""
+    with socket.socket(socket.AF_UNIX) as peer:
+        peer.settimeout(SECONDS)
+        peer.connect(path)
+        peer.sendall(b"hello acme\nadmit a:1 b:1\nbye\n")
+        peer.makefile().read()
+
+
 def most_words(trials):
     """All words are taken: a hose of the most endpoints, and then one whose last word is wrong."""
     leaves = [f"n{leaf}" for leaf in range(ENDS)]
@@ -446,7 +492,8 @@ def main(words):
         trials.write("net.txt", TWO_NODES)
         trials.lay_beside()
         for part in (words_that_are_wrong, topologies, streams, journals, closed_error, files,
-                     limits, ports, inputs, moves, cuts, commands, serves, hosts, most_words):
+                     limits, ports, inputs, moves, cuts, commands, serves, hosts, standbys,
+                     most_words):
             part(trials)
     finally:
         shutil.rmtree(folder)

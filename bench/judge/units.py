@@ -5,14 +5,14 @@ Two machines are booted by systemd-nspawn, over an overlay of a minimal Debian t
 written to, with a wire between them: a leader, and a standby of the same network. On them
 
 - the blocks after <!-- run: NAME --> of docs/OPERATING.md are run as they stand, by root, from an
-  archive of tools/package.sh on: install, start, sockets by name, upgrade, go back, the standby,
-  the front with its log in a file, back up, restore, move, and promote;
+  archive of tools/package.sh on: install, start, sockets by name, upgrade, go back, back up,
+  restore, move, both standbys, the one that replies wait for by each way to it, and promote;
 - the examples of README.md, docs/GUIDE.md and docs/OPERATING.md are run by the user hosed, in the
   folder of the release;
 - each unit is started and stopped again and again, and asked something after each start; a start
   that is not done in time counts as one that hangs;
 - the server is killed, its disk filled, its journal taken away, damaged, given to root and locked,
-  its log rotated, and the standby cut off; what the system's log has to say of each is looked for.
+  and the standby cut off; what the system's log has to say of each is looked for.
 
 Prints what was tried, and each sentence that was found; ends with status 1 at what is not so. It
 wants root, systemd-nspawn, and debootstrap with a mirror of Debian, or the folder of a base that it
@@ -41,9 +41,9 @@ from machines import Hangs, Machine, Wrong
 CURRENT = "/usr/local/lib/hosed/current/tools"
 JOURNAL, NETWORK = "/var/lib/hosed/orders.journal", "/etc/hosed/network.txt"
 AS_HOSED = "setpriv --reuid hosed --regid hosed --clear-groups"
-OPERATOR, SOCKET = "/run/hosed/operator", "/run/hosed/front.socket"
+OPERATOR = "/run/hosed/operator"
 START = 60  # seconds for a unit to start, also beside other work
-SERVED = {"hosed-host": "7000", "hosed": "7000", "hosed-front": SOCKET}
+SERVED = {"hosed-host": "7000", "hosed": "7000"}
 
 
 def blocks():
@@ -179,7 +179,7 @@ def install(day):
         same("the journal's owner", machine.run(f"stat -c %U:%a {JOURNAL}"), "hosed:600\n")
     day.leader.run("echo '10.78.0.2 standby.example' >> /etc/hosts")
     day.standby.run("echo '10.78.0.1 standby.example' >> /etc/hosts")
-    same("the units", day.leader.run("systemd-analyze verify /etc/systemd/system/hosed*.service"),
+    same("the units", day.leader.run("systemd-analyze verify /etc/systemd/system/hosed*.s*"),
          "")
 
 
@@ -243,7 +243,12 @@ def server(day):
     asks(leader, "hosed")
     leader.run("systemctl stop hosed")
     wrong_files(day, "hosed")
-    leader.run("systemctl disable --now hosed; systemctl enable --now hosed-host")
+    leader.run("systemctl disable hosed; systemctl enable hosed-host")
+    for one, other in ("hosed-host", "hosed"), ("hosed", "hosed-host"), ("hosed-host", "hosed"):
+        leader.run(f"systemctl reset-failed {one} || true; systemctl start {one}")
+        same(f"{other} where {one} is started",
+             leader.attempt(f"systemctl is-active {other}")[1], "inactive\n")
+        asks(leader, one)
 
 
 def wrong_files(day, unit):
@@ -298,34 +303,6 @@ def upgrade(day):
     same("the book", client(leader, "vpns"), "vpns 1 at 1")
 
 
-def front(day):
-    """hosed-front.service, its starts and its log."""
-    leader = day.leader
-    day.block(leader, "front")
-    same("the other server", leader.attempt("systemctl is-active hosed-host")[1], "inactive\n")
-    started_often(day, leader, "hosed-front")
-    for one, other in (("hosed", "hosed-front"), ("hosed-host", "hosed"),
-                       ("hosed-front", "hosed-host")):
-        leader.run(f"systemctl reset-failed {one} || true; systemctl start {one}")
-        same(f"{other} where {one} is started",
-             leader.attempt(f"systemctl is-active {other}")[1], "inactive\n")
-        asks(leader, one)
-    since = leader.now()
-    told = client(leader, "admit a:1 b:1", SOCKET)
-    day.says(leader, "hosed-front", since, f'[^ ]+ order acme "admit a:1 b:1" {told}')
-    leader.run("pkill --uid hosed --exact hosed")
-    day.says(leader, "hosed-front", since, "[^ ]+ error the program was ended by the signal 15",
-             "[^ ]+ note the end, with the status 20", ".*status=20.*")
-    leader.until("systemctl is-active hosed-front", "it is started again")
-    leader.run("systemctl kill --kill-whom=main --signal KILL hosed-front")
-    day.says(leader, "hosed-front", since, ".*Main process exited, code=killed, status=9/KILL")
-    leader.until("systemctl is-active hosed-front", "it is started again")
-    asks(leader, "hosed-front")
-    told = leader.run("cat /run/hosed/front.prom")
-    if "hosed_front_sessions 0" not in told:
-        raise Wrong(f"the figures of the front: {told}")
-
-
 def customers(day):
     """Sockets by name, each for the members of one group."""
     leader = day.leader
@@ -351,24 +328,6 @@ def customers(day):
                "systemctl restart hosed-host")
 
 
-def log_in_a_file(day):
-    leader = day.leader
-    day.block(leader, "log in a file")
-    orders = []
-    for number in range(3):
-        orders.append(client(leader, "admit a:1 b:1", SOCKET))
-        leader.run("logrotate --force /etc/logrotate.d/hosed")
-    orders.append(client(leader, "admit a:1 b:1", SOCKET))
-    logs = leader.run("cd /var/log/hosed; zcat -f front.log.*.gz front.log.1; cat front.log")
-    for order in orders:
-        if logs.count(f'order acme "admit a:1 b:1" {order}\n') != 1:
-            raise Wrong(f"the rotated logs have not once {order}:\n{logs}")
-    same("the log was opened anew", logs.count(" note the log was opened anew"), 3)
-    tell("the log was rotated 3 times, and has each order once")
-    leader.run("rm -r /etc/systemd/system/hosed-front.service.d; systemctl daemon-reload; "
-               "systemctl restart hosed-front")
-
-
 def orders_until_full(machine, unit):
     """Orders on a disk whose last block may have room for some more, until one is answered by
     `disk`: that reply."""
@@ -388,7 +347,7 @@ def of_operator(unit):
 def full_disk(day):
     """The journal's disk is full, and has room again; with each server."""
     leader = day.leader
-    leader.run("systemctl stop hosed-front hosed-metrics; cp -a /var/lib/hosed state; "
+    leader.run("systemctl stop hosed-host hosed-metrics; cp -a /var/lib/hosed state; "
                "mount -t tmpfs -o size=256k tmpfs /var/lib/hosed; cp -a state/. /var/lib/hosed/; "
                "chown hosed:hosed /var/lib/hosed; chmod 700 /var/lib/hosed")
     for unit in SERVED:
@@ -397,10 +356,6 @@ def full_disk(day):
         leader.attempt("cat /dev/zero > /var/lib/hosed/filler")
         told = orders_until_full(leader, unit)
         tell(f"{unit} on a full disk answers {told}")
-        if unit == "hosed-front":
-            day.says(leader, unit, since, f'[^ ]+ warning operator ".*" {told}')
-            same("what the log has as a warning", told in leader.run(
-                "journalctl --no-pager -o cat -p warning -u hosed-front"), True)
         if unit == "hosed-host":
             day.says(leader, unit, since, f'operator ".*" {told}')
             figures = client(leader, "figures", OPERATOR, "operator")
@@ -417,8 +372,7 @@ def full_disk(day):
         tell(f"{unit} starts on a full disk, and goes on once there is room")
     leader.run("cp -a /var/lib/hosed/orders.journal state/; umount /var/lib/hosed; "
                "cp -a state/orders.journal /var/lib/hosed/; "
-               "systemctl disable hosed-front; systemctl enable --now hosed-host; "
-               "systemctl start hosed-metrics")
+               "systemctl start hosed-host hosed-metrics")
 
 
 def journal_away(day):
@@ -487,8 +441,8 @@ def standby(day):
     leader.run("systemctl stop hosed-standby")
     other.run("usermod --shell /bin/sh hosed")
     day.block(leader, "begin to follow")
-    day.says(leader, "hosed-standby", since, ".*the follower has [0-9]+ entries, as the journal "
-             "begins", "have [0-9]+")
+    day.says(leader, "hosed-standby", since, ".*the follower has [0-9]+ entr(y|ies), as the "
+             "journal begins", "have [0-9]+")
     same("the standby's journal", other.run(f"stat -c %U:%a {JOURNAL}"), "hosed:600\n")
     started_often(day, leader, "hosed-standby")
     leader.until("grep -q '^hosed_standby_epoch [1-9]' /run/hosed-standby/standby.prom",
@@ -500,63 +454,116 @@ def standby(day):
              "the follower is gone: .*; again in [0-9]+ s)", seconds=120)
     client(leader, "admit a:1 b:1")
     other.run("ip link set wire0 up")
-    day.says(leader, "hosed-standby", leader.now(), ".*the follower has [0-9]+ entries, as the "
+    day.says(leader, "hosed-standby", leader.now(), ".*the follower has [0-9]+ entr(y|ies), as the "
              "journal begins", "have [0-9]+", seconds=120)
     leader.run("systemctl disable --now hosed-standby")
 
 
-def front_with_standby(day):
-    """Replies that wait for the standby, which is cut off, and begins slowly."""
-    leader, other = day.leader, day.standby
-    leader.run("systemctl disable --now hosed-host; systemctl enable --now hosed-front")
-    since = leader.now()
-    day.block(leader, "front with a standby")
-    day.says(leader, "hosed-front", since, "[^ ]+ note the standby has [0-9]+ of [0-9]+ orders, by "
-             "its chain value")
-    other.run("ip link set wire0 down")
-    begun = time.monotonic()
-    told = client(leader, "admit a:1 b:1", SOCKET)
-    waited = time.monotonic() - begun
-    if not told.startswith("admitted") or not 8 < waited < 25:
-        raise Wrong(f"an order without the standby is answered {told} after {waited:.1f} s")
-    day.says(leader, "hosed-front", since, "[^ ]+ error the standby is gone for 10 s, with .*",
-             "[^ ]+ warning the standby is missing for [67][0-9] s, with .*, and replies do not "
-             "wait for it: .*",
-             "[^ ]+ warning the standby is missing for 1[23][0-9] s, with .*", seconds=170)
-    if " missing for " not in leader.run("systemctl status --no-pager hosed-front"):
-        raise Wrong("the state of hosed-front does not tell that the standby is missing")
-    missing = leader.run("grep missing_seconds /run/hosed/front.prom | tail -n 1").split()[1]
-    if float(missing) < 100:
-        raise Wrong(f"the figure tells that the standby is missing for {missing} s")
-    since = leader.now()
-    other.run("ip link set wire0 up")
-    day.says(leader, "hosed-front", since, "[^ ]+ note the standby has .*: replies wait for it "
-             "again", seconds=60)
-    begins_slowly(day)
+def joins(day, since, seconds=60):
+    """Replies wait for the standby from now on."""
+    day.says(day.leader, "hosed-host", since, 'standby "" joined at [0-9]+', seconds=seconds)
 
 
-def begins_slowly(day):
-    """A command whose start takes longer than a reply waits."""
-    leader, path = day.leader, "/etc/systemd/system/hosed-front.service.d/follower.conf"
-    leader.run(f"sed -i \"s#--standby '#--standby 'sleep 12; exec #\" {path}; "
-               "systemctl daemon-reload")
-    since = leader.now()
-    leader.run("systemctl restart hosed-front")
-    day.says(leader, "hosed-front", since, "[^ ]+ note the standby has [0-9]+ of [0-9]+ orders, by "
-             "its chain value", "[^ ]+ note ready")
-    told = client(leader, "admit a:1 b:1", SOCKET)
+def is_at_the_standby(machine, told, journal=JOURNAL):
+    """An order that was told is in a journal."""
     epoch = re.search(" at ([0-9]+) ", told)
     if not epoch:
         raise Wrong(f"an order is answered {told}")
-    day.standby.run(f"cp {JOURNAL} copy; hosed audit {NETWORK} copy | grep -x 'epoch {epoch[1]}'")
-    tell("a standby whose command begins in 12 s has each order that was answered")
+    machine.run(f"cp {journal} copy; hosed audit {NETWORK} copy | grep -x 'epoch {epoch[1]}'")
+
+
+def waits_for_a_standby(day):
+    """A host whose replies wait for a standby, by each way to it, and what it does without one."""
+    leader, other = day.leader, day.standby
+    since = leader.now()
+    day.block(leader, "a standby on this machine")
+    joins(day, since)
+    is_at_the_standby(leader, client(leader, "admit a:1 b:1"),
+                      "/var/lib/hosed/second/orders.journal")
+    day.block(other, "let a link in")
+    since = leader.now()
+    day.block(leader, "a standby over one login")
+    waits_for_the_other(day, since)
+    leader.run("systemctl stop hosed-link")
+    other.run("systemctl disable --now hosed-follow.socket")
+    day.block(leader, "a standby by socat")
+    is_at_the_standby(other, client(leader, "admit a:1 b:1"))  # it was not alone meanwhile
+    leader.run("systemctl stop hosed-link")
+    since = leader.now()
+    day.block(leader, "a standby by ssh")
+    waits_for_the_other(day, since)
+    started_often(day, leader, "hosed-host")
+    goes_alone(day)
+    is_brought_up(day)
+    ends_without_a_standby(day)
+
+
+def waits_for_the_other(day, since):
+    """The standby is the other machine, and has each order once it was told."""
+    joins(day, since)
+    is_at_the_standby(day.standby, client(day.leader, "admit a:1 b:1"))
+
+
+def goes_alone(day):
+    """The standby is cut off, and comes back."""
+    leader, other, since = day.leader, day.standby, day.leader.now()
+    other.run("ip link set wire0 down")
+    begun = time.monotonic()
+    told = client(leader, "admit a:1 b:1")
+    waited = time.monotonic() - begun
+    if not told.startswith("admitted") or not 8 < waited < 25:
+        raise Wrong(f"an order without the standby is answered {told} after {waited:.1f} s")
+    day.says(leader, "hosed-host", since, 'standby "" alone')
+    figures = client(leader, "figures", OPERATOR, "operator")
+    if not re.search(" standby [0-9]+ alone 1$", figures):
+        raise Wrong(f"figures of a host that is alone: {figures}")
+    day.says(leader, "hosed-host", leader.now(), 'standby "" alone', seconds=90)
+    other.run("ip link set wire0 up")
+    joins(day, since, seconds=120)  # before it was alone it told of no joining
+    is_at_the_standby(other, client(leader, "admit a:1 b:1"))
+
+
+def is_brought_up(day):
+    """By standby.py, while the host is alone."""
+    leader, other = day.leader, day.standby
+    day.block(leader, "bring a standby up")
+    same("the standby's book", other.run(f"cp {JOURNAL} copy; hosed audit {NETWORK} copy | "
+                                         "head -n 1").split()[1],
+         client(leader, "vpns").split()[-1])
+
+
+def ends_without_a_standby(day):
+    """With --standby-or-stop, and where the standby has more orders."""
+    leader, other = day.leader, day.standby
+    path = "/etc/systemd/system/hosed-host.service.d/standby.conf"
+    leader.run(f"sed -i 's#packets\"#packets --standby-seconds 3 --standby-or-stop\"#' {path}; "
+               "systemctl daemon-reload; systemctl restart hosed-host")
+    since = leader.now()
+    other.run("ip link set wire0 down")
+    day.says(leader, "hosed-host", since, "hosed: nothing was heard of the standby for too long, "
+             "so the host ended", "standby", ".*status=16.*", seconds=60)
+    other.run("ip link set wire0 up")
+    leader.until("systemctl is-active hosed-host", "it is started again", 180)
+    asks(leader, "hosed-host")
+    leader.run(f"cp -a {JOURNAL} kept")
+    is_at_the_standby(other, client(leader, "admit a:1 b:1"))
+    leader.run(f"systemctl stop hosed-host; cp -a {JOURNAL} whole; cp -a kept {JOURNAL}")
+    since = leader.now()
+    leader.attempt("systemctl start hosed-host")
+    leader.until("systemctl is-failed hosed-host", "hosed-host has failed")
+    day.says(leader, "hosed-host", since, "hosed: the standby has [0-9]+ orders, more than the "
+             "journal: .*", "ahead [0-9]+", ".*status=17.*")
+    leader.run(f"cp -a whole {JOURNAL}; sed -i 's# --standby-seconds.*\"#\"#' {path}; "
+               "systemctl daemon-reload; systemctl reset-failed hosed-host; "
+               "systemctl start hosed-host")
+    asks(leader, "hosed-host")
 
 
 def promotion(day):
     """The standby becomes the leader, and the old leader follows it."""
     leader, other = day.leader, day.standby
-    book = client(leader, "vpns", SOCKET)  # of the front, whose standby it is
-    leader.run("rm -r /etc/systemd/system/hosed-front.service.d; systemctl daemon-reload")
+    book = client(leader, "vpns")  # of the host whose standby it is
+    leader.run("rm -r /etc/systemd/system/hosed-host.service.d; systemctl daemon-reload")
     day.block(leader, "step down")
     other.run("systemctl daemon-reload")
     same("the book of the new leader", day.block(other, "promote").splitlines()[-1],
@@ -575,8 +582,8 @@ def promotion(day):
     tell("the old leader follows the new one")
 
 
-PARTS = (install, examples, host, customers, server, upgrade, front, log_in_a_file, full_disk,
-         journal_away, back_up, move, standby, front_with_standby, promotion)
+PARTS = (install, examples, host, customers, server, upgrade, full_disk, journal_away, back_up,
+         move, standby, waits_for_a_standby, promotion)
 
 
 def words():

@@ -14,7 +14,7 @@ import tempfile
 import time
 
 PACKAGES = "systemd systemd-sysv dbus python3-minimal python3 openssh-server openssh-client " \
-    "logrotate iproute2 procps"
+    "socat iproute2 procps"
 PROGRAMS = "systemd-nspawn", "nsenter", "mount", "ip"
 SECONDS = 60  # after which a command hangs
 PATH = "/usr/local/sbin:/usr/local/bin:/usr/sbin:/usr/bin:/sbin:/bin"

@@ -9,6 +9,7 @@ import unittest
 from unittest import mock
 
 import client
+import replies
 from client import ConnectionLost, LinkState, MalformedReply, NoAnswer, Session
 from tests.fake_server import FakeServer
 from tests.runs import TOOLS, within
@@ -40,6 +41,10 @@ REPLIES = [
     ("figures connections 1 ever 2 lines 3 admitted 4 refused 5 released 6 down 7 up 8 disk 9 "
      "memory 10 lost 11 timed 12 took 13 over-100us 14 over-1ms 15 over-10ms 16 over-100ms 17 "
      "over-1s 18 over-10s 19 synced 20 at 21", client.Figures(*range(1, 22))),
+    ("figures connections 1 ever 2 lines 3 admitted 4 refused 5 released 6 down 7 up 8 disk 9 "
+     "memory 10 lost 11 timed 12 took 13 over-100us 14 over-1ms 15 over-10ms 16 over-100ms 17 "
+     "over-1s 18 over-10s 19 synced 20 at 21 standby 22 alone 1",
+     replies.FiguresWithStandby(*range(1, 23), 1)),
     ("refused at 1 side a b", client.Refused(1, ("a", "b"))),
     ("stale 3 4", client.Stale(3, 4)),
     ("newest 5 at 7", client.Newest(5, 7)),
@@ -136,6 +141,14 @@ class Sessions(unittest.TestCase):
                 vpns = session.vpns()
         self.assertEqual((len(vpns.ids), vpns.newest()), (20_000, 3_999_999_999))
         self.assertLess(len(str(vpns)), client.LONGEST_REPLY)
+
+    def test_figures_of_a_host(self):
+        """With a standby and without."""
+        told = [line for line, _ in REPLIES if line.startswith("figures")]
+        self.assertEqual(len(told), 2)
+        with FakeServer([WELCOME, *(f"{line}\n".encode() for line in told), BYE]) as server:
+            with Session("127.0.0.1", server.port, "operator") as session:
+                self.assertEqual([str(session.figures()) for _ in told], told)
 
     def test_a_link_out_of_service_and_back(self):
         texts = [WELCOME, b"down 1 at 1\n", b"already 1 at 1\n", b"up 1 at 2\n", BYE]

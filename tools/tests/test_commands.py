@@ -17,9 +17,8 @@ TOLD = {
 # How the usage text tells what is no word of its own in the table of the program.
 ENDS = "NAME:RATE .."
 ABOUT_ITSELF = "--help | --version"
-# The definitions that put operands together, and the parameter for those that follow.
-JOINS = {"next_word", "name_and", "number_and"}
-FOLLOWING = "more"
+# What is told of the names that the definitions of shapes give to values.
+NO_VALUE = {"names", "after"}
 
 
 def read(*path):
@@ -62,49 +61,44 @@ def definition(text, name):
     return (found[1].split(), found[2]) if found else None
 
 
-def operands_of(text, row):
-    """The operands of a row, by the names that their values have there, in order."""
+def option_of(text, name):
+    """The word of an option."""
+    return definition(text, name)[1].split('"')[1]
+
+
+def fields_of(text, row):
+    """What a row says after the command's own word, by the names that its values have there."""
     found = []
-    for bound, word in re.findall(r"λ (\w+)\.|([a-z]\w*)", row):
-        named = definition(text, word) if word and word not in JOINS else None
-        if bound:
-            found.append(bound.upper())
-        elif word == "end_words":
+    for kind, bound, word in re.findall(r"(?:(last \w+|items \w+) \()?λ (\w+)\.|([a-z]\w*)", row):
+        if kind.startswith("items"):
             found.append(ENDS)
-        elif named:
-            found += [name.upper() for name in named[0] if name != FOLLOWING]
-            found += operands_of(text, named[1])
+        elif kind:
+            found.append(f"[{bound.upper()}]")
+        elif bound:
+            found += [bound.upper()] * (bound not in NO_VALUE)
+        elif word == "with_tariff":
+            found.append(f"[{option_of(text, 'tariff_option')} NAME]")
+        elif word.endswith("_option"):
+            found.append(f"[{option_of(text, word)}]")
+        elif word in ("topology_and", "journal_and"):
+            found += fields_of(text, definition(text, word)[1])
     return found
 
 
-def options_of(text, kind):
-    """How options of a kind are told, in their order."""
-    tariff, live = (definition(text, f"{name}_option")[1].split('"')[1]
-                    for name in ("tariff", "live"))
-    told = [f"[{tariff} NAME]", f"[{live}]"]
-    return told[:["without", "by_tariff", "by_tariff_and_live"].index(kind)]
-
-
 def usage_of(text, word, row):
-    """The usage of a command, by its row: its word, its options, and its operands."""
-    kind, _, rest = row.partition(" ")
-    if kind == "tariff_and_any_file":
-        told = [*options_of(text, "by_tariff"), "[JOURNAL]"]
-    elif kind == "options_and_file":
-        options, _, operands = rest.partition(" ")
-        told = [*options_of(text, options), *operands_of(text, operands)]
-    else:
-        assert kind == "only_operands", row
-        told = operands_of(text, rest)
-    return " ".join([word, *told])
+    """The usage of a command, by its row: its word, its options, and what else it names."""
+    return " ".join([word, *fields_of(text, row)])
 
 
 def usage_of_host(text):
-    """The usage of a host, by the words that its definitions have."""
+    """The usage of a host and of its standby, by the words that its definitions have."""
     words = {name: re.search(rf'^{name} = codes "(\S+)"$', text, re.M)[1]
-             for name in ("host_word", "operator_option", "quiet_option")}
+             for name in ("host_word", "operator_option", "quiet_option", "standby_option",
+                          "seconds_option", "stop_option")}
+    standby = (f"{words['standby_option']} PATH [{words['seconds_option']} N] "
+               f"[{words['stop_option']}]")
     return (f"{words['host_word']} [--tariff NAME] [{words['operator_option']} PATH] "
-            f"[{words['quiet_option']}] TOPOLOGY JOURNAL DOOR ..")
+            f"[{words['quiet_option']}] [STANDBY] TOPOLOGY JOURNAL DOOR .."), standby
 
 
 def without_streams(usage):
@@ -116,7 +110,8 @@ class Program:
     """What each file says of the commands of the program, in its order."""
 
     def __init__(self, verb, meaning, host, texts):
-        self.host = usage_of_host(host)
+        self.host, self.standby = usage_of_host(host)
+        self.texts = texts
         self.usage = re.findall(r"/// `(.*)`\n    (\w+),", verb)
         self.words = re.findall(r'\(ProgramVerb::(\w+), b"(\S+)"\)', verb)
         rows = re.findall(r'^program_line command\.(\w+) =\s+\(\s*codes "(\S+)",\s+(.*?),?\s*\)$',
@@ -135,6 +130,7 @@ class Program:
                 "words of rows": (self.words, self.row_words),
                 "usage of rows": ([without_streams(usage) for usage, _ in self.usage],
                                   self.row_usage),
+                "standby": (f"STANDBY is {self.standby}." in self.texts, True),
                 "usage text": ([*usages[:place], self.host, *usages[place:], ABOUT_ITSELF],
                                self.help)}
 
@@ -145,15 +141,16 @@ CHANGES = {
              ("TOPOLOGY < SHEET", "TOPOLOGY < SHEETS"), ('b"gen"', 'b"make"'),
              ("(ProgramVerb::Ship", "(ProgramVerb::Follow")],
     "meaning": [('codes "--live"', 'codes "--alive"'), ('codes "--tariff"', 'codes "--prices"'),
-                ("(λ from. no_more)", "no_more"), ("(λ from. no_more)", "(λ since. no_more)"),
-                ("by_tariff_and_live moved_names", "by_tariff moved_names"),
-                ("without (λ topology. no_more)", "by_tariff (λ topology. no_more)"),
-                ("(λ topology. end_words)", "(λ topology. no_more)"),
-                ('"serve", options', '"server", options'), ("λ new_journal.", "λ journal."),
-                ('"run", tariff_and_any_file', '"run", only_operands no_more'),
-                ("(λ nodes.\n", "(λ links.\n")],
+                ("(λ from. line_end)", "line_end"), ("(λ from. line_end)", "(λ since. line_end)"),
+                ("flag live_option (", "("),
+                ("λ names. file_and (λ topology. line_end)", "topology_and (λ topology. line_end)"),
+                ("items AreNewEndWords (λ end. end) least_ends", "line_end"),
+                ('"serve",\n', '"server",\n'), ("λ new_journal.", "λ journal."),
+                ('with_tariff (last IsFileName (λ journal. journal))', "λ names. line_end"),
+                ("(λ nodes. ", "(λ links. ")],
     "host": [('codes "host"', 'codes "house"'), ('"--operator"', '"--owner"'),
-             ('"--quiet"', '"--still"')],
+             ('"--quiet"', '"--still"'), ('"--standby"', '"--follower"'),
+             ('"--standby-seconds"', '"--seconds"'), ('"--standby-or-stop"', '"--or-stop"')],
     "texts": [("[--tariff NAME] [--live]", "[--live] [--tariff NAME]"), ("RATE ..\n", "RATE\n"),
               ("[JOURNAL] <", "JOURNAL <"), ("CONNECTIONS WORKERS", "WORKERS CONNECTIONS"),
               ("       hosed price TOPOLOGY < SHEET\n", ""), ("check [--tariff NAME]", "check"),

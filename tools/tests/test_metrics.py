@@ -275,16 +275,16 @@ class Program(Journals):
         self.assertEqual((told["up"], told["host"]["lines"]), (True, 3))
         self.assertIs(json.loads(self.ended("--json", "--operator", "/nowhere/x")[1])["up"], False)
 
-    def test_figures_of_a_front(self):
+    def test_figures_of_a_file(self):
         """They are told behind those of the journal as long as they are fresh."""
         self.put(journal_of(BODIES))
-        front, no_file = os.path.join(self.folder, "front.prom"), os.path.join(self.folder, "none")
-        self.put(b"hosed_front_sessions 3\n", front)
-        for now, sessions, age in ((1005.5, "hosed_front_sessions 3\n", "5.000"),
+        file, no_file = os.path.join(self.folder, "file.prom"), os.path.join(self.folder, "none")
+        self.put(b"hosed_standby_epoch 3\n", file)
+        for now, sessions, age in ((1005.5, "hosed_standby_epoch 3\n", "5.000"),
                                    (1030.75, "", "30.250")):
             with mock.patch("time.time", return_value=now):
-                _, output, _ = self.ended("--figures", front, "--figures", no_file)
-            ages = (f'hosed_figures_age_seconds{{file="{front}"}} {age}\n'
+                _, output, _ = self.ended("--figures", file, "--figures", no_file)
+            ages = (f'hosed_figures_age_seconds{{file="{file}"}} {age}\n'
                     f'hosed_figures_age_seconds{{file="{no_file}"}} +Inf\n')
             self.assertTrue(output.endswith(ages + sessions), output)
 

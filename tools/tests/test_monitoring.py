@@ -11,12 +11,11 @@ from unittest import mock
 
 import client
 import figures
-import front_figures
 import metrics
 import networks
+import replies
 import server_state
 import standby
-from front_standby import State
 from tests.runs import DEMO, TOOLS
 from tests.test_metrics import BODIES, journal_of
 
@@ -32,10 +31,7 @@ def text_of(name):
 
 
 def told():
-    """All that metrics.py, a host, a front and standby.py tell, as one text."""
-    desk = mock.Mock(sessions=(), standby=mock.Mock(state=lambda: State(True, 1, 1, 0.0)))
-    front = front_figures.Figures(None, mock.Mock(lost_in_all=0))
-    front.replied(b"admit", b"admitted 1 cost 1 at 1", 0.1)
+    """All that metrics.py, a host and standby.py tell, as one text."""
     with tempfile.TemporaryDirectory() as folder:
         path = os.path.join(folder, "journal")
         with open(path, "wb") as file:
@@ -49,8 +45,8 @@ def told():
         watched.close()
     report = standby.Report()
     report.have = 1
-    host = server_state.of_host(client.Figures(*range(21)), 1000.0)
-    return text + figures.exposed([*host, *front.families(desk), *report.families()])
+    host = server_state.of_host(replies.FiguresWithStandby(*range(23)), 1000.0)
+    return text + figures.exposed([*host, *report.families()])
 
 
 class Names(unittest.TestCase):

@@ -37,7 +37,7 @@ def make(folder, more=""):
             write(folder, name, file.read())
     for name in ("README.md", "CHANGELOG.md", "docs/GUIDE.md", "demo/star.txt",
                  "tools/tests/test_man.py", "tools/systemd/hosed.service", "bench/README.md",
-                 "tools/tests/fake_run.py", "tools/documents/make_documents.py"):
+                 "tools/tests/fake_server.py", "tools/documents/make_documents.py"):
         write(folder, name, f"{name}\n")
     write(folder, ".gitignore", "out/\n__pycache__/\n")
     write(folder, "hosed", HOSED.replace("MORE", more))
@@ -99,7 +99,7 @@ class Packages(unittest.TestCase):
                 imported = re.findall(r"^ *(?:import|from) ([a-z_]+)", file.read(), re.MULTILINE)
             self.assertFalse({f"{one}.py" for one in imported} & left_out, name)
             self.assertFalse({"documents", "tests"} & set(imported), name)
-        self.assertTrue({"client.py", "front.py", "metrics.py", "page.py"} <= kept)
+        self.assertTrue({"client.py", "metrics.py", "page.py", "standby.py"} <= kept)
 
     def test_what_is_changed_is_not_packaged(self):
         with tempfile.TemporaryDirectory() as folder:

@@ -114,6 +114,13 @@ class Hosts(unittest.TestCase):
         synced = families["hosed_host_last_sync_time_seconds"].samples
         self.assertEqual([sample.value for sample in synced], ["998.500"])
 
+    def test_how_far_a_standby_is(self):
+        told = read_reply(FIGURES.decode().rstrip() + " standby 11 alone 0")
+        values = {family.name: [sample.value for sample in family.samples]
+                  for family in server_state.of_host(told, 1000.0)}
+        self.assertEqual([values[f"hosed_host_{name}"] for name in (
+            "epoch", "standby_epoch", "alone")], [[12], [11], [0]])
+
     def test_nobody_is_there(self):
         question = server_state.HostQuestion("/nowhere/socket", 5)
         question.ask()

@@ -28,12 +28,12 @@ class Units(unittest.TestCase):
         for name in UNITS:
             unit = settings(name)
             self.assertEqual(unit["StandardError"], ["journal"])
-            self.assertEqual(unit["SyslogIdentifier"], [name[:-len(".service")]])
+            self.assertEqual(unit["SyslogIdentifier"], [name[:-len(".service")].rstrip("@")])
             self.assertNotIn("truncate:", unit["StandardOutput"][0])
 
     def test_a_journal_has_one_server(self):
         """The start of one waits for the end of the other."""
-        servers = "hosed.service", "hosed-front.service", "hosed-host.service"
+        servers = "hosed.service", "hosed-host.service"
         for one in servers:
             others = [other for other in servers if other != one]
             self.assertEqual(sorted(settings(one)["Conflicts"][0].split()), sorted(others))
@@ -44,7 +44,7 @@ class Units(unittest.TestCase):
     def test_none_begins_without_its_files(self):
         for name in UNITS:
             unit = settings(name)
-            call = " ".join(unit["ExecStart"])
+            call = " ".join(unit["ExecStart"] + unit.get("Environment", [])).replace("=/", " /")
             for path in unit["AssertPathExists"]:
                 self.assertIn(f" {path}", call)
             self.assertEqual(len(unit["AssertPathExists"]), 2)
@@ -53,13 +53,26 @@ class Units(unittest.TestCase):
     def test_each_word_that_a_file_sets_is_one_of_its_unit(self):
         """A mistyped name would be set, and change nothing."""
         for name, of in (("hosed-customers.conf", "hosed-host"),
-                         ("hosed-front-customers.conf", "hosed-front"),
-                         ("hosed-log.conf", "hosed-front"), ("hosed-follower.conf", "hosed-front"),
+                         ("hosed-with-standby.conf", "hosed-host"),
                          ("hosed-figures.conf", "hosed-metrics")):
             calls = re.sub("[{}]", "", settings(f"{of}.service")["ExecStart"][0]).split()
             for value in settings(name)["Environment"]:
                 for word in shlex.split(value):
                     self.assertIn("$" + word.partition("=")[0], calls)
+
+    def test_a_host_of_three_machines(self):
+        """Its program is the unit's, behind `lead`, with its own words for a standby, and each word that
+        is set is used."""
+        here, unit = settings("hosed-quorum.conf"), settings("hosed-host.service")
+        self.assertEqual(here["ExecStart"][0], "")
+        call, base = (re.sub("[{}]", "", one["ExecStart"][-1]) for one in (here, unit))
+        for word in shlex.split(here["Environment"][0]):
+            self.assertIn("$" + word.partition("=")[0], call.split())
+        host = call[call.index("/usr/local/bin/hosed host"):]
+        standby = "--standby /run/hosed/quorum --standby-seconds 6 --standby-or-stop "
+        self.assertIn(standby, " ".join(host.split()) + " ")
+        self.assertEqual(" ".join(host.split()).replace(standby, "$HOST_STANDBY "),
+                         " ".join(base[base.index("/usr/local/bin/hosed host"):].split()))
 
     def test_each_procedure_is_run(self):
         """bench/judge/units.py names each block of docs/OPERATING.md that is to be run, and no
@@ -76,13 +89,25 @@ class Units(unittest.TestCase):
         self.assertGreater(len(blocks), 15)
 
     def test_the_folder_of_each_customer_is_made_with_his_group(self):
-        for file in "hosed-customers.conf", "hosed-front-customers.conf":
-            unit = settings(file)
-            sockets = re.findall(r"([^\s=]+)/socket=([a-z0-9-]+)", unit["Environment"][0])
-            made = [re.search(r"-g (\S+) -m 2750 (\S+)$", line).groups()
-                    for line in unit["ExecStartPre"]]
-            self.assertEqual([(name, folder) for folder, name in sockets], made)
-            self.assertEqual(len(made), 2)
+        unit = settings("hosed-customers.conf")
+        sockets = re.findall(r"([^\s=]+)/socket=([a-z0-9-]+)", unit["Environment"][0])
+        made = [re.search(r"-g (\S+) -m 2750 (\S+)$", line).groups()
+                for line in unit["ExecStartPre"]]
+        self.assertEqual([(name, folder) for folder, name in sockets], made)
+        self.assertEqual(len(made), 2)
+
+    def test_a_host_comes_to_the_socket_of_a_follower(self):
+        """And that is opened before; a host has longer to start than it waits for a standby."""
+        door = settings("hosed-follow.socket")
+        unit = settings("hosed-with-standby.conf")
+        path = door["ListenStream"][0]
+        self.assertEqual(shlex.split(unit["Environment"][0]), [f"HOST_STANDBY=--standby {path}"])
+        self.assertEqual((unit["Wants"], unit["After"]), (["hosed-follow.socket"],) * 2)
+        self.assertGreater(int(unit["TimeoutStartSec"][0]), 600)
+        follower = settings("hosed-follow@.service")
+        self.assertEqual((door["Accept"], door["SocketUser"]), (["yes"], follower["User"]))
+        for way in "StandardInput", "StandardOutput":
+            self.assertEqual(follower[way], ["socket"])
 
     def test_a_host_starts_and_ends_by_its_operator(self):
         """Started is it once it answers, and ended by its own word; who else may not open its
