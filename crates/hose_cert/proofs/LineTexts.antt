@@ -9,7 +9,7 @@ use Rattle.std.proofs.lemmas.List.Folds.{flat_map-map}
 use Rattle.std.proofs.lemmas.List.Sorted.{IsPermutation-refl}
 use Rattle.std.proofs.lemmas.List.Splits.{slice_split_at, slice_split_none}
 use Rattle.std.proofs.lemmas.List.Sums.{position_or_len_is}
-use Rattle.hose_words.specs.Form.{IsWithin}
+use Rattle.hose_words.specs.Numbers.{IsWithin}
 use Rattle.hose_words.specs.Lines.{is_line_feed}
 use Rattle.hose_words.proofs.FirstLine.{IsPlain, after_first-found, before_first-found}
 use Rattle.hose_words.proofs.Spaced.{AreWords, AreWords-map, IsWithout, IsWord, IsWord-allowed, IsWord-colon, IsWord-decimal, IsWord-known, line_no_feed, spaced, words_of-line}

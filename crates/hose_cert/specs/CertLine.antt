@@ -1,7 +1,7 @@
 -- What the lines of a certificate say, and how they say it.
 use Rattle.std.specs.Prelude.{◌≡◌, ◌<◌, ◌≤◌, ◌-◌, ◌==◌, ℕ, min, List, [], ◌∷◌, All, codes, decimal, length, map}
 use Rattle.std.specs.List.{slice_split}
-use Rattle.hose_words.specs.Form.{IsWithin}
+use Rattle.hose_words.specs.Numbers.{IsWithin}
 use Rattle.hose_words.specs.Words.{words_of}
 use Rattle.hose_words.specs.Limits.{line_limit}
 use Rattle.hose_graph.specs.Amounts.{ReservedLink, amount_of, link_of}

@@ -1,27 +1,22 @@
 -- What the lines of a session say.
 use Rattle.std.specs.Prelude.{◌≡◌, ℕ, ◌<◌, ◌≤◌, List, [], ◌∷◌, codes, length}
-use Rattle.hose_words.specs.Form.{Form, IsChoice, finish, grammar_of, place, this}
-use Rattle.hose_words.specs.Grammar.{Grammar, IsFirst, IsFirstNotAllowed}
-use Rattle.hose_words.specs.Words.{words_of}
+use Rattle.hose_words.specs.Shapes.{IsFirstWrong, Shape, Tells, line_end, value}
+use Rattle.hose_words.specs.Words.{IsChoice, IsFirst, words_of}
 use Rattle.hose_words.specs.Limits.{line_limit}
 use Rattle.hose_graph.specs.Name.{IsName}
 use Rattle.hose_graph.specs.Network.{Network}
 use Rattle.hose_law.specs.Transcript.{SessionLine}
 use Rattle.hose_law.specs.Transcript.SessionLine.{Greets, Asks, Leaves, IsBad, IsLong, Unread}
-use Rattle.hose_proto.specs.Command.{IsCommand, TakesMemory, command_grammar, verb_word}
+use Rattle.hose_proto.specs.Command.{IsCommand, TakesMemory, command_shape, verb_word}
 
--- `hello NAME`
-pub record IsGreeting (line name : List ℕ) : Type 0 where
-  pub spelled : words_of line ≡ codes "hello" ∷ name ∷ []
-  pub is_name : IsName name
+-- `hello NAME`, by a customer whose name meets a condition
+abbrev pub greeting_shape : (List ℕ → Type 0) → Shape
+greeting_shape may = value (λ word. word ≡ codes "hello") (λ word. word)
+    (λ word. value may (λ name. name) (λ name. line_end))
 
--- the form of a greeting
-abbrev pub greeting_form : Form
-greeting_form = this (codes "hello") (place IsName finish)
-
--- the grammar of the line that greets
-abbrev pub greeting_grammar : Grammar
-greeting_grammar = grammar_of greeting_form
+-- a line greets with a name that meets a condition
+abbrev pub IsGreeting : (List ℕ → Type 0) → List ℕ → List ℕ → Type 0
+IsGreeting may line name = Tells (greeting_shape may) (words_of line) (codes "hello", (name, tt))
 
 -- `bye`
 abbrev pub IsBye : List ℕ → Type 0
@@ -30,9 +25,9 @@ IsBye line = words_of line ≡ codes "bye" ∷ []
 -- What the first line of a session says: it is a greeting, or it has a first word that is not
 -- allowed there, or it is too long.
 abbrev pub SaysFirst : List ℕ → SessionLine → Type 0
-SaysFirst bytes (Greets name) = (length bytes ≤ line_limit) × IsGreeting bytes name
+SaysFirst bytes (Greets name) = (length bytes ≤ line_limit) × IsGreeting IsName bytes name
 SaysFirst bytes (IsBad word) = (length bytes ≤ line_limit)
-    × IsFirstNotAllowed greeting_grammar [] (words_of bytes) word
+    × IsFirstWrong (greeting_shape IsName) (words_of bytes) word
 SaysFirst bytes IsLong = line_limit < length bytes
 SaysFirst bytes line = ⊥
 
@@ -44,7 +39,7 @@ SaysLater network bytes Leaves = (length bytes ≤ line_limit) × IsBye bytes
 SaysLater network bytes (Asks command) =
     (length bytes ≤ line_limit) × IsCommand network (words_of bytes) command
 SaysLater network bytes (IsBad word) = (length bytes ≤ line_limit) × (¬ IsBye bytes)
-    × IsFirstNotAllowed (command_grammar network) [] (words_of bytes) word
+    × IsFirstWrong (command_shape network) (words_of bytes) word
 SaysLater network bytes IsLong = line_limit < length bytes
 SaysLater network bytes Unread =
     (length bytes ≤ line_limit) × IsFirst (IsChoice TakesMemory verb_word) (words_of bytes)

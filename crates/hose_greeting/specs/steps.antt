@@ -1,2 +1,3 @@
 -- Steps of proofs: what no clause of the top calls names.
+pub mod Greeting
 pub mod Shown

@@ -1,8 +1,9 @@
 // The lines of a session.
-ghost use Rattle.std.specs.Prelude.{◌↔◌, [], IfErr, IfOk, IsTrue};
-ghost use Rattle.hose_words.specs.Grammar.{IsFirstNotAllowed};
+ghost use Rattle.std.specs.Prelude.{◌↔◌, IfErr, IfOk, IsTrue};
+ghost use Rattle.hose_words.specs.Shapes.{IsFirstWrong};
 ghost use Rattle.hose_words.specs.Words.{words_of};
-ghost use Rattle.hose_greeting.specs.SessionLines.{IsBye, IsGreeting, greeting_grammar};
+ghost use Rattle.hose_graph.specs.Name.{IsName};
+ghost use Rattle.hose_greeting.specs.SessionLines.{IsBye, IsGreeting, greeting_shape};
 ghost use Rattle.hose_greeting.specs.steps.Shown.{IsGreetedBy};
 
 use hose_graph::{Name, Reply};
@@ -24,9 +25,9 @@ pub fn greeting_of(line: Line<'_>) -> Result<Name, Reply>
 
 // The name in a greeting, `hello NAME`.
 fn read_greeting(line: &[u8]) -> Result<Name, WrongWord>
-    ensures ok { IfOk result (IsGreeting line.now) }
+    ensures ok { IfOk result (IsGreeting IsName line.now) }
     ensures bad { IfErr result
-        (λ wrong. IsFirstNotAllowed greeting_grammar [] (words_of line.now) wrong.number) }
+        (λ wrong. IsFirstWrong (greeting_shape IsName) (words_of line.now) wrong.number) }
 {
     let mut words = Cursor::new(line);
     words.expect(b"hello")?;

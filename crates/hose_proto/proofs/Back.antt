@@ -10,7 +10,7 @@ use Rattle.std.proofs.lemmas.Fmt.{decimal_is_IsNumeral}
 use Rattle.std.proofs.lemmas.List.{get_or_default, take_at}
 use Rattle.std.proofs.lemmas.List.Sums.{position_or_len_is}
 use Rattle.std.proofs.lemmas.Slice.Eq.{bytes_eq-Decides}
-use Rattle.hose_words.specs.Form.{Fits64}
+use Rattle.hose_words.specs.Numbers.{Fits64}
 use Rattle.hose_graph.specs.Network.{Network, IsNetwork, name_of}
 use Rattle.hose_proto.specs.EndWords.{named_rate}
 use Rattle.hose_proto.specs.Places.{end_word}

@@ -6,7 +6,7 @@ use Rattle.std.proofs.lemmas.Fmt.{decimal_injective, decimal_is_IsNumeral}
 use Rattle.std.proofs.lemmas.List.{get_or_default}
 use Rattle.std.proofs.lemmas.List.Elements.{All-contains, Contains-append_right}
 use Rattle.std.proofs.lemmas.Str.Parse.{digit_at}
-use Rattle.hose_words.specs.Form.{Fits64}
+use Rattle.hose_words.specs.Numbers.{Fits64}
 use Rattle.hose_graph.specs.Name.{IsName, is_name_byte}
 use Rattle.hose_proto.specs.EndWords.{named_rate}
 

@@ -3,7 +3,7 @@ use Rattle.std.proofs.Common.{◌≡◌, ℕ, List, Result, IfErr, subst}
 use Rattle.std.specs.Result.{IsErrAnd}
 use Rattle.std.proofs.lemmas.Result.{IfErr-weaker, err_from_is_err_and}
 use Rattle.hose_words.specs.steps.Cursor.{Position, Took, IsWrong}
-use Rattle.hose_words.specs.Form.{Form, branch}
+use Rattle.hose_words.specs.steps.Form.{Form, branch}
 use Rattle.hose_words.proofs.Forms.{AreApart, wrong_chosen}
 use Rattle.hose_proto.specs.steps.Reading.{IsFaultOf}
 use Rattle.hose_proto.specs.declared.fault.ReadFault.{ReadFault}

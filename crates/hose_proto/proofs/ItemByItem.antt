@@ -3,8 +3,8 @@ use Rattle.std.proofs.Common.{◌≡◌, ℕ, ◌+◌, ◌<◌, List, [], ◌∷
 use Rattle.std.specs.List.{All}
 use Rattle.std.proofs.lemmas.List.{map-append, length-map}
 use Rattle.hose_words.specs.steps.Cursor.{Position, Took, IsWrong}
-use Rattle.hose_words.specs.Form.{list, grammar_of}
-use Rattle.hose_words.specs.Grammar.{IsFirstNotAllowed}
+use Rattle.hose_words.specs.steps.Form.{list, grammar_of}
+use Rattle.hose_words.specs.steps.Grammar.{IsFirstNotAllowed}
 use Rattle.hose_words.proofs.Forms.{AreApart}
 use Rattle.hose_words.proofs.Listing.{Listing, listing_more, one_item_more, wrong_after}
 use Rattle.hose_proto.specs.steps.Reading.{EndsList, IfFirst, ListGoesOn, TellsNone}

@@ -1,6 +1,7 @@
 pub mod Apart
 pub mod Back
 pub mod Colons
+pub mod CommandShapes
 pub mod EndWords
 pub mod Faults
 pub mod Hoses

@@ -3,13 +3,14 @@ use Rattle.std.proofs.Common.{◌≡◌, ◌⊎◌, ◌∙◌, ℕ, List, [], �
 use Rattle.std.specs.List.Sorted.{IsPermutation}
 use Rattle.std.proofs.lemmas.Fmt.{decimal_injective}
 use Rattle.std.proofs.lemmas.List.Sorted.{length_permutation}
-use Rattle.hose_words.specs.Form.{finish}
-use Rattle.hose_words.specs.Grammar.{IsFirstNotAllowed}
+use Rattle.hose_words.specs.steps.Form.{finish}
+use Rattle.hose_words.specs.steps.Grammar.{IsFirstNotAllowed}
 use Rattle.hose_words.proofs.Passing.{Passes, pass_branch, pass_finish, pass_list, pass_place}
 use Rattle.hose_graph.specs.steps.Naming.{AsksOf}
 use Rattle.hose_graph.specs.Network.{Network, IsNetwork}
 use Rattle.hose_graph.specs.declared.command.Command.{Command}
-use Rattle.hose_proto.specs.Command.{AreEndsOf, Asked, AskedValues, Asks, IsCommand, an_id, asked_form, command_form, command_grammar, command_told, ends_form, nothing, one_link, the_hose, verb_asked, verb_word}
+use Rattle.hose_proto.specs.Command.{AreEndsOf, verb_word}
+use Rattle.hose_proto.specs.steps.CommandForms.{Asked, AskedValues, Asks, AsksByFields, an_id, asked_form, command_form, command_grammar, command_told, ends_form, nothing, one_link, the_hose, verb_asked}
 use Rattle.hose_proto.specs.declared.fault.ReadFault.{ReadFault}
 use Rattle.hose_proto.specs.declared.fault.ReadFault.TheVariants as fault
 use Rattle.hose_proto.specs.declared.verb.Verb.{Verb}
@@ -23,7 +24,7 @@ use Rattle.hose_proto.proofs.Words.{links_apart, verbs_apart}
 
 -- the first word of a command came, and its fields after it
 pub command_of : {network : Network} {words : List (List ℕ)} {came : Verb} (verb : Verb) (values : AskedValues (verb_asked verb)) → came ≡ verb → Asks network (verb_asked verb) values words
-    → IsCommand network (verb_word came ∷ words) (command_told verb values)
+    → AsksByFields network (verb_word came ∷ words) (command_told verb values)
 command_of {network} {words} {came} verb values same asks = record { verb = verb; values = values; first = ap verb_word same; asks = asks; is = refl }
 
 module _ (network : Network) (is : IsNetwork network) where
@@ -63,7 +64,7 @@ module _ (network : Network) (is : IsNetwork network) where
       (λ others asks'. ap (command_told one) (asks_once (verb_asked one) words values others asks asks'))
 
   -- words ask for one command at most
-  pub command_unique : (words : List (List ℕ)) (one other : Command) → IsCommand network words one → IsCommand network words other → one ≡ other
+  pub command_unique : (words : List (List ℕ)) (one other : Command) → AsksByFields network words one → AsksByFields network words other → one ≡ other
   command_unique [] one other asks asks' = absurd asks.first
   command_unique (word ∷ words) one other asks asks' =
       let same = verbs_apart.apart asks.verb asks'.verb tt tt (sym asks.first ∙ asks'.first) in
@@ -87,7 +88,7 @@ module _ (network : Network) (is : IsNetwork network) where
   pass_asked the_hose words hose are = pass_ends words hose are
 
   -- where words ask for a command, none of them is wrong
-  pub pass_command : (words : List (List ℕ)) (command : Command) → IsCommand network words command → Passes (command_form network) words
+  pub pass_command : (words : List (List ℕ)) (command : Command) → AsksByFields network words command → Passes (command_form network) words
   pass_command [] command asks = absurd asks.first
   pass_command (word ∷ words) command asks =
       subst (λ w. Passes (command_form network) (w ∷ words)) (sym asks.first) (pass_branch asks.verb tt verbs_apart (pass_asked (verb_asked asks.verb) words asks.values asks.asks))
@@ -97,8 +98,8 @@ pub ends_unique : (network : Network) (words : List (List ℕ)) (hose other : Li
 ends_unique network words hose other is are are' = one_of_ends network is words hose other are are'
 
 -- what words ask for is what was read of them, but where memory was short
-pub asked_for : (network : Network) (words : List (List ℕ)) (result : Result Command ReadFault) → IsNetwork network → IfOk result (IsCommand network words)
-    → ((n : ℕ) → result ≡ Err (fault.Bad n) → (place : ℕ) × IsFirstNotAllowed (command_grammar network) [] words place) → (command : Command) → IsCommand network words command
+pub asked_for : (network : Network) (words : List (List ℕ)) (result : Result Command ReadFault) → IsNetwork network → IfOk result (AsksByFields network words)
+    → ((n : ℕ) → result ≡ Err (fault.Bad n) → (place : ℕ) × IsFirstNotAllowed (command_grammar network) [] words place) → (command : Command) → AsksByFields network words command
     → (result ≡ Ok command) ⊎ (result ≡ Err fault.Memory)
 asked_for network words (Ok read) is ok bad command asks = inl (ap Ok (command_unique network is words read command ok asks))
 asked_for network words (Err (fault.Bad n)) is ok bad command asks = let wrong = bad n refl in absurd ((pass_command network is words command asks).none wrong.0 wrong.1)
@@ -117,6 +118,6 @@ asks_of network words verb.Down (link, _) (_, there, _) = there
 asks_of network words verb.Up (link, _) (_, there, _) = there
 asks_of network words other values asks = tt
 
-pub read_asks_of : {E : Type 0} (network : Network) (words : List (List ℕ)) (read : Result Command E) → IfOk read (IsCommand network words) → IfOk read (AsksOf network)
+pub read_asks_of : {E : Type 0} (network : Network) (words : List (List ℕ)) (read : Result Command E) → IfOk read (AsksByFields network words) → IfOk read (AsksOf network)
 read_asks_of network words (Ok command) asks = subst (AsksOf network) (sym asks.is) (asks_of network (drop 1 words) asks.verb asks.values asks.asks)
 read_asks_of network words (Err fault) asks = tt

@@ -5,7 +5,7 @@ use Rattle.std.specs.List.{All}
 use Rattle.std.proofs.lemmas.List.{get_or-map, length-map}
 use Rattle.std.proofs.lemmas.List.Elements.{All-cons, All-map, All-nil}
 use Rattle.std.proofs.lemmas.Fmt.{decimal_injective}
-use Rattle.hose_words.specs.Form.{Each}
+use Rattle.hose_words.specs.steps.Form.{Each}
 use Rattle.hose_words.proofs.Forms.{AreApart, apart_by}
 use Rattle.hose_words.proofs.Keywords.{choice_of}
 use Rattle.hose_graph.specs.Network.{Network, IsNetwork, IsLinkOf}

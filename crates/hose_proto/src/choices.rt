@@ -1,7 +1,8 @@
 // Choices that are told by a word each, as a table has them.
 ghost use Rattle.std.specs.Prelude.{◌≡◌, ◌≢◌, ℕ, List, IfErr, IfNone, IfOk, IfSome};
 ghost use Rattle.hose_words.specs.steps.Cursor.{Misses, Took};
-ghost use Rattle.hose_words.specs.Form.{Each, IsChoice};
+ghost use Rattle.hose_words.specs.steps.Form.{Each};
+ghost use Rattle.hose_words.specs.Words.{IsChoice};
 ghost use Rattle.hose_proto.specs.steps.Choices.{IsWordTable, rows_of};
 
 use hose_words::{Cursor, WrongWord};

@@ -1,14 +1,14 @@
 // Commands read from words.
-ghost use Rattle.std.specs.Prelude.{◌≡◌, ◌⊎◌, ℕ, List, ◌+◌, ◌≤◌, ◌↔◌, [], length, drop, Ok, Err, IfOk, IfErr, IsTrue, Any};
-ghost use Rattle.hose_words.specs.Form.{IsChoice, grammar_of};
-ghost use Rattle.hose_words.specs.Grammar.{IsFirst, IsFirstNotAllowed};
-ghost use Rattle.hose_words.specs.Words.{words_of};
+ghost use Rattle.std.specs.Prelude.{◌≡◌, ◌⊎◌, ℕ, List, ◌+◌, ◌≤◌, ◌↔◌, length, drop, Ok, Err, IfOk, IfErr, IsTrue, Any};
+ghost use Rattle.hose_words.specs.Words.{IsChoice, IsFirst, words_of};
+ghost use Rattle.hose_words.specs.Shapes.{IsFirstWrong};
 ghost use Rattle.hose_graph.specs.Hose.{Endpoint, node_of};
 ghost use Rattle.hose_graph.specs.Network.{IsNetwork};
 ghost use Rattle.hose_graph.specs.declared.command.Command.{Command};
-ghost use Rattle.hose_proto.specs.Command.{AreEndsOf, AreNewEnds, IsCommand, TakesMemory, command_form, command_grammar, ends_form, verb_word};
+ghost use Rattle.hose_proto.specs.Command.{AreEndsOf, AreNewEnds, IsCommand, TakesMemory, command_shape, ends_shape, verb_word};
 ghost use Rattle.hose_proto.specs.Places.{end_word};
-ghost use Rattle.hose_proto.specs.steps.Reading.{IsFaultOf, IsNewEnd};
+ghost use Rattle.hose_proto.specs.steps.CommandForms.{AsksByFields, command_form, ends_form};
+ghost use Rattle.hose_proto.specs.steps.Reading.{IsFaultIn, IsFaultOf, IsNewEnd};
 ghost use Rattle.hose_graph.specs.steps.Naming.{AsksOf};
 
 use crate::choices::next_choice;
@@ -34,7 +34,7 @@ pub fn read_command(
     ensures ok { IfOk result (IsCommand top.now (drop from (words_of line.now))) }
     ensures bad { (word : ℕ) → result ≡ Err (ReadFault.Bad word)
         → (place : ℕ) × (word ≡ from + place)
-        × IsFirstNotAllowed (command_grammar top.now) [] (drop from (words_of line.now)) place }
+        × IsFirstWrong (command_shape top.now) (drop from (words_of line.now)) place }
 
     // A line that asks for a command is never refused, and nothing else is read of it.
     ensures asked { (command : Command) → IsCommand top.now (drop from (words_of line.now)) command
@@ -56,7 +56,7 @@ pub fn read_command_at(
     words: &mut Cursor<'_>,
 ) -> Result<Command, ReadFault>
     ensures ok { IfOk result (IsCommand top.now words.old.left) }
-    ensures bad { IfErr result (IsFaultOf (command_form top.now) words.old) }
+    ensures bad { IfErr result (IsFaultIn (command_shape top.now) words.old) }
     ensures asked { (command : Command) → IsCommand top.now words.old.left command
         → (result ≡ Ok command) ⊎ (result ≡ Err ReadFault.Memory) }
     ensures memory { result ≡ Err ReadFault.Memory
@@ -68,7 +68,7 @@ pub fn read_command_at(
     ensures alone { (command other : Command) → IsCommand top.now words.old.left command
         → IsCommand top.now words.old.left other → command ≡ other }
     ensures never_wrong { (command : Command) (word : ℕ) → IsCommand top.now words.old.left command
-        → IsFirstNotAllowed (command_grammar top.now) [] words.old.left word → ⊥ }
+        → IsFirstWrong (command_shape top.now) words.old.left word → ⊥ }
 {
     // The call tells the proof what holds of each network: that no two nodes have one name.
     let _nodes = top.nodes();
@@ -78,7 +78,7 @@ pub fn read_command_at(
 // Reads the words of a command, where it is known that `top` is a network.
 fn read_words(alloc: Global, top: &Topology, words: &mut Cursor<'_>) -> Read<Command>
     requires { IsNetwork top.now }
-    ensures ok { IfOk result (IsCommand top.now words.old.left) }
+    ensures ok { IfOk result (AsksByFields top.now words.old.left) }
     ensures bad { IfErr result (IsFaultOf (command_form top.now) words.old) }
     ensures memory { result ≡ Err ReadFault.Memory
         → IsFirst (IsChoice TakesMemory verb_word) words.old.left }
@@ -90,14 +90,14 @@ fn read_words(alloc: Global, top: &Topology, words: &mut Cursor<'_>) -> Read<Com
 /// The hose of the endpoints `NAME:RATE` that are left of a line. They may stand in any order.
 pub fn read_hose(alloc: Global, top: &Topology, words: &mut Cursor<'_>) -> Result<Hose, ReadFault>
     ensures ok { IfOk result (AreEndsOf top.now words.old.left) }
-    ensures bad { IfErr result (IsFaultOf (ends_form top.now) words.old) }
+    ensures bad { IfErr result (IsFaultIn (ends_shape top.now) words.old) }
 
     // Whatever is answered, these words spell one hose at most, and where they spell one, none of
     // them is wrong.
     ensures alone { (hose other : List Endpoint) → AreEndsOf top.now words.old.left hose
         → AreEndsOf top.now words.old.left other → hose ≡ other }
     ensures never_wrong { (hose : List Endpoint) (word : ℕ) → AreEndsOf top.now words.old.left hose
-        → IsFirstNotAllowed (grammar_of (ends_form top.now)) [] words.old.left word → ⊥ }
+        → IsFirstWrong (ends_shape top.now) words.old.left word → ⊥ }
 {
     // The call tells the proof what holds of each network: that no two nodes have one name.
     let _nodes = top.nodes();

@@ -1,7 +1,7 @@
 // Lists read from words, item by item to the end of the line.
 ghost use Rattle.std.specs.Prelude.{◌≡◌, ℕ, ◌≤◌, List, [], length, map, IfOk, IfErr, IfSome, IfNone};
 ghost use Rattle.hose_words.specs.steps.Cursor.{IsWrong, Took};
-ghost use Rattle.hose_words.specs.Form.{list};
+ghost use Rattle.hose_words.specs.steps.Form.{list};
 ghost use Rattle.hose_graph.specs.Network.{Network, IsNetwork};
 ghost use Rattle.hose_proto.specs.steps.Reading.{EndsList, IsFaultOf, ListGoesOn, TellsNext};
 

@@ -1,7 +1,8 @@
 // Words that name something of a network, and the parts of words.
 ghost use Rattle.std.specs.Prelude.{◌≡◌, ◌++◌, ◌∷◌, ℕ, decimal, Contains, IfOk, IfErr, IfSome, IfNone, Some};
 ghost use Rattle.hose_words.specs.steps.Cursor.{Took, Misses};
-ghost use Rattle.hose_words.specs.Form.{Fits64, IsChoice};
+ghost use Rattle.hose_words.specs.Numbers.{Fits64};
+ghost use Rattle.hose_words.specs.Words.{IsChoice};
 ghost use Rattle.hose_graph.specs.Hose.{Endpoint};
 ghost use Rattle.hose_graph.specs.Limit.{IsUpTo};
 ghost use Rattle.hose_graph.specs.Name.{IsName};

@@ -1,9 +1,10 @@
 // The table of commands: the first word of each, and what is read after it.
 ghost use Rattle.std.specs.Prelude.{◌≡◌, ◌∷◌, IfOk, IfErr, Err};
 ghost use Rattle.hose_words.specs.steps.Cursor.{IsWrong};
-ghost use Rattle.hose_words.specs.Form.{TellsNumber, finish, place};
+ghost use Rattle.hose_words.specs.steps.Form.{TellsNumber, finish, place};
 ghost use Rattle.hose_graph.specs.Network.{Network, IsNetwork};
-ghost use Rattle.hose_proto.specs.Command.{Asks, IsCommand, IsId, TakesMemory, an_id, asked_form, nothing, one_link, the_hose, verb_form, verb_word};
+ghost use Rattle.hose_proto.specs.Command.{IsId, TakesMemory, verb_word};
+ghost use Rattle.hose_proto.specs.steps.CommandForms.{Asks, AsksByFields, an_id, asked_form, nothing, one_link, the_hose, verb_form};
 ghost use Rattle.hose_proto.specs.steps.Reading.{IsFaultOf};
 
 use crate::command::read_ends;
@@ -59,7 +60,7 @@ pub(crate) fn read_after(
     words: &mut Cursor<'_>,
 ) -> Read<Command>
     requires { IsNetwork top.now }
-    ensures ok { IfOk result (IsCommand top.now (verb_word verb ∷ words.old.left)) }
+    ensures ok { IfOk result (AsksByFields top.now (verb_word verb ∷ words.old.left)) }
     ensures bad { IfErr result (IsFaultOf (verb_form top.now verb) words.old) }
     ensures memory { result ≡ Err ReadFault.Memory → TakesMemory verb }
 {

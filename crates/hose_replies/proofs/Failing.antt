@@ -1,8 +1,7 @@
 -- Fields of a line: what is told of them at the exits of those that read them.
 use Rattle.std.proofs.Common.{ℕ, List, [], ◌∷◌, refl}
 use Rattle.hose_words.specs.steps.Cursor.{Position, TookAll, IsWrong}
-use Rattle.hose_words.specs.Form.{Form, anything}
-use Rattle.hose_words.specs.steps.Form.{these}
+use Rattle.hose_words.specs.steps.Form.{Form, anything, these}
 use Rattle.hose_words.proofs.Forms.{wrong_both, wrong_nowhere, wrong_past, wrong_same}
 use Rattle.hose_graph.specs.Network.{Network}
 use Rattle.hose_replies.specs.steps.Fields.{Fields, HaveLists, form_of}

@@ -5,7 +5,7 @@ use Rattle.std.specs.Str.{bytes_eq}
 use Rattle.std.proofs.lemmas.Bool.{false≢true}
 use Rattle.std.proofs.lemmas.Option.{slice_get-get_or}
 use Rattle.std.proofs.lemmas.Slice.Eq.{bytes_eq-Decides}
-use Rattle.hose_words.specs.Form.{Fits64}
+use Rattle.hose_words.specs.Numbers.{Fits64}
 use Rattle.hose_words.proofs.Passing.{Passes, pass_branch, pass_finish, pass_list, pass_place, pass_these, pass_until}
 use Rattle.hose_words.proofs.Until.{HasNoLast}
 use Rattle.hose_words.proofs.Spaced.{AreWords, AreWords-map, AreWords-append, IsWord, IsWord-allowed, IsWord-known, IsWord-decimal, IsWord-colon, is_plain}

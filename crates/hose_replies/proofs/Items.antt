@@ -3,7 +3,7 @@ use Rattle.std.proofs.Common.{◌≡◌, ℕ, ◌^◌, ◌<◌, List, [], ◌∷
 use Rattle.std.specs.List.Sorted.{IsStrictlyIncreasing}
 use Rattle.std.proofs.lemmas.Fmt.{decimal_injective}
 use Rattle.std.proofs.lemmas.List.Elements.{All-nil, All-push}
-use Rattle.hose_words.specs.Form.{Fits64}
+use Rattle.hose_words.specs.Numbers.{Fits64}
 use Rattle.hose_words.proofs.Forms.{AreApart}
 use Rattle.hose_words.proofs.Passing.{All-front, IsClosed}
 use Rattle.hose_graph.specs.Network.{Network, IsNetwork}

@@ -6,8 +6,10 @@ use Rattle.std.proofs.lemmas.List.{length-map, map-append}
 use Rattle.std.proofs.lemmas.List.Elements.{All-cons, All-nil, Contains-append_right}
 use Rattle.std.proofs.lemmas.Str.Parse.{digit_at}
 use Rattle.hose_words.specs.steps.Cursor.{Position, Took, IsWrong}
-use Rattle.hose_words.specs.Form.{Form, Fits64, Follows, IsWhole, TellsItems, grammar_of, until}
-use Rattle.hose_words.specs.Grammar.{IsFirst, IsFirstNotAllowed}
+use Rattle.hose_words.specs.steps.Form.{Form, Follows, IsWhole, TellsItems, grammar_of, until}
+use Rattle.hose_words.specs.Numbers.{Fits64}
+use Rattle.hose_words.specs.Words.{IsFirst}
+use Rattle.hose_words.specs.steps.Grammar.{IsFirstNotAllowed}
 use Rattle.hose_words.proofs.Listing.{Listing, listing_more, wrong_after}
 use Rattle.hose_words.proofs.Until.{HasNoLast, no_whole_list, until_more, until_only}
 use Rattle.hose_graph.specs.Network.{Network, name_of}

@@ -2,7 +2,7 @@
 use Rattle.std.proofs.Common.{◌≡◌, ◌⊎◌, ◌∙◌, ℕ, true, false, List, [], ◌∷◌, Result, Ok, Err, IfOk, IfErr, get_or, drop, inl, inr, refl, sym, ap, subst}
 use Rattle.std.proofs.lemmas.Result.{IfErr-at_err}
 use Rattle.hose_words.specs.steps.Cursor.{Position}
-use Rattle.hose_words.specs.Grammar.{IsFirstNotAllowed}
+use Rattle.hose_words.specs.steps.Grammar.{IsFirstNotAllowed}
 use Rattle.hose_words.specs.Words.{words_of}
 use Rattle.hose_words.proofs.Forms.{wrong_at_start}
 use Rattle.hose_words.proofs.Passing.{pass_branch}

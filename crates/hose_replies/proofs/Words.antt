@@ -1,6 +1,6 @@
 -- The words that tell which reply a line is differ.
 use Rattle.std.proofs.Common.{◌≡◌, ℕ, List, map, refl, arith}
-use Rattle.hose_words.specs.Form.{Each}
+use Rattle.hose_words.specs.steps.Form.{Each}
 use Rattle.hose_words.proofs.Forms.{AreApart, apart_by}
 use Rattle.hose_words.proofs.Keywords.{choice_of}
 use Rattle.hose_proto.specs.steps.Choices.{IsWordTable}

@@ -1,8 +1,7 @@
 // The fields of a line as types, each of which is read with those that follow it.
 ghost use Rattle.std.specs.Prelude.{◌≡◌, ◌<◌, ℕ, List, codes, length, slice_get, IfOk, OnOk, IfErr};
 ghost use Rattle.hose_words.specs.steps.Cursor.{Took, TookAll, Misses, IsWrong};
-ghost use Rattle.hose_words.specs.Form.{anything};
-ghost use Rattle.hose_words.specs.steps.Form.{these};
+ghost use Rattle.hose_words.specs.steps.Form.{anything, these};
 ghost use Rattle.hose_graph.specs.Network.{IsNetwork, name_of};
 ghost use Rattle.hose_replies.specs.steps.Fields.{Fields, Values, a_link, a_link_told, a_missing, a_number, a_service, a_word, no_more, FieldsTell};
 ghost use Rattle.hose_proto.specs.ReplyWords.{words_of_link};

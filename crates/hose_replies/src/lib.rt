@@ -7,9 +7,8 @@
 #![tactic(auto)]
 
 ghost use Rattle.std.specs.Prelude.{◌≡◌, ◌⊎◌, ℕ, [], IfOk, Ok, Err};
-ghost use Rattle.hose_words.specs.Form.{IsChoice};
-ghost use Rattle.hose_words.specs.Grammar.{IsFirst, IsFirstNotAllowed};
-ghost use Rattle.hose_words.specs.Words.{words_of};
+ghost use Rattle.hose_words.specs.Words.{IsChoice, IsFirst, words_of};
+ghost use Rattle.hose_words.specs.steps.Grammar.{IsFirstNotAllowed};
 ghost use Rattle.hose_graph.specs.declared.command.Reply.{Reply};
 ghost use Rattle.hose_graph.specs.steps.Naming.{NamesPlaces};
 ghost use Rattle.hose_proto.specs.declared.fault.ReadFault.TheVariants.{Bad, Memory};

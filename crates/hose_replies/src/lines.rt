@@ -1,7 +1,6 @@
 // The reply of a line, by its first word: a function for each row of the table of lines.
 ghost use Rattle.std.specs.Prelude.{◌≡◌, ◌∷◌, IfOk, IfErr, Err};
-ghost use Rattle.hose_words.specs.Form.{IsChoice};
-ghost use Rattle.hose_words.specs.Grammar.{IsFirst};
+ghost use Rattle.hose_words.specs.Words.{IsChoice, IsFirst};
 ghost use Rattle.hose_graph.specs.Network.{IsNetwork};
 ghost use Rattle.hose_proto.specs.declared.fault.ReadFault.TheVariants.{Memory};
 ghost use Rattle.hose_proto.specs.steps.Reading.{IsFaultOf};

@@ -1,7 +1,7 @@
 // The lists of replies, read from words.
 ghost use Rattle.std.specs.Prelude.{◌≡◌, ◌↔◌, ◌++◌, [], ◌∷◌, decimal, IfSome, IfNone, IsTrue};
 ghost use Rattle.std.specs.List.Sorted.{IsStrictlyIncreasing};
-ghost use Rattle.hose_words.specs.Form.{Fits64};
+ghost use Rattle.hose_words.specs.Numbers.{Fits64};
 ghost use Rattle.hose_graph.specs.Ascending.{IsAscending, firsts};
 ghost use Rattle.hose_graph.specs.Network.{IsNetwork, IsNodeOf, name_of};
 ghost use Rattle.hose_proto.specs.Places.{end_word};

@@ -1,7 +1,7 @@
 // Lists read from words, item by item to a word that ends them.
 ghost use Rattle.std.specs.Prelude.{◌≡◌, ◌≢◌, ◌↔◌, ℕ, ◌≤◌, List, [], ◌∷◌, ◌++◌, All, length, map, IfOk, OnOk, IfErr, IfSome, IfNone, IsTrue};
 ghost use Rattle.hose_words.specs.steps.Cursor.{IsWrong, Took};
-ghost use Rattle.hose_words.specs.Form.{until};
+ghost use Rattle.hose_words.specs.steps.Form.{until};
 ghost use Rattle.hose_graph.specs.Network.{IsNetwork};
 ghost use Rattle.hose_proto.specs.steps.Reading.{IsFaultOf, ListGoesOn};
 ghost use Rattle.hose_replies.specs.steps.Fields.{Fields, form_of};

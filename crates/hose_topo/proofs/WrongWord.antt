@@ -1,9 +1,10 @@
 -- A line that is wrong at a word neither adds to the network nor ends the text.
 use Rattle.std.proofs.Common.{◌≡◌, ℕ, List, [], ◌∷◌, codes, decimal, inl, inr, refl, sym, subst, arith}
 use Rattle.hose_words.specs.steps.Cursor.{IsWrong, Position, Took}
-use Rattle.hose_words.specs.Form.{IsChoice, TellsNumber, branch, maybe, finish, grammar_of}
+use Rattle.hose_words.specs.Words.{IsChoice}
+use Rattle.hose_words.specs.steps.Form.{TellsNumber, branch, maybe, finish, grammar_of}
+use Rattle.hose_words.specs.steps.Grammar.{IsFirstNotAllowed}
 use Rattle.hose_words.specs.Shapes.{IsFirstWrong}
-use Rattle.hose_words.specs.Grammar.{IsFirstNotAllowed}
 use Rattle.hose_words.proofs.Forms.{AreApart, apart_by, wrong_chosen}
 use Rattle.hose_words.proofs.Keywords.{choice_of}
 use Rattle.hose_words.proofs.Shapes.{Agrees, agrees_end, agrees_last, agrees_place, agrees_value, form_of_wrong}

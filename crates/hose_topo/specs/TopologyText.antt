@@ -63,8 +63,13 @@ abbrev pub with_told : (network : Network) → Values (line_shape network) → O
 with_told network (kind.Node, (name, _)) =
     Some (record network { nodes = network.nodes ++ name ∷ [] })
 with_told network (kind.Link, (a, (b, (capacity, (length, cost))))) = Some (record network {
-  links = network.links
-      ++ record { a = a; b = b; capacity = capacity; length = length; cost = unwrap_or cost length } ∷ [];
+  links = network.links ++ record {
+    a = a;
+    b = b;
+    capacity = capacity;
+    length = length;
+    cost = unwrap_or cost length;
+  } ∷ [];
 })
 with_told network (kind.End, _) = None
 

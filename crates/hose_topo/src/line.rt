@@ -1,8 +1,8 @@
 // One line of a topology's text.
 ghost use Rattle.std.specs.Prelude.{◌≡◌, ◌⊎◌, ◌∷◌, [], ◌↔◌, codes, decimal, IfOk, OnOk, IfErr, OnErr, IsTrue};
 ghost use Rattle.hose_words.specs.steps.Cursor.{Took, IsWrong, Misses};
-ghost use Rattle.hose_words.specs.Form.{IsChoice, finish, maybe};
-ghost use Rattle.hose_words.specs.Words.{words_of};
+ghost use Rattle.hose_words.specs.Words.{IsChoice, words_of};
+ghost use Rattle.hose_words.specs.steps.Form.{finish, maybe};
 ghost use Rattle.hose_graph.specs.Limit.{IsUpTo};
 ghost use Rattle.hose_graph.specs.Network.{IsLink, IsNetwork, IsNodeOf, HasLinkRoom, HasNodeRoom, name_of};
 ghost use Rattle.hose_topo.specs.steps.Taken.{TakesWords};

@@ -3,7 +3,7 @@ use Rattle.std.proofs.Common.{◌≡◌, Result, IfErr}
 use Rattle.std.specs.Result.{IsErrAnd}
 use Rattle.std.proofs.lemmas.Result.{err_from_is_err_and}
 use Rattle.hose_words.specs.steps.Cursor.{Position, IsWrong}
-use Rattle.hose_words.specs.Form.{Form}
+use Rattle.hose_words.specs.steps.Form.{Form}
 use Rattle.hose_words.specs.declared.cursor.WrongWord.{WrongWord}
 
 -- the word that a form does not allow is the one that was told

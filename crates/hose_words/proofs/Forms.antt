@@ -1,8 +1,9 @@
 -- Words that a form takes one after the other: which of them is the first that is not allowed.
 use Rattle.std.proofs.Common.{◌≡◌, ◌∙◌, ℕ, ◌+◌, List, [], ◌∷◌, ◌++◌, length, inl, inr, refl, sym, ap, subst, arith, append_assoc, length-append}
-use Rattle.hose_words.specs.Grammar.{Grammar, IsFirst, IsFirstNotAllowed}
+use Rattle.hose_words.specs.steps.Grammar.{Grammar, IsFirstNotAllowed}
+use Rattle.hose_words.specs.Words.{IsFirst, IsChoice}
+use Rattle.hose_words.specs.steps.Form.{Form, anything, place, branch, maybe, Follows, IsWhole, grammar_of}
 use Rattle.hose_words.specs.steps.Cursor.{Position, Took, TookAll, Misses, IsWrong}
-use Rattle.hose_words.specs.Form.{Form, anything, place, branch, maybe, Follows, IsWhole, grammar_of, IsChoice}
 use Rattle.hose_words.proofs.Judging.{wrong_here}
 
 -- ---- one grammar after some words of another

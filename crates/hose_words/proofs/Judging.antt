@@ -1,6 +1,7 @@
 -- Words that are judged from the left.
 use Rattle.std.proofs.Common.{◌≡◌, ◌∙◌, ℕ, ◌+◌, List, [], ◌∷◌, ◌++◌, length, inl, inr, refl, sym, subst}
-use Rattle.hose_words.specs.Grammar.{Grammar, IsFirst, IsFirstNotAllowed}
+use Rattle.hose_words.specs.steps.Grammar.{Grammar, IsFirstNotAllowed}
+use Rattle.hose_words.specs.Words.{IsFirst}
 
 -- the next word is not allowed, or missing
 pub wrong_here : (grammar : Grammar) (before words : List (List ℕ)) → (IsFirst (grammar.may_follow before) words → ⊥) → (grammar.is_whole before → ⊥)

@@ -13,5 +13,6 @@ pub mod Passing
 pub mod Saying
 pub mod Shapes
 pub mod Spaced
+pub mod ToldShapes
 pub mod Until
 pub mod WordLemmas

@@ -2,9 +2,10 @@
 use Rattle.std.proofs.Common.{◌≡◌, ◌∙◌, ℕ, ◌+◌, ◌<◌, List, [], ◌∷◌, ◌++◌, length, map, inl, inr, refl, sym, ap, subst, arith, append_assoc, length-append, suc}
 use Rattle.std.specs.List.{All}
 use Rattle.std.proofs.lemmas.List.{map-append, length-map}
-use Rattle.hose_words.specs.Grammar.{IsFirst, IsFirstNotAllowed}
+use Rattle.hose_words.specs.Words.{IsFirst}
+use Rattle.hose_words.specs.steps.Grammar.{IsFirstNotAllowed}
+use Rattle.hose_words.specs.steps.Form.{Form, list, Follows, grammar_of}
 use Rattle.hose_words.specs.steps.Cursor.{Position, Took, TookAll, IsWrong, MissesItem}
-use Rattle.hose_words.specs.Form.{Form, list, Follows, grammar_of}
 use Rattle.hose_words.proofs.Forms.{AreApart}
 
 -- These items were read, and each word of theirs was allowed.

@@ -3,9 +3,8 @@ use Rattle.std.proofs.Common.{◌≡◌, ◌≢◌, ℕ, ◌+◌, ◌≤◌, Lis
 use Rattle.std.specs.List.{All}
 use Rattle.std.proofs.Math.ListN.{get_or-append}
 use Rattle.std.proofs.lemmas.List.{length-map, map-append}
-use Rattle.hose_words.specs.Grammar.{IsFirstNotAllowed}
-use Rattle.hose_words.specs.Form.{Form, finish, place, branch, maybe, list, until, Follows, TellsItems, grammar_of}
-use Rattle.hose_words.specs.steps.Form.{these}
+use Rattle.hose_words.specs.steps.Grammar.{IsFirstNotAllowed}
+use Rattle.hose_words.specs.steps.Form.{Form, finish, place, branch, maybe, list, until, Follows, TellsItems, grammar_of, these}
 use Rattle.hose_words.proofs.Forms.{AreApart, GoesOnAs, after_branch, after_place, front_wrong}
 use Rattle.hose_words.proofs.Until.{HasNoLast, after_until, until_more}
 

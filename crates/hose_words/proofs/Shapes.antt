@@ -2,8 +2,9 @@
 use Rattle.std.proofs.Common.{◌≡◌, ◌∙◌, ◌⊎◌, ℕ, ◌+◌, ◌<◌, ◌≤◌, List, [], ◌∷◌, ◌++◌, length, take, drop, get_or, map, inl, inr, refl, sym, ap, subst, arith, append_assoc, append-nil, length-append, true, false, Option, None, Some, suc, zero}
 use Rattle.std.proofs.lemmas.List.{length-map, take-append-drop, take_all, take_at}
 use Rattle.std.specs.List.{take-map}
-use Rattle.hose_words.specs.Grammar.{Grammar, IsFirstNotAllowed}
-use Rattle.hose_words.specs.Form.{Form, finish, place, branch, maybe, list, Follows, IsChoice, IsWhole, grammar_of}
+use Rattle.hose_words.specs.steps.Grammar.{Grammar, IsFirstNotAllowed}
+use Rattle.hose_words.specs.steps.Form.{Form, finish, place, branch, maybe, list, Follows, IsWhole, grammar_of}
+use Rattle.hose_words.specs.Words.{IsChoice}
 use Rattle.hose_words.specs.Shapes.{Begin, BeginBy, BeginWith, IsFirstWrong, Shape, Tells, Values, choice, flag, items, last, line_end, option, value}
 use Rattle.hose_words.proofs.Forms.{AreApart}
 use Rattle.hose_words.proofs.Passing.{IsClosed}
@@ -166,7 +167,7 @@ module _ {A : Type 0} (may : A → Type 0) (word_of : A → List ℕ) (Begins : 
   pub steps_by : Steps (λ words. BeginBy may word_of Begins words) grammar
   steps_by = record { nothing = tt; front = front; follow = follow; follow_back = follow_back }
 
-abbrev first_word : List (List ℕ) → List ℕ
+abbrev pub first_word : List (List ℕ) → List ℕ
 first_word words = get_or words 0 []
 
 -- such words as a whole, where those after each value do

@@ -2,9 +2,9 @@
 use Rattle.std.proofs.Common.{◌≡◌, ◌≢◌, ◌⊎◌, ℕ, ◌+◌, ◌≤◌, suc, List, [], ◌∷◌, ◌++◌, length, map, inl, inr, refl, sym, subst, arith, append_assoc, append-nil, length-append}
 use Rattle.std.specs.List.{All}
 use Rattle.std.proofs.lemmas.List.{length-map}
-use Rattle.hose_words.specs.Grammar.{IsFirstNotAllowed}
+use Rattle.hose_words.specs.steps.Grammar.{IsFirstNotAllowed}
+use Rattle.hose_words.specs.steps.Form.{Form, until, FollowsUntil, WholeUntil, Follows, IsWhole, TellsItems, grammar_of}
 use Rattle.hose_words.specs.steps.Cursor.{Position, Took, IsWrong}
-use Rattle.hose_words.specs.Form.{Form, until, FollowsUntil, WholeUntil, Follows, IsWhole, TellsItems, grammar_of}
 use Rattle.hose_words.proofs.Forms.{GoesOnAs, wrong_front}
 use Rattle.hose_words.proofs.Listing.{Listing}
 

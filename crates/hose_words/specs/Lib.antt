@@ -1,8 +1,7 @@
 pub mod Asking
-pub mod Form
-pub mod Grammar
 pub mod Limits
 pub mod Lines
+pub mod Numbers
 pub mod Reading
 pub mod Saying
 pub mod Shapes

@@ -3,6 +3,7 @@ pub mod Buffer
 pub mod BufferInside
 pub mod Cursor
 pub mod Form
+pub mod Grammar
 pub mod Intake
 pub mod Kept
 pub mod Lines

@@ -1,9 +1,9 @@
 // The words of a line, one after the other, with their numbers.
 ghost use Rattle.std.specs.Prelude.{◌≡◌, ◌≤◌, ℕ, ◌+◌, List, [], drop, length, IfOk, OnOk, IfErr, IfSome, IfNone, decimal};
-ghost use Rattle.hose_words.specs.Words.{words_of};
+ghost use Rattle.hose_words.specs.Words.{words_of, IsFirst, IsChoice};
+ghost use Rattle.hose_words.specs.steps.Form.{finish, Each, TellsNumber};
+ghost use Rattle.hose_words.specs.Numbers.{Fits64, IsWithin};
 ghost use Rattle.hose_words.specs.steps.Cursor.{Took, Misses, IsWrong};
-ghost use Rattle.hose_words.specs.Grammar.{IsFirst};
-ghost use Rattle.hose_words.specs.Form.{finish, IsChoice, Each, TellsNumber, Fits64, IsWithin};
 
 use crate::words::{first_word, number};
 use std::marker::Model;

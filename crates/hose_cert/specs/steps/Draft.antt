@@ -1,6 +1,6 @@
 -- What was read of a certificate so far.
 use Rattle.std.specs.Prelude.{◌≡◌, ◌↔◌, ◌<◌, ◌≤◌, ◌++◌, ℕ, Bool, IsTrue, List, [], ◌∷◌, All, Contains, length, Option, None, Some, MatchOption, slice_index}
-use Rattle.hose_words.specs.Form.{IsWithin}
+use Rattle.hose_words.specs.Numbers.{IsWithin}
 use Rattle.hose_graph.specs.Amounts.{ReservedLink, amount_of, link_of}
 use Rattle.hose_graph.specs.Ascending.{IsAscending, firsts}
 use Rattle.hose_graph.specs.Hose.{Endpoint}

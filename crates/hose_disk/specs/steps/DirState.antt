@@ -4,7 +4,8 @@ use Rattle.hose_disk.specs.Cabinet.{CabinetFrame}
 use Rattle.hose_disk.specs.declared.files.FileId.{FileId}
 use Rattle.hose_disk.specs.declared.files.Looked.{Looked}
 
--- the frame of a cabinet of the file system, and where the two names lead to that were looked at last
+-- the frame of a cabinet of the file system, and where the two names lead to that were looked at
+-- last
 pub record DirState : Type 0 where
   pub frame : CabinetFrame
   pub looked : Option Looked

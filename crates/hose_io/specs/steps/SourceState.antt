@@ -6,8 +6,8 @@ use Rattle.hose_io.specs.Frame.{Frame}
 use Rattle.hose_io.specs.Stream.{Stream}
 use Rattle.hose_io.specs.declared.faults.Faults.{Faults}
 
--- a source in memory: its bytes, those that it had left when it was asked last, how many it gives at
--- most in one call, its faults, its calls that are to fail, and its number
+-- a source in memory: its bytes, those that it had left when it was asked last, how many it gives
+-- at most in one call, its faults, its calls that are to fail, and its number
 pub record SourceState : Type 0 where
   pub content : Stream
   pub asked : List ℕ

@@ -1,6 +1,6 @@
 -- Endpoints as words by their form alone, whatever nodes there are: steps of proofs.
 use Rattle.std.specs.Prelude.{◌≡◌, ℕ, ◌<◌, ◌≤◌, List, Any, length}
-use Rattle.hose_words.specs.Form.{Form, list}
+use Rattle.hose_words.specs.steps.Form.{Form, list}
 use Rattle.hose_graph.specs.Limits.{least_ends, most_ends}
 use Rattle.hose_proto.specs.EndWords.{AreNewEndWords, IsEndWord, name_in}
 

@@ -1,7 +1,8 @@
 -- What is read of the words of commands, and of lists of words.
 use Rattle.std.specs.Prelude.{◌≡◌, ⊤, ℕ, ◌+◌, ◌<◌, List, [], ◌∷◌, ◌++◌, Option, IfNone, IfSome, Any, length, map}
+use Rattle.hose_words.specs.Shapes.{IsFirstWrong, Shape}
 use Rattle.hose_words.specs.steps.Cursor.{Position, IsWrong}
-use Rattle.hose_words.specs.Form.{Form, TellsItems}
+use Rattle.hose_words.specs.steps.Form.{Form, TellsItems}
 use Rattle.hose_graph.specs.Hose.{Endpoint, node_of}
 use Rattle.hose_graph.specs.Network.{Network}
 use Rattle.hose_graph.specs.Limits.{most_ends}
@@ -13,6 +14,11 @@ use Rattle.hose_proto.specs.steps.Places.{IsEndOf}
 -- tells nothing of them.
 pub record IsFaultOf (form : Form) (old : Position) (fault : ReadFault) : Type 0 where
   pub word : (number : ℕ) → fault ≡ Bad number → IsWrong form old number
+
+-- A word that is told is the first of those to come that is wrong in a shape.
+pub record IsFaultIn (shape : Shape) (old : Position) (fault : ReadFault) : Type 0 where
+  pub word : (number : ℕ) → fault ≡ Bad number
+      → (place : ℕ) × (number ≡ old.read + place) × IsFirstWrong shape old.left place
 
 -- ---- lists
 

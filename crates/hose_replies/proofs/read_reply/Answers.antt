@@ -1,6 +1,6 @@
 use Rattle.std.proofs.Common.{◌≡◌, [], ap, subst, sym}
 use Rattle.hose_words.specs.steps.Cursor.{Position}
-use Rattle.hose_words.specs.Grammar.{IsFirstNotAllowed}
+use Rattle.hose_words.specs.steps.Grammar.{IsFirstNotAllowed}
 use Rattle.hose_words.specs.Words.{words_of}
 use Rattle.hose_replies.specs.steps.ReplyLines.{IsReply, reply_grammar}
 use Rattle.hose_replies.proofs.ReplyLemmas.{line_of_reply, read_again, read_places, reads_again, told_at_start}

@@ -2,8 +2,8 @@
 -- what it tells, the words that tell it, when these are sound, and their grammar.
 use Rattle.std.specs.Prelude.{◌≡◌, ℕ, ◌≤◌, Bool, true, false, List, [], ◌∷◌, ◌++◌, ⊤, All, length, map, codes, decimal, slice_get}
 use Rattle.std.specs.List.Sorted.{IsStrictlyIncreasing}
-use Rattle.hose_words.specs.Form.{Form, Fits64, Each, finish, branch, list, until, this}
-use Rattle.hose_words.specs.steps.Form.{number, these}
+use Rattle.hose_words.specs.steps.Form.{Form, Each, finish, branch, list, until, this, number, these}
+use Rattle.hose_words.specs.Numbers.{Fits64}
 use Rattle.hose_graph.specs.Amounts.{ReservedLink, amount_of, link_of}
 use Rattle.hose_graph.specs.Ascending.{firsts}
 use Rattle.hose_graph.specs.Hose.{Endpoint}

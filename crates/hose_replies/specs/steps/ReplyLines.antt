@@ -1,8 +1,8 @@
 -- Replies as lines: which fields follow each first word, and the reply that they tell. Words tell a
 -- reply exactly where they are those of its text.
 use Rattle.std.specs.Prelude.{◌≡◌, ℕ, List, codes}
-use Rattle.hose_words.specs.Form.{Form, branch, Each, grammar_of}
-use Rattle.hose_words.specs.Grammar.{Grammar}
+use Rattle.hose_words.specs.steps.Form.{Form, branch, Each, grammar_of}
+use Rattle.hose_words.specs.steps.Grammar.{Grammar}
 use Rattle.hose_graph.specs.Amounts.{ReservedLink}
 use Rattle.hose_graph.specs.Network.{Network}
 use Rattle.hose_graph.specs.declared.command.Reply.{Reply}

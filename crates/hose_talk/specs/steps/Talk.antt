@@ -61,8 +61,8 @@ module _ {A R S O : Type 0} (by : Ghosts A R) (source : SourceGhosts S) (sink : 
 
 -- ---- all lines
 
--- A reply was cut off in a talk over a reader: the last line had not ended when the source was asked
--- last in it, or the source was not asked, and yet a line was taken.
+-- A reply was cut off in a talk over a reader: the last line had not ended when the source was
+-- asked last in it, or the source was not asked, and yet a line was taken.
 abbrev pub IsCutByReader : {S : Type 0} → SourceGhosts S → Reader S → Reader S → List ℕ → List ℕ
     → List ℕ → Type 0
 IsCutByReader source old new text rest left = IsLeftNear text rest left

@@ -1,7 +1,7 @@
 -- Lines of a topology's text by forms, and what each does: steps of proofs.
 use Rattle.std.specs.Prelude.{◌≡◌, ◌⊎◌, ℕ, ◌<◌, List, [], ◌∷◌, ◌++◌, codes, decimal, Contains, length}
-use Rattle.hose_words.specs.Form.{Form, finish, place, branch, maybe, TellsNumber, grammar_of}
-use Rattle.hose_words.specs.Grammar.{Grammar}
+use Rattle.hose_words.specs.steps.Form.{Form, finish, place, branch, maybe, TellsNumber, grammar_of}
+use Rattle.hose_words.specs.steps.Grammar.{Grammar}
 use Rattle.hose_graph.specs.Name.{IsName}
 use Rattle.hose_graph.specs.Limit.{IsUpTo}
 use Rattle.hose_graph.specs.Limits.{most_capacity, most_length, most_cost}

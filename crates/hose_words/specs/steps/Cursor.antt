@@ -1,7 +1,8 @@
 -- What is read of the words of a line.
 use Rattle.std.specs.Prelude.{◌≡◌, ℕ, ◌+◌, ◌<◌, List, [], ◌∷◌, ◌++◌, length}
-use Rattle.hose_words.specs.Grammar.{IsFirst, IsFirstNotAllowed}
-use Rattle.hose_words.specs.Form.{Form, grammar_of}
+use Rattle.hose_words.specs.Words.{IsFirst}
+use Rattle.hose_words.specs.steps.Grammar.{IsFirstNotAllowed}
+use Rattle.hose_words.specs.steps.Form.{Form, grammar_of}
 
 -- the words of a line that are still to come, and how many came
 pub record Position : Type 0 where

@@ -9,8 +9,8 @@ use Rattle.hose_words.specs.steps.Lines.{Reader, WhereAsked}
 use Rattle.hose_words.specs.declared.lines.LineFault.TheVariants.{Read}
 use Rattle.hose_words.specs.Reading.{WhereTold}
 
--- A source of a reader was asked last after whole lines and a part of one, which may have been taken
--- since.
+-- A source of a reader was asked last after whole lines and a part of one, which may have been
+-- taken since.
 pub record IsAskedAfterLines {S : Type 0} (source : Ghosts S) (old new : Reader S) : Type 0 where
   pub asked : S
   pub went : source.went asked new.source

@@ -1,6 +1,7 @@
 use Rattle.std.proofs.Common.{rules}
 use Rattle.hose_words.proofs.Forms.{wrong_choice}
-use Rattle.hose_proto.specs.Command.{verb_form, verb_word}
+use Rattle.hose_proto.specs.Command.{verb_word}
+use Rattle.hose_proto.specs.steps.CommandForms.{verb_form}
 use Rattle.hose_proto.proofs.Faults.{chosen_fault, handed, is_told}
 use Rattle.hose_proto.proofs.Words.{verbs_apart, verbs_told}
 use Rattle.hose_proto.proofs.command.read_words.Goals as goal

@@ -1,5 +1,5 @@
 use Rattle.std.proofs.Common.{length}
-use Rattle.hose_words.specs.Form.{list}
+use Rattle.hose_words.specs.steps.Form.{list}
 use Rattle.hose_words.proofs.Listing.{Listing}
 use Rattle.hose_proto.proofs.lists.read_items.Given as goal
 

@@ -1,6 +1,6 @@
 use Rattle.std.proofs.Common.{◌≡◌, ◌∙◌, ℕ, ◌^◌, ◌+◌, ◌-◌, ◌<◌, ◌≤◌, List, Option, None, Some, IfNone, IfSome, decimal, ap, arith, sym}
 use Rattle.std.proofs.lemmas.Fmt.{decimal_injective}
-use Rattle.hose_words.specs.Form.{Fits64}
+use Rattle.hose_words.specs.Numbers.{Fits64}
 use Rattle.hose_words.specs.steps.Number.{IsNumber}
 use Rattle.hose_words.proofs.DecimalLemmas.{decimal_told, told_decimal}
 use Rattle.hose_proto.proofs.places.number_told.Goals as goal

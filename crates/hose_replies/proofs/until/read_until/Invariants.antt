@@ -1,5 +1,5 @@
 use Rattle.std.proofs.Common.{length}
-use Rattle.hose_words.specs.Form.{until}
+use Rattle.hose_words.specs.steps.Form.{until}
 use Rattle.hose_words.proofs.Listing.{Listing}
 use Rattle.hose_replies.specs.steps.Fields.{Fields, form_of}
 use Rattle.hose_replies.proofs.until.read_until.Given as goal
