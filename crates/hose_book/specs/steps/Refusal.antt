@@ -68,20 +68,13 @@ IsRefusedAdmission network book hose amounts (OutOfService link) =
 IsRefusedAdmission network book hose amounts (NoRoom link) =
     HasPlace book × AreOnTree network hose amounts × AreInService (first_links network book) amounts
     × IsLowestFull (room_of network book).free amounts link
-IsRefusedAdmission network book hose amounts NoVpn = ⊥
-IsRefusedAdmission network book hose amounts NoLink = ⊥
-IsRefusedAdmission network book hose amounts Already = ⊥
+IsRefusedAdmission network book hose amounts _ = ⊥
 
 -- a release is refused for the first of these: no VPN, spent
 abbrev pub IsRefusedRelease : Book → List ℕ → ℕ → BookRefusal → Type 0
 IsRefusedRelease book customer id NoVpn = ¬ HasVpn book customer id
 IsRefusedRelease book customer id Spent = HasVpn book customer id × (book.epoch ≡ most_epoch)
-IsRefusedRelease book customer id Full = ⊥
-IsRefusedRelease book customer id NotATree = ⊥
-IsRefusedRelease book customer id (OutOfService link) = ⊥
-IsRefusedRelease book customer id (NoRoom link) = ⊥
-IsRefusedRelease book customer id NoLink = ⊥
-IsRefusedRelease book customer id Already = ⊥
+IsRefusedRelease book customer id _ = ⊥
 
 -- an entry that takes a link out of service, where this is true, or puts it back is refused for the
 -- first of these: no link, already, spent
@@ -90,11 +83,7 @@ IsRefusedService network book down link NoLink = ¬ IsLinkOf network link
 IsRefusedService network book down link Already = LinkStands network book link down
 IsRefusedService network book down link Spent =
     LinkStands network book link (not down) × (book.epoch ≡ most_epoch)
-IsRefusedService network book down link Full = ⊥
-IsRefusedService network book down link NotATree = ⊥
-IsRefusedService network book down link (OutOfService other) = ⊥
-IsRefusedService network book down link (NoRoom other) = ⊥
-IsRefusedService network book down link NoVpn = ⊥
+IsRefusedService network book down link _ = ⊥
 
 -- the entry is refused at a book for this cause, and for none before it
 abbrev pub IsRefusedFor : Network → Book → Entry → BookRefusal → Type 0
