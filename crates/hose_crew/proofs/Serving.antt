@@ -15,6 +15,7 @@ use Rattle.hose_session.specs.Session.{IsSession, Telling}
 use Rattle.hose_session.specs.steps.Session.{ServesSession}
 use Rattle.hose_session.specs.declared.ending.SessionEnd.{SessionEnd}
 use Rattle.hose_session.specs.declared.ending.SessionEnd.TheVariants as session_end
+use Rattle.hose_turn.specs.declared.view.Tried.{Tried}
 use Rattle.hose_turn.specs.Known.{Known}
 
 -- what grows from a text that is told is told
@@ -24,15 +25,15 @@ grown old (Some was) None text told grows = absurd grows
 grown old (Some was) (Some given) text told grows = (given, refl)
 
 -- whatever ended a session, what its output was given is told
-session_given : (network : Network) (history : List Entry) (from : ℕ) (tells : Telling SessionLine) (cut : List ℕ → List ℕ → List ℕ → Type 0) (old : List ℕ) (before new : Option (List ℕ)) (R W : Type 0) (end : SessionEnd) (replies : List Reply) (own : List ℕ)
-    → before ≡ Some old → IsSession network history from tells cut before new R W end replies own → (given : List ℕ) × (new ≡ Some given)
-session_given network history from tells cut old before new R W session_end.End replies own told is = grown old before new _ told is.out
-session_given network history from tells cut old before new R W session_end.Bye replies own told is = grown old before new _ told is.out
-session_given network history from tells cut old before new R W session_end.NoHello replies own told (inl is) = grown old before new _ told is.out
-session_given network history from tells cut old before new R W session_end.NoHello replies own told (inr is) = grown old before new _ told is.out
-session_given network history from tells cut old before new R W session_end.Read replies own told is = grown old before new _ told is.0.out
-session_given network history from tells cut old before new R W session_end.TooLong replies own told is = grown old before new _ told is.out
-session_given network history from tells cut old before new R W session_end.Write replies own told is = grown old before new _ told is.0.out.3.2
+session_given : (network : Network) (history : List Entry) (from : ℕ) (tells : Telling SessionLine) (cut : List ℕ → List ℕ → List ℕ → Type 0) (old : List ℕ) (before new : Option (List ℕ)) (R W : Type 0) (end : SessionEnd) (replies : List Reply) (own : List ℕ) (tries : List Tried)
+    → before ≡ Some old → IsSession network history from tells cut before new R W end replies own tries → (given : List ℕ) × (new ≡ Some given)
+session_given network history from tells cut old before new R W session_end.End replies own tries told is = grown old before new _ told is.out
+session_given network history from tells cut old before new R W session_end.Bye replies own tries told is = grown old before new _ told is.out
+session_given network history from tells cut old before new R W session_end.NoHello replies own tries told (inl is) = grown old before new _ told is.out
+session_given network history from tells cut old before new R W session_end.NoHello replies own tries told (inr is) = grown old before new _ told is.out
+session_given network history from tells cut old before new R W session_end.Read replies own tries told is = grown old before new _ told is.0.out
+session_given network history from tells cut old before new R W session_end.TooLong replies own tries told is = grown old before new _ told is.out
+session_given network history from tells cut old before new R W session_end.Write replies own tries told is = grown old before new _ told is.0.out.3.2
 
 module _ {S O : Type 0} (source : SourceGhosts S) (sink : SinkGhosts O) (input input' : S) (output output' : O) (ends : IsConnection source sink input output) where
   -- the streams come to a connection, which is told
@@ -63,6 +64,6 @@ module _ {S O : Type 0} (source : SourceGhosts S) (sink : SinkGhosts O) (input i
       → ((connection : Connection) → ComeTo source sink input input' output output' connection → AccountFor (connections ++ connection ∷ []) new)
       → (connection : Connection) × (done ≡ Some connection) × AccountFor (connections ++ connection ∷ []) new
   one_more connections network old new end taken done ended told gives serves law =
-      let given = session_given network new.seen (length old.seen) _ _ [] (sink.content output) (sink.content output') _ _ end serves.replies serves.own told.2 serves.session in
+      let given = session_given network new.seen (length old.seen) _ _ [] (sink.content output) (sink.content output') _ _ end serves.replies serves.own serves.tries told.2 serves.session in
       let come = come_to told.0 taken ended.asked (source.content input') given.0 told.1 told.2 refl given.1 (subst (λ (content : Option Stream). Gives content (source.content input') taken) told.1 gives) ended.was in
       (come.0, ended.is ∙ come.1, law come.0 come.2)

@@ -19,7 +19,7 @@ begins_work told first place ended is parts none empty = subst (Works told first
   same = subst (IsSamePass (part_of first)) (sym is) (more_same (part_of first) (no_places (length first.origin.since) (length first.seen))).same;
   parts = parts;
   amount = none;
-  accounts = λ tells. record { connections = []; are = refl; account = none_accounts place.pass (ap (λ (k : Known). k.own) is) };
+  accounts = λ tells. record { connections = []; are = refl; account = none_accounts place.pass (ap (λ (k : Known). k.own) is) (ap (λ (k : Known). k.tried) is) };
 })
 
 module _ (told : Option Connections) (first : Known) (place next : PlaceState) (ended : List (Option Connection)) (done : Option Connection) where

@@ -82,6 +82,7 @@ impl<L: Door + Send, N: DoorStart + Send + Sync> Crew<L, N> {
         requires of { IsPassOf work.shared.now pass }
         requires shares { self.workers < pass.share }
         requires own { pass.own ≡ [] }
+        requires tried { pass.tried ≡ [] }
         requires since { IsPrefix pass.origin.since pass.seen }
         requires name { blank.name ≡ N.name }
         requires parts { (blank.parts ≡ N.parts) × (blank.parts ≡ self.workers) }
@@ -207,6 +208,7 @@ fn gather<D: Disk, B: Begun<D>, L: Door, N: DoorStart>(
 ) -> (Pass, L)
     requires of { IsPassOf shared.now first.now.value }
     requires own { first.now.value.own ≡ [] }
+    requires tried { first.now.value.tried ≡ [] }
     requires pass { left.pass ≡ record first.now.value { share = left.pass.share } }
     requires left { left.pass.share + length hands.items ≡ first.now.value.share }
     requires share { (left.share.parts ≡ 0) × (left.share.amount ≡ 0) }

@@ -1,7 +1,8 @@
 -- Lines of a session, one after the other, to its end.
-use Rattle.std.proofs.Common.{◌≡◌, ◌≢◌, ◌↔◌, inl, inr, ℕ, Bool, false, List, [], ◌∷◌, ◌++◌, length, Option, Result, Ok, Err, refl, sym, ap, subst, ◌∙◌, arith, append-nil, append_assoc}
+use Rattle.std.proofs.Common.{◌≡◌, ◌≢◌, ◌↔◌, inl, inr, ℕ, ◌≤◌, Bool, false, List, [], ◌∷◌, ◌++◌, length, Option, Result, Ok, Err, refl, sym, ap, subst, ◌∙◌, arith, append-nil, append_assoc}
 use Rattle.std.specs.Prelude.{⊤}
-use Rattle.std.proofs.lemmas.List.Elements.{All-append, All-nil}
+use Rattle.std.proofs.lemmas.List.Elements.{All-append, All-nil, All-weaker}
+use mathlib.Core.List.{IsPrefix}
 use Rattle.hose_io.specs.Frame.{Rose}
 use Rattle.hose_io.specs.declared.source.Source.{Ghosts as SourceGhosts}
 use Rattle.hose_io.specs.declared.sink.Sink.{Ghosts as SinkGhosts}
@@ -27,11 +28,13 @@ use Rattle.hose_proto.specs.Replies.{CutsLast}
 use Rattle.hose_proto.specs.ReplyText.{line_of, reply_text}
 use Rattle.hose_shared.specs.steps.Along.{HasEntryAt}
 use Rattle.hose_shared.specs.steps.Sharing.{IsSamePass}
+use Rattle.hose_turn.specs.declared.view.Tried.{Tried}
 use Rattle.hose_turn.specs.Known.{Known}
+use Rattle.hose_law.proofs.Fronts.{prefix_on}
 use Rattle.hose_session.specs.steps.Ending.{end_after, over_at}
-use Rattle.hose_session.specs.steps.Exchanges.{AnswersAt, ComesAlong, GoesAlong, IsAt, IsExchange, IsPhaseAt, Progress, SaysAt}
+use Rattle.hose_session.specs.steps.Exchanges.{AnswersAt, ComesAlong, GoesAlong, IsAskedAt, IsAt, IsExchange, IsPhaseAt, Progress, SaysAt}
 use Rattle.hose_greeting.specs.steps.Shown.{ShownSays}
-use Rattle.hose_session.specs.Session.{AnswersUpTo, IsServing, IsSession, IsWaiting, MayGoOn, WasLeft, WasRefused}
+use Rattle.hose_session.specs.Session.{AnswersUpTo, IsAskedIn, IsServing, IsSession, IsWaiting, MayGoOn, WasLeft, WasRefused}
 use Rattle.hose_session.specs.steps.Session.{ServesSession}
 use Rattle.hose_greeting.specs.SessionLines.{SaysAfter}
 use Rattle.hose_session.specs.declared.phase.Phase.{Phase}
@@ -92,10 +95,57 @@ module _ (network : Network) (history : List Entry) where
   says_there Refused lines begun bytes said says = absurd says
   says_there Left lines begun bytes said says = absurd says
 
+-- ---- what was tried
+
+beginning_on : {A : Type 0} (one two three : List A) → IsPrefix one two → IsPrefix two three → IsPrefix one three
+beginning_on one two three (rest, same) (more, there) = (rest ++ more, sym (append_assoc one rest more) ∙ ap (λ (l : List _). l ++ more) same ∙ there)
+
+module _ (network : Network) (history longer : List Entry) (prefix : IsPrefix history longer) (from : ℕ) where
+  -- what a line asked for it asked for in a longer history, and with more lines after it
+  pub asked_longer : (lines all : List SessionLine) (replies told : List Reply) → IsPrefix lines all → IsPrefix replies told → (one : Tried) → IsAskedIn network history from lines replies one → IsAskedIn network longer from all told one
+  asked_longer lines all replies told more further one is = record {
+    first = is.first;
+    told = is.told;
+    customer = is.customer;
+    held = is.held;
+    last = is.last;
+    own = is.own;
+    transcript = transcript_longer network 0 history longer prefix from is.first is.told (session_state (Serving is.customer is.held) is.last is.own) is.transcript;
+    command = is.command;
+    reply = is.reply;
+    line = beginning_on (is.first ++ Asks is.command ∷ []) lines all is.line more;
+    answer = beginning_on (is.told ++ is.reply ∷ []) replies told is.answer further;
+    before = is.before;
+    begins = prefix_on is.before history longer is.begins prefix;
+    later = is.later;
+    asked = is.asked;
+  }
+
+-- and the line after these did
+asked_last : (network : Network) (history : List Entry) (from place last : ℕ) (lines : List SessionLine) (replies : List Reply) (stage : Stage) (own : List ℕ) (said : SessionLine) (reply : Reply) → IsTranscript network 0 history from lines replies (session_state stage last own) → last ≤ place
+    → (one : Tried) → IsAskedAt network history place stage said reply one → IsAskedIn network history from (lines ++ said ∷ []) (replies ++ reply ∷ []) one
+asked_last network history from place last lines replies stage own said reply transcript reached one is = record {
+  first = lines;
+  told = replies;
+  customer = is.customer;
+  held = is.held;
+  last = last;
+  own = own;
+  transcript = subst (λ (s : Stage). IsTranscript network 0 history from lines replies (session_state s last own)) is.serves transcript;
+  command = is.command;
+  reply = reply;
+  line = ([], append-nil (lines ++ Asks is.command ∷ []) ∙ ap (λ (l : SessionLine). lines ++ l ∷ []) (sym is.asks));
+  answer = ([], append-nil (replies ++ reply ∷ []));
+  before = is.before;
+  begins = is.begins;
+  later = omega (arith, is.later, reached);
+  asked = is.asked;
+}
+
 -- ---- a pass that goes on
 
 module _ (network : Network) where
-  along_none : (pass : Known) → IsSamePass pass pass → GoesAlong network pass pass [] [] Waiting []
+  along_none : (pass : Known) → IsSamePass pass pass → GoesAlong network pass pass [] [] Waiting [] []
   along_none pass same = record {
     last = length pass.seen;
     transcript = refl;
@@ -103,27 +153,35 @@ module _ (network : Network) where
     entries = All-nil (HasEntryAt network pass.seen);
     same = same;
     owns = sym (append-nil pass.own);
+    tried = sym (append-nil pass.tried);
+    asked = All-nil (IsAskedIn network pass.seen (length pass.seen) [] []);
     disks = omega arith;
   }
 
-  along_more : (first old new : Known) (lines : List SessionLine) (replies : List Reply) (stage next : Stage) (own : List ℕ) (said : SessionLine) (reply : Reply) → GoesAlong network first old lines replies stage own
-      → (exchange : IsExchange network old new stage said reply next) → GoesAlong network first new (lines ++ said ∷ []) (replies ++ reply ∷ []) next (own ++ exchange.added)
-  along_more first old new lines replies stage next own said reply along exchange =
+  along_more : (first old new : Known) (lines : List SessionLine) (replies : List Reply) (stage next : Stage) (own : List ℕ) (tries : List Tried) (said : SessionLine) (reply : Reply) → GoesAlong network first old lines replies stage own tries
+      → (exchange : IsExchange network old new stage said reply next) → GoesAlong network first new (lines ++ said ∷ []) (replies ++ reply ∷ []) next (own ++ exchange.added) (tries ++ exchange.tries)
+  along_more first old new lines replies stage next own tries said reply along exchange =
       let step = exchange.step along.last along.reached in
+      let longer = transcript_longer network 0 old.seen new.seen exchange.same.seen (length first.seen) lines replies (session_state stage along.last own) along.transcript in
+      let Asked = IsAskedIn network new.seen (length first.seen) (lines ++ said ∷ []) (replies ++ reply ∷ []) in
       record {
         last = step.0;
         transcript = steps_push (IsTranscriptStep network 0 new.seen) lines replies (session_state Waiting (length first.seen) []) (session_state stage along.last own) (session_state next step.0 (own ++ exchange.added)) said reply
-            (transcript_longer network 0 old.seen new.seen exchange.same.seen (length first.seen) lines replies (session_state stage along.last own) along.transcript) (exchange.added, step.2, refl);
+            longer (exchange.added, step.2, refl);
         reached = step.1;
         entries = All-append (HasEntryAt network new.seen) own exchange.added (entries_longer network old.seen new.seen own exchange.same.seen along.entries) exchange.entries;
         same = same_on first old new along.same exchange.same;
         owns = exchange.own ∙ ap (λ (o : List ℕ). o ++ exchange.added) along.owns ∙ append_assoc first.own own exchange.added;
+        tried = exchange.tried ∙ ap (λ (t : List Tried). t ++ exchange.tries) along.tried ∙ append_assoc first.tried tries exchange.tries;
+        asked = All-append Asked tries exchange.tries
+            (All-weaker (IsAskedIn network old.seen (length first.seen) lines replies) Asked (asked_longer network old.seen new.seen exchange.same.seen (length first.seen) lines (lines ++ said ∷ []) replies (replies ++ reply ∷ []) (said ∷ [], refl) (reply ∷ [], refl)) tries along.asked)
+            (All-weaker (IsAskedAt network new.seen (length old.seen) stage said reply) Asked (asked_last network new.seen (length first.seen) (length old.seen) along.last lines replies stage own said reply longer along.reached) exchange.tries exchange.asked);
         disks = omega (arith, along.disks, exchange.faults, disks_push replies reply);
       }
 
   -- nothing has come yet
   pub comes_none : (pass : Known) → IsSamePass pass pass → ComesAlong network pass (record { pass = pass; phase = phase.Waiting; quotes = none_held }) [] []
-  comes_none pass same = record { stage = Waiting; own = []; along = along_none pass same; at = (refl, refl) }
+  comes_none pass same = record { stage = Waiting; own = []; tries = []; along = along_none pass same; at = (refl, refl) }
 
   -- one line more comes
   pub comes_on : (first : Known) (old new : Progress) (line : Line) (reply : Reply) (lines : List SessionLine) (replies : List Reply) → ComesAlong network first old lines replies
@@ -136,7 +194,8 @@ module _ (network : Network) where
         record {
           stage = one.next;
           own = comes.own ++ one.exchange.added;
-          along = along_more first old.pass new.pass lines replies comes.stage one.next comes.own one.said reply comes.along one.exchange;
+          tries = comes.tries ++ one.exchange.tries;
+          along = along_more first old.pass new.pass lines replies comes.stage one.next comes.own comes.tries one.said reply comes.along one.exchange;
           at = one.at;
         },
       )
@@ -176,12 +235,12 @@ module _ {S O : Type 0} (network : Network) (source : SourceGhosts S) (sink : Si
 
   module _ (at : Phase) (stops : List ℕ → List ℕ → List ℕ → Type 0) (puts : List Reply → Type 0)
       (talks : TalksUpTo terms (record { pass = pass; phase = at; quotes = quotes }) stops puts) where
-    up_to : (ends : Stage → Type 0) → ends talks.comes.stage → (outs : List Reply → Type 0) → outs talks.replies → AnswersUpTo network pass.seen (length first.seen) (TellsOf (SaysAfter network) (source.content input) (source.content input')) stops ends outs talks.replies talks.comes.own
-    up_to ends is outs out = record { lines = talks.lines; stage = talks.comes.stage; last = talks.comes.along.last; said = talks.said; transcript = talks.comes.along.transcript; ended = is; out = out }
+    up_to : (ends : Stage → Type 0) → ends talks.comes.stage → (outs : List Reply → Type 0) → outs talks.replies → AnswersUpTo network pass.seen (length first.seen) (TellsOf (SaysAfter network) (source.content input) (source.content input')) stops ends outs talks.replies talks.comes.own talks.comes.tries
+    up_to ends is outs out = record { lines = talks.lines; stage = talks.comes.stage; last = talks.comes.along.last; said = talks.said; transcript = talks.comes.along.transcript; ended = is; out = out; asked = talks.comes.along.asked }
 
     serves : (end : SessionEnd)
-        → IsSession network pass.seen (length first.seen) (TellsOf (SaysAfter network) (source.content input) (source.content input')) (IsCutNear source input') (sink.content output) (sink.content output') (Rose (source.frame input) (source.frame input')) (Rose (sink.frame output) (sink.frame output')) end talks.replies talks.comes.own → Serves end
-    serves end session = record { replies = talks.replies; own = talks.comes.own; session = session; entries = talks.comes.along.entries; same = talks.comes.along.same; owns = talks.comes.along.owns; disks = talks.comes.along.disks }
+        → IsSession network pass.seen (length first.seen) (TellsOf (SaysAfter network) (source.content input) (source.content input')) (IsCutNear source input') (sink.content output) (sink.content output') (Rose (source.frame input) (source.frame input')) (Rose (sink.frame output) (sink.frame output')) end talks.replies talks.comes.own talks.comes.tries → Serves end
+    serves end session = record { replies = talks.replies; own = talks.comes.own; tries = talks.comes.tries; session = session; entries = talks.comes.along.entries; same = talks.comes.along.same; owns = talks.comes.along.owns; tried = talks.comes.along.tried; disks = talks.comes.along.disks }
 
   serving : (customer : List ℕ) (stage : Stage) → IsPhaseAt network pass.seen (phase.Serving customer) quotes stage → IsServing stage
   serving customer stage (held, same, are) = subst IsServing (sym same) tt

@@ -1,6 +1,7 @@
 -- Exchanges along a pass.
-use Rattle.std.proofs.Common.{◌≡◌, inl, inr, ℕ, ◌+◌, ◌<◌, ◌≤◌, false, List, [], length, Option, None, Some, refl, sym, ap, subst, arith, append-nil, ◌∙◌}
-use Rattle.std.proofs.lemmas.List.Elements.{All-nil}
+use Rattle.std.proofs.Common.{◌≡◌, inl, inr, ℕ, ◌+◌, ◌<◌, ◌≤◌, false, List, [], drop, length, take, Option, None, Some, refl, sym, ap, subst, arith, append-nil, ◌∙◌}
+use Rattle.std.proofs.lemmas.List.{length-take-le, take-append-drop}
+use Rattle.std.proofs.lemmas.List.Elements.{All-nil, All-weaker}
 use Rattle.hose_words.specs.declared.lines.Line.{Line}
 use Rattle.hose_graph.specs.Network.{Network}
 use Rattle.hose_graph.specs.declared.command.Command.{Command}
@@ -20,9 +21,11 @@ use Rattle.hose_core.specs.steps.Stepping.{committed_of}
 use Rattle.hose_shared.specs.steps.Along.{HasEntryAt, StepsAlong}
 use Rattle.hose_shared.specs.steps.Providing.{Customer, Provides}
 use Rattle.hose_shared.specs.steps.Sharing.{HasSeenMore, IsSamePass}
+use Rattle.hose_turn.specs.declared.view.Tried.{Tried}
 use Rattle.hose_turn.specs.Known.{Known}
+use Rattle.hose_shared.specs.Trying.{IsTriedBy}
 use Rattle.hose_session.specs.steps.Ending.{customer_of, over_at}
-use Rattle.hose_session.specs.steps.Exchanges.{AnswersAt, IsAt, IsExchange, IsPhaseAt, Progress, ServesOn}
+use Rattle.hose_session.specs.steps.Exchanges.{AnswersAt, IsAskedAt, IsAt, IsExchange, IsPhaseAt, Progress, ServesOn}
 use Rattle.hose_greeting.specs.steps.Shown.{ShownSays}
 use Rattle.hose_greeting.specs.SessionLines.{SaysFirst, SaysLater}
 use Rattle.hose_session.specs.declared.phase.Phase.{Phase}
@@ -40,6 +43,20 @@ module _ (network : Network) (old new : Known) (customer : List ℕ) (held : Hol
     | inr goes ↦ omega (arith, goes.0, goes.2)
   ]
 
+  -- what was tried there was asked for by the command
+  asked_there : (one : Tried) → IsTriedBy network (take along.place new.seen) customer held command answer one → IsAskedAt network new.seen (length old.seen) (Serving customer held) (Asks command) answer one
+  asked_there one by = record {
+    customer = customer;
+    held = held;
+    command = command;
+    serves = refl;
+    asks = refl;
+    before = take along.place new.seen;
+    begins = (drop along.place new.seen, take-append-drop along.place new.seen);
+    later = omega (arith, along.later, length-take-le along.place new.seen along.step.there);
+    asked = by;
+  }
+
   -- a command that is answered along a pass makes an exchange
   pub along_exchange : IsExchange network old new (Serving customer held) (Asks command) answer (Serving customer along.left)
   along_exchange = record {
@@ -48,6 +65,9 @@ module _ (network : Network) (old new : Known) (customer : List ℕ) (held : Hol
     entries = along.entries;
     same = along.same;
     own = along.own;
+    tries = along.tries;
+    tried = along.tried;
+    asked = All-weaker (IsTriedBy network (take along.place new.seen) customer held command answer) (IsAskedAt network new.seen (length old.seen) (Serving customer held) (Asks command) answer) asked_there along.tries along.asked;
     faults = told_faults old.faults new.faults answer along.failed along.same.faults;
   }
 
@@ -68,6 +88,9 @@ module _ (network : Network) (pass : Known) (same : IsSamePass pass pass) where
     entries = All-nil (HasEntryAt network pass.seen);
     same = same;
     own = sym (append-nil pass.own);
+    tries = [];
+    tried = sym (append-nil pass.tried);
+    asked = All-nil (IsAskedAt network pass.seen (length pass.seen) stage said reply);
     faults = omega (arith, no_disk said plain);
   }
     where
@@ -115,6 +138,9 @@ greeted_exchange network old new customer at is more = record {
   entries = All-nil (HasEntryAt network new.seen);
   same = more.same;
   own = more.own ∙ sym (append-nil old.own);
+  tries = [];
+  tried = more.tried ∙ sym (append-nil old.tried);
+  asked = All-nil (IsAskedAt network new.seen (length old.seen) Waiting (Greets customer) (Welcome at));
   faults = omega (arith, more.same.faults);
 }
 

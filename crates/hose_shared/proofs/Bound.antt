@@ -1,6 +1,6 @@
 -- Admissions that may be bound: what is answered without an entry, and a turn in which a plan was taken.
-use Rattle.std.proofs.Common.{◌≡◌, ℕ, Bool, List, ◌++◌, Option, None, Some, MatchResult, Result, Ok, Err, length, inl, inr, refl, sym, ap, subst, ◌∙◌, append-nil}
-use Rattle.std.specs.Prelude.{MatchOption}
+use Rattle.std.proofs.Common.{◌≡◌, ℕ, All, Bool, List, [], ◌∷◌, ◌++◌, Option, None, Some, MatchResult, Result, Ok, Err, length, inl, inr, refl, sym, ap, subst, ◌∙◌, append-nil}
+use Rattle.std.proofs.lemmas.List.Elements.{All-head}
 use Rattle.hose_graph.specs.Hose.{Endpoint}
 use Rattle.hose_graph.specs.steps.Naming.{NamesPlaces}
 use Rattle.hose_graph.specs.Network.{Network}
@@ -23,7 +23,9 @@ use Rattle.hose_core.proofs.Decided.{not_admitted_done, not_admitted_names, not_
 use Rattle.hose_disk.specs.declared.disk.Disk.{Ghosts}
 use Rattle.hose_store.specs.steps.Commit.{store_books}
 use Rattle.hose_store.specs.steps.Store.{KeptStore}
+use Rattle.hose_turn.specs.declared.view.Tried.{Tried}
 use Rattle.hose_turn.specs.Known.{Known}
+use Rattle.hose_shared.specs.Trying.{IsTriedBy}
 use Rattle.hose_shared.specs.steps.Along.{IsNotTried}
 use Rattle.hose_shared.specs.steps.Sharing.{HasSeenMore}
 use Rattle.hose_shared.specs.steps.Turns.{AnswersTurn, BeginsTurn, StepsAt, place_of}
@@ -74,27 +76,27 @@ planned_bound network book customer known hose (Err answer) newest none = inr (i
 
 -- ---- in a turn
 
+-- of what holds of nothing there is none
+none_of : (P : Tried → Type 0) (tries : List Tried) → ((one : Tried) → P one → ⊥) → All P tries → tries ≡ []
+none_of P [] never all = refl
+none_of P (one ∷ tries) never all = absurd (never one (All-head P one tries all))
+
 -- want of memory adds nothing of the pass's own
 pub idle_more : (network : Network) (history : List Entry) (customer : List ℕ) (held : Holding) (asked : Command) (old new : Known) → StepsAt network customer held asked reply.Memory history old new → HasSeenMore old new
 idle_more network history customer held asked old new at =
     let none = none_joined history at.joined (ap length at.step.2) in
-    record { same = at.same; own = at.own ∙ ap (λ (joined : Option Entry). old.own ++ place_of history joined) none ∙ append-nil old.own }
+    let idle = none_of (IsTriedBy network history customer held asked reply.Memory) at.tries (λ one by. cc by.step.1) at.asked in
+    record { same = at.same; own = at.own ∙ ap (λ (joined : Option Entry). old.own ++ place_of history joined) none ∙ append-nil old.own; tried = at.tried ∙ ap (λ (tries : List Tried). old.tried ++ tries) idle ∙ append-nil old.tried }
 
-module _ {D : Type 0} {disk : Ghosts D} {Begins : List Entry → KeptStore D → Type 0} {known : Known} {count at : ℕ} {old was new : KeptStore D} (begun : BeginsTurn disk Begins known count at was) (same : old ≡ was)
-    (told : Option Entry) (customer : List ℕ) (bound : Option ℕ) (hose : List Endpoint) where
+module _ {D : Type 0} {disk : Ghosts D} {Begins : List Entry → KeptStore D → Type 0} {known : Known} {tries : List Tried} {count at : ℕ} {old was new : KeptStore D} (begun : BeginsTurn disk Begins known tries count at was) (same : old ≡ was)
+    (customer : List ℕ) (bound : Option ℕ) (hose : List Endpoint) where
   -- a turn that leaves the store as it was is one of an admission that wants memory
-  pub idle_turn : new ≡ old → AnswersTurn disk known.seen was new told customer none_held (command.Admit hose) reply.Memory
+  pub idle_turn : new ≡ old → AnswersTurn disk known.seen was new None customer none_held (command.Admit hose) reply.Memory
   idle_turn stays = reads_turn begun same (stays ∙ same) customer none_held (command.Admit hose)
       (λ epoch history held here. record { entry = None; next = history; after = held; step = (tt, refl, refl, refl); sound = tt; goes = refl; book = here }) refl
 
   -- a turn in which a plan was taken
-  pub claimed_turn : (entry : Entry) → told ≡ Some entry → (held : Holding) (answer : Reply) → AdmitsAtOnce (store_books disk) old new customer (record { known = bound; hose = hose }) answer (Some entry)
+  pub claimed_turn : (told : Option Entry) (entry : Entry) → told ≡ Some entry → (held : Holding) (answer : Reply) → AdmitsAtOnce (store_books disk) old new customer (record { known = bound; hose = hose }) answer (Some entry)
       → AnswersTurn disk known.seen was new told customer held (admission_command bound hose) answer
-  claimed_turn entry is held answer admits = subst (λ (t : Option Entry). AnswersTurn disk known.seen was new t customer held (admission_command bound hose) answer) (sym is)
+  claimed_turn told entry is held answer admits = subst (λ (t : Option Entry). AnswersTurn disk known.seen was new t customer held (admission_command bound hose) answer) (sym is)
       (admit_turn begun same admits.answered (Some entry) customer held (record { known = bound; hose = hose }) admits)
-
-  -- or was stale
-  pub settled_turn : (entry : Entry) → told ≡ Some entry → (settled : Option Reply) → MatchOption settled (new ≡ old) (λ answer. AdmitsAtOnce (store_books disk) old new customer (record { known = bound; hose = hose }) answer (Some entry))
-      → (name : List ℕ) × (held : Holding) × (asked : Command) × (answer : Reply) × AnswersTurn disk known.seen was new told name held asked answer
-  settled_turn entry is None stays = (customer, none_held, command.Admit hose, reply.Memory, idle_turn stays)
-  settled_turn entry is (Some answer) admits = (customer, none_held, admission_command bound hose, answer, claimed_turn entry is none_held answer admits)

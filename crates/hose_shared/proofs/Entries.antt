@@ -1,6 +1,7 @@
 -- Which entry joined, and what an admission's take and the replies without an entry are as steps.
 use Rattle.std.proofs.Common.{◌≡◌, ◌≢◌, ◌⊎◌, ℕ, Bool, true, false, List, length, take, Option, None, Some, IfSome, IsSome, inl, inr, refl, sym, ap, subst, ◌∙◌, append-nil, arith, ◌≤◌, ◌<◌}
-use Rattle.std.specs.Prelude.{IfNone, replicate}
+use Rattle.std.specs.Prelude.{[], IfNone, MatchOption, replicate}
+use Rattle.std.proofs.lemmas.List.Elements.{All-nil}
 use Rattle.std.proofs.lemmas.List.{length-append, length-take-le, take-append-le, take_all}
 use mathlib.Core.List.{IsPrefix}
 use mathlib.Core.Logic.{dite}
@@ -37,7 +38,9 @@ use Rattle.hose_plan.specs.steps.Planning.{allowed_links}
 use Rattle.hose_disk.specs.declared.disk.Disk.{Ghosts}
 use Rattle.hose_store.specs.steps.Commit.{store_books}
 use Rattle.hose_store.specs.steps.Store.{KeptStore}
+use Rattle.hose_turn.specs.declared.view.Tried.{Tried}
 use Rattle.hose_turn.specs.Known.{Known}
+use Rattle.hose_shared.specs.Trying.{IsAlike, IsTriedBy, without_plan}
 use Rattle.hose_shared.specs.steps.Along.{StepsAlong, StepsHolding}
 use Rattle.hose_shared.specs.steps.Sharing.{HasSeenMore}
 use Rattle.hose_shared.specs.steps.Turns.{AnswersTurn, BeginsTurn, joined_of}
@@ -61,6 +64,18 @@ module _ (network : Network) (history : List Entry) (customer : List ℕ) (held 
   answered reply.Memory entry next after done step = absurd (cc step.1)
   answered answer entry next after done step = step.0
 
+-- what holds of the entry of each answer holds of that of a step, whether it was entered or not
+tried_is : (P : Entry → Type 0) (network : Network) (history : List Entry) (customer : List ℕ) (held : Holding) (asked : Command) → ((given : Reply) (entry : Entry) (after : Holding) → IsAnswer network 0 history customer held asked given (Some entry) after → P entry)
+    → (answer : Reply) (entry : Option Entry) (next : List Entry) (after : Holding) → IsStepOf network 0 history customer held asked answer entry next after → IfSome entry P
+tried_is P network history customer held asked is answer None next after step = tt
+tried_is P network history customer held asked is (reply.Disk at) (Some entry) next after step = is step.2.0 entry after step.2.1
+tried_is P network history customer held asked is reply.Memory (Some entry) next after step = absurd (cc step.1)
+tried_is P network history customer held asked is answer (Some entry) next after step = is answer entry after step.0
+
+-- an entry that is one with another one is like it
+alike_of : (told entry : Entry) → entry ≡ told → IsAlike told entry
+alike_of told entry same = ap without_plan (sym same)
+
 -- ---- a release
 
 released : (book : Book) (customer : List ℕ) (id : ℕ) (answer : Reply) (entry : Entry) → IsReleaseAnswer book customer id answer (Some entry) → entry ≡ Release customer id
@@ -73,6 +88,10 @@ release_entry network history customer held id answer entry next after step = jo
     released (book_of 0 history) customer id answer one
     (answered network history customer held (command.Release id) answer one next after done (subst (λ (e : Option Entry). IsStepOf network 0 history customer held (command.Release id) answer e next after) is step)).0)
 
+pub release_like : (network : Network) (history : List Entry) (customer : List ℕ) (held : Holding) (id : ℕ) (answer : Reply) (entry : Option Entry) (next : List Entry) (after : Holding)
+    → IsStepOf network 0 history customer held (command.Release id) answer entry next after → IfSome entry (IsAlike (Release customer id))
+release_like network history customer held id = tried_is (IsAlike (Release customer id)) network history customer held (command.Release id) (λ given one after is. alike_of (Release customer id) one (released (book_of 0 history) customer id given one is.0))
+
 -- ---- an order of the operator
 
 ordered : (network : Network) (book : Book) (customer : List ℕ) (down : Bool) (link : ℕ) (answer : Reply) (entry : Entry) → IsOperatorAnswer network book customer down link answer (Some entry) → entry ≡ service_entry down link
@@ -84,6 +103,9 @@ module _ (network : Network) (history : List Entry) (customer : List ℕ) (held 
   answer_ordered : (down : Bool) (link : ℕ) (answer : Reply) (entry : Entry) (after : Holding) → IsAnswer network 0 history customer held (service_command down link) answer (Some entry) after → entry ≡ service_entry down link
   answer_ordered true link answer entry after is = ordered network (book_of 0 history) customer true link answer entry is.0
   answer_ordered false link answer entry after is = ordered network (book_of 0 history) customer false link answer entry is.0
+
+  pub order_like : (down : Bool) (link : ℕ) (answer : Reply) (entry : Option Entry) (next : List Entry) (after : Holding) → IsStepOf network 0 history customer held (service_command down link) answer entry next after → IfSome entry (IsAlike (service_entry down link))
+  order_like down link = tried_is (IsAlike (service_entry down link)) network history customer held (service_command down link) (λ given one after is. alike_of (service_entry down link) one (answer_ordered down link given one after is))
 
   pub order_entry : (down : Bool) (link : ℕ) (answer : Reply) (entry : Option Entry) (next : List Entry) (after : Holding) → IsStepOf network 0 history customer held (service_command down link) answer entry next after
       → IfSome (joined_of entry (committed_of answer)) (λ one. one ≡ service_entry down link)
@@ -108,6 +130,10 @@ module _ (network : Network) (book : Book) (customer : List ℕ) (hose : List En
   planned_is : (plan : List ReservedLink) (cost : ℕ) (answer : Reply) (entry : Entry) → TellsPlan plan cost answer → IsPlannedAnswer network book customer hose answer (Some entry) → entry ≡ Admit customer hose plan
   planned_is plan cost (reply.Admitted id told at amounts) entry tells is = is.6 ∙ ap (Admit customer hose) tells.0
   planned_is plan cost answer entry tells is = absurd is
+
+  planned_like : (plan : List ReservedLink) (answer : Reply) (entry : Entry) → IsPlannedAnswer network book customer hose answer (Some entry) → IsAlike (Admit customer hose plan) entry
+  planned_like plan (reply.Admitted id told at amounts) entry is = ap without_plan (sym is.6)
+  planned_like plan answer entry is = absurd is
 
   -- so is one that is bound, where something is to be entered
   after_admits : (known : ℕ) (answer : Reply) (entry : Entry) → IsAfterAnswer network book customer known hose answer (Some entry) → IsAdmitAnswer network book customer hose answer (Some entry)
@@ -136,6 +162,11 @@ module _ (network : Network) (history : List Entry) (customer : List ℕ) (held 
   bound_admits : (bound : Option ℕ) (answer : Reply) (entry : Entry) (after : Holding) → IsAnswer network 0 history customer held (admission_command bound hose) answer (Some entry) after → IsAdmitAnswer network (book_of 0 history) customer hose answer (Some entry)
   bound_admits None answer entry after is = is.0
   bound_admits (Some known) answer entry after is = after_admits network (book_of 0 history) customer hose known answer entry is.0
+
+  pub admit_like : (bound : Option ℕ) (plan : List ReservedLink) (answer : Reply) (entry : Option Entry) (next : List Entry) (after : Holding)
+      → IsStepOf network 0 history customer held (admission_command bound hose) answer entry next after → IfSome entry (IsAlike (Admit customer hose plan))
+  admit_like bound plan = tried_is (IsAlike (Admit customer hose plan)) network history customer held (admission_command bound hose)
+      (λ given one after is. planned_like network (book_of 0 history) customer hose plan given one (admit_planned network (book_of 0 history) customer hose given one (bound_admits bound given one after is)))
 
   pub admit_entry : (bound : Option ℕ) (answer : Reply) (mine : Entry) (entry : Option Entry) (next : List Entry) (after : Holding) → EntersPlan customer hose answer mine
       → IsStepOf network 0 history customer held (admission_command bound hose) answer entry next after → IfSome (joined_of entry (committed_of answer)) (λ joined. joined ≡ mine)
@@ -171,6 +202,10 @@ module _ (network : Network) (history : List Entry) (customer : List ℕ) (held 
       (taking_planned network earlier (book_of 0 history) customer one.hose answer joined
       (taking answer (Some joined) after (answered network history customer held (command.Take number) answer joined next after done (subst (λ (e : Option Entry). Taken answer e next after) is step)))))
 
+  pub take_like : (plan : List ReservedLink) (answer : Reply) (entry : Option Entry) (next : List Entry) (after : Holding) → Taken answer entry next after → IfSome entry (IsAlike (Admit customer one.hose plan))
+  take_like plan = tried_is (IsAlike (Admit customer one.hose plan)) network history customer held (command.Take number)
+      (λ given joined after is. planned_like network (book_of 0 history) customer one.hose plan given joined (taking_planned network earlier (book_of 0 history) customer one.hose given joined (taking given (Some joined) after is)))
+
   -- a quote that is stale at a place was made at an earlier one
   pub stale_later : one.place ≤ length history → (answer : Reply) (seen now : ℕ) (entry : Option Entry) (next : List Entry) (after : Holding) → answer ≡ reply.Stale seen now → Taken answer entry next after → (seen < now) × (now ≡ length history)
   stale_later within answer seen now None next after is step =
@@ -186,8 +221,8 @@ module _ (network : Network) (history : List Entry) (customer : List ℕ) (held 
 
 -- ---- what a turn answered, by the command
 
-module _ {D : Type 0} {disk : Ghosts D} {Begins : List Entry → KeptStore D → Type 0} {known : Known} {count at : ℕ} {old was new : KeptStore D} {answer : Reply}
-    (begun : BeginsTurn disk Begins known count at was) (same : old ≡ was) (answered : HaveAnswered (store_books disk) old new answer) (told : Option Entry) (customer : List ℕ) (held : Holding) where
+module _ {D : Type 0} {disk : Ghosts D} {Begins : List Entry → KeptStore D → Type 0} {known : Known} {tries : List Tried} {count at : ℕ} {old was new : KeptStore D} {answer : Reply}
+    (begun : BeginsTurn disk Begins known tries count at was) (same : old ≡ was) (answered : HaveAnswered (store_books disk) old new answer) (told : Option Entry) (customer : List ℕ) (held : Holding) where
   abbrev Stepped : Command → Type 0
   Stepped asked = HasStepped (store_books disk) old new 0 known.seen customer held asked answer
 
@@ -197,30 +232,35 @@ module _ {D : Type 0} {disk : Ghosts D} {Begins : List Entry → KeptStore D →
   step_of : (asked : Command) → StepsAtEach (store_books disk) old new customer asked answer → Stepped asked
   step_of asked steps = steps 0 known.seen held (ap (λ (s : KeptStore D). s.ledger.book) same ∙ begun.stands.book)
 
-  by_entry : (asked : Command) (entry : Entry) → told ≡ Some entry → (stepped : Stepped asked) → IfSome (joined_of stepped.entry (committed_of answer)) (λ one. one ≡ entry) → Turn asked
-  by_entry asked entry is stepped of =
+  by_entry : (asked : Command) (entry : Entry) → told ≡ Some entry → (stepped : Stepped asked) → IfSome (joined_of stepped.entry (committed_of answer)) (λ one. one ≡ entry) → IfSome stepped.entry (IsAlike entry) → Turn asked
+  by_entry asked entry is stepped of like =
       answers_turn disk known.seen old was new told customer held asked answer same stepped answered.network answered.met (inr (told_is (joined_of stepped.entry (committed_of answer)) told entry is of))
+      (subst (λ (t : Option Entry). MatchOption t (new ≡ old) (λ one. IfSome stepped.entry (IsAlike one))) (sym is) like)
 
   pub release_turn : (id : ℕ) → told ≡ Some (Release customer id) → StepsAtEach (store_books disk) old new customer (command.Release id) answer → Turn (command.Release id)
   release_turn id is steps =
       let stepped = step_of (command.Release id) steps in
       by_entry (command.Release id) (Release customer id) is stepped (release_entry old.ledger.network known.seen customer held id answer stepped.entry stepped.next stepped.after stepped.step)
+      (release_like old.ledger.network known.seen customer held id answer stepped.entry stepped.next stepped.after stepped.step)
 
   pub order_turn : (down : Bool) (link : ℕ) → told ≡ Some (service_entry down link) → customer ≡ operator → StepsAtEach (store_books disk) old new operator (service_command down link) answer → Turn (service_command down link)
   order_turn down link is mine steps =
       let asked = service_command down link in
       let stepped = step_of asked (subst (λ (name : List ℕ). StepsAtEach (store_books disk) old new name asked answer) (sym mine) steps) in
       by_entry asked (service_entry down link) is stepped (order_entry old.ledger.network known.seen customer held down link answer stepped.entry stepped.next stepped.after stepped.step)
+      (order_like old.ledger.network known.seen customer held down link answer stepped.entry stepped.next stepped.after stepped.step)
 
   pub take_turn : (number : ℕ) (one : HeldQuote) (quote : Quote) → at_number held number ≡ Some one → one.hose ≡ quote.hose → told ≡ Some (Admit customer quote.hose quote.amounts) → TellsPlan quote.amounts quote.cost answer
       → Stepped (command.Take number) → Turn (command.Take number)
   take_turn number one quote there hose is tells stepped = by_entry (command.Take number) (Admit customer quote.hose quote.amounts) is stepped
       (subst (λ (ends : List Endpoint). IfSome (joined_of stepped.entry (committed_of answer)) (λ joined. joined ≡ Admit customer ends quote.amounts)) hose
       (take_entry old.ledger.network known.seen customer held number one there quote.amounts quote.cost answer stepped.entry stepped.next stepped.after tells stepped.step))
+      (subst (λ (ends : List Endpoint). IfSome stepped.entry (IsAlike (Admit customer ends quote.amounts))) hose
+      (take_like old.ledger.network known.seen customer held number one there quote.amounts answer stepped.entry stepped.next stepped.after stepped.step))
 
   -- an admission may have had no entry, and then the store is as it was
   pub admit_turn : (asks : Admission) → AdmitsAtOnce (store_books disk) old new customer asks answer told → Turn (admission_command asks.known asks.hose)
-  admit_turn asks admits = answers_turn disk known.seen old was new told customer held asked answer same stepped answered.network answered.met (joined told admits.none admits.enters)
+  admit_turn asks admits = answers_turn disk known.seen old was new told customer held asked answer same stepped answered.network answered.met (joined told admits.none admits.enters) (like told admits.none admits.enters)
     where
       asked : Command
       asked = admission_command asks.known asks.hose
@@ -232,6 +272,11 @@ module _ {D : Type 0} {disk : Ghosts D} {Begins : List Entry → KeptStore D →
       joined None none enters = inl none
       joined (Some entry) none enters = inr (told_is (joined_of stepped.entry (committed_of answer)) (Some entry) entry refl
           (admit_entry old.ledger.network known.seen customer held asks.hose asks.known answer entry stepped.entry stepped.next stepped.after enters stepped.step))
+
+      like : (told : Option Entry) → IfNone told (new ≡ old) → IfSome told (EntersPlan customer asks.hose answer) → MatchOption told (new ≡ old) (λ one. IfSome stepped.entry (IsAlike one))
+      like None none enters = none
+      like (Some entry) none enters = subst (λ (e : Entry). IfSome stepped.entry (IsAlike e)) (sym enters.enters)
+          (admit_like old.ledger.network known.seen customer held asks.hose asks.known enters.plan answer stepped.entry stepped.next stepped.after stepped.step)
 
 -- ---- replies without an entry
 
@@ -248,6 +293,9 @@ stays_along {network = network} {customer = customer} {held = held} {asked = ask
   same = record { turn = refl; origin = refl; share = refl; seen = prefix_same new.seen; faults = omega arith; places = more.same.places };
   seen = prefix_same new.seen;
   own = sym (append-nil new.own);
+  tries = [];
+  tried = sym (append-nil new.tried);
+  asked = All-nil (IsTriedBy network new.seen customer held asked answer);
   failed = λ is. absurd (cc (is, done));
 })
 

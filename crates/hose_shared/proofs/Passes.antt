@@ -22,7 +22,9 @@ use Rattle.hose_book.specs.declared.books.Committed.{Committed}
 use Rattle.hose_book.specs.declared.books.Committed.TheVariants.{Done, Disk}
 use Rattle.hose_turn.specs.Faults.{end_of_count}
 use Rattle.hose_turn.specs.steps.Faults.{rise}
+use Rattle.hose_turn.specs.declared.view.Tried.{Tried}
 use Rattle.hose_turn.specs.Known.{Known}
+use Rattle.hose_shared.specs.Trying.{IsTriedBy}
 use Rattle.hose_turn.specs.steps.Known.{HasOwnPlaces}
 use Rattle.hose_shared.specs.steps.Along.{HasEntryAt, IsCheapestEntry, StepsAlong}
 use Rattle.hose_shared.specs.steps.Sharing.{HasSeenMore, IsSamePass}
@@ -60,7 +62,7 @@ same_on one two three here there = record {
 }
 
 pub more_on : (one two three : Known) → HasSeenMore one two → HasSeenMore two three → HasSeenMore one three
-more_on one two three here there = record { same = same_on one two three here.same there.same; own = there.own ∙ here.own }
+more_on one two three here there = record { same = same_on one two three here.same there.same; own = there.own ∙ here.own; tried = there.tried ∙ here.tried }
 
 module _ (network : Network) (customer : List ℕ) (held : Holding) (command : Command) (answer : Reply) where
   -- a step of a pass that had seen more
@@ -75,6 +77,9 @@ module _ (network : Network) (customer : List ℕ) (held : Holding) (command : C
     later = let a = prefix_length one.seen two.seen more.same.seen in let b = along.later in omega arith;
     same = same_on one two three more.same along.same;
     own = along.own ∙ ap (λ (own : List ℕ). own ++ along.added) more.own;
+    tries = along.tries;
+    tried = along.tried ∙ ap (λ (tried : List Tried). tried ++ along.tries) more.tried;
+    asked = along.asked;
     failed = λ is. let a = more.same.faults in let b = along.failed is in omega arith;
   }
 
@@ -121,6 +126,9 @@ module _ (network : Network) (customer : List ℕ) (held : Holding) (command : C
         later = prefix_length one.seen two.seen more.same.seen;
         same = same_on one two three more.same at.same;
         own = at.own ∙ ap (λ (own : List ℕ). own ++ place_of two.seen at.joined) more.own;
+        tries = at.tries;
+        tried = at.tried ∙ ap (λ (tried : List Tried). tried ++ at.tries) more.tried;
+        asked = subst (λ (all : List Entry). All (IsTriedBy network all customer held command answer) at.tries) (sym front) at.asked;
         failed = λ is. let a = more.same.faults in let b = at.failed is in omega arith;
       }
 
@@ -136,6 +144,7 @@ locked_more pass holder is seen places = record {
     places = places;
   };
   own = ap (λ (k : Known). k.own) is;
+  tried = ap (λ (k : Known). k.tried) is;
 }
 
 -- a pass that gave it on
@@ -150,11 +159,12 @@ unlocked_more pass holder new more seen is = more_on pass holder new seen (recor
     places = subst HasOwnPlaces (sym is) seen.same.places;
   };
   own = ap (λ (k : Known). k.own) is;
+  tried = ap (λ (k : Known). k.tried) is;
 })
 
 -- a pass that took no turn
 pub more_same : (pass : Known) → HasOwnPlaces pass → HasSeenMore pass pass
-more_same pass places = record { same = record { turn = refl; origin = refl; share = refl; seen = prefix_same pass.seen; faults = omega arith; places = places }; own = refl }
+more_same pass places = record { same = record { turn = refl; origin = refl; share = refl; seen = prefix_same pass.seen; faults = omega arith; places = places }; own = refl; tried = refl }
 
 -- ---- entries
 

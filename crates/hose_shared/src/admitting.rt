@@ -83,7 +83,8 @@ impl<D: Disk, B: Begun<D>> Shared<D, B> {
         let store = &mut held.value_mut().store;
         let table = self.table.as_ref();
         let (reply, entry) = admit_with_rows(alloc, store, customer, asked, table, rows);
-        (reply, self.end_turn(held, start, entry))
+        let pass = self.end_turn(held, start, entry, &reply);
+        (reply, pass)
     }
 
     // Takes a plan that was made of all that the pass has seen, bound as before. Where it is stale
@@ -107,10 +108,11 @@ impl<D: Disk, B: Begun<D>> Shared<D, B> {
         let (mut held, start) = self.begin_turn(caller.context.rt, pass);
         let store = &mut held.value_mut().store;
         let settled = admit_claimed_now(store, caller.customer, known, &quote, claim);
-        let pass = self.end_turn(held, start, Some(entry));
-        match settled {
-            Some(reply) => (Ok(reply), pass),
-            None => (Err(quote.hose), pass),
-        }
+        let Some(reply) = settled else {
+            let pass = self.end_turn(held, start, None, &Reply::Memory);
+            return (Err(quote.hose), pass);
+        };
+        let pass = self.end_turn(held, start, Some(entry), &reply);
+        (Ok(reply), pass)
     }
 }

@@ -39,7 +39,8 @@ impl<D: Disk, B: Begun<D>> Shared<D, B> {
             caller.customer,
             id,
         );
-        (reply, self.end_turn(held, start, None))
+        let pass = self.end_turn(held, start, None, &reply);
+        (reply, pass)
     }
 
     /// Tells a customer the numbers of the VPNs that are live and the customer's: `Vpns` or
@@ -51,7 +52,8 @@ impl<D: Disk, B: Begun<D>> Shared<D, B> {
     {
         let (held, start) = self.begin_turn(caller.context.rt, pass);
         let reply = vpns_now(caller.context.alloc, &held.value().store, caller.customer);
-        (reply, self.end_turn(held, start, None))
+        let pass = self.end_turn(held, start, None, &reply);
+        (reply, pass)
     }
 
     /// Tells what is reserved on a link of the network: `LinkState`.
@@ -68,7 +70,8 @@ impl<D: Disk, B: Begun<D>> Shared<D, B> {
     {
         let (held, start) = self.begin_turn(caller.context.rt, pass);
         let reply = link_now(&held.value().store, link);
-        (reply, self.end_turn(held, start, None))
+        let pass = self.end_turn(held, start, None, &reply);
+        (reply, pass)
     }
 
     /// Gives up a customer's VPN of a number of at most 4,000,000,000: `Released`, `NoVpn`,
@@ -90,7 +93,8 @@ impl<D: Disk, B: Begun<D>> Shared<D, B> {
         let entry = Snapshot::of(&claim.entry());
         let (mut held, start) = self.begin_turn(caller.context.rt, pass);
         let reply = release_now(&mut held.value_mut().store, claim);
-        (reply, self.end_turn(held, start, Some(entry)))
+        let pass = self.end_turn(held, start, Some(entry), &reply);
+        (reply, pass)
     }
 
     /// Takes a link of the network out of service, where `down` is true, or puts it back: `Down`,
@@ -121,6 +125,7 @@ impl<D: Disk, B: Begun<D>> Shared<D, B> {
         let entry = Snapshot::of(&claim.entry());
         let (mut held, start) = self.begin_turn(caller.context.rt, pass);
         let reply = service_now(&mut held.value_mut().store, claim);
-        (reply, self.end_turn(held, start, Some(entry)))
+        let pass = self.end_turn(held, start, Some(entry), &reply);
+        (reply, pass)
     }
 }

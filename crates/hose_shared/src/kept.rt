@@ -38,8 +38,8 @@ impl<D: Disk, B: Begun<D>> HoldsHistory for Kept<D, B> {
     ghost use Rattle.hose_disk.specs.Disk.{DiskFrame};
     ghost use Rattle.hose_shared.specs.steps.Keeping.{StandsShared};
 
-    ghost stands = { λ origin history kept.
-        StandsShared D.Disk B.begins origin history kept.store };
+    ghost stands = { λ origin history tries kept.
+        StandsShared D.Disk B.begins origin history tries kept.store };
 
     ghost faults = { λ kept. (D.frame kept.store.journal.disk).faults };
 

@@ -115,6 +115,7 @@ impl<D: Disk, B: Begun<D>> Shared<D, B> {
         let entry = Snapshot::of(&claim.entry);
         let (mut held, start) = self.begin_turn(rt, pass);
         let reply = take_now(&mut held.value_mut().store, quote, claim);
-        (reply, self.end_turn(held, start, Some(entry)))
+        let pass = self.end_turn(held, start, Some(entry), &reply);
+        (reply, pass)
     }
 }

@@ -55,7 +55,7 @@ impl<D: Disk, B: Begun<D>> Shared<D, B> {
             × HasBookOf 0 since store.ledger × Tracks 0 since store.ledger.recent }
         ensures first { IfOk result (λ made. made.1 ≡ first_known made.0.turn made.1.origin) }
         ensures stands { IfOk result (λ made. StandsShared D.Disk B.begins made.1.origin
-            made.1.origin.since store) }
+            made.1.origin.since [] store) }
         ensures pass { IfOk result (λ made. IsPassOf made.0 made.1) }
         ensures network { IfOk result (λ made. made.0.network ≡ store.ledger.network) }
     {
@@ -78,7 +78,7 @@ impl<D: Disk, B: Begun<D>> Shared<D, B> {
         requires table { IfSome table (λ table. table.network ≡ store.ledger.network) }
         ensures first { IfOk result (λ made. made.1 ≡ first_known made.0.turn made.1.origin) }
         ensures stands { IfOk result (λ made. StandsShared D.Disk B.begins made.1.origin
-            made.1.origin.since store) }
+            made.1.origin.since [] store) }
         ensures pass { IfOk result (λ made. IsPassOf made.0 made.1) }
         ensures network { IfOk result (λ made. made.0.network ≡ store.ledger.network) }
         ensures back { IfErr result (λ back. back ≡ store) }
@@ -127,7 +127,7 @@ impl<D: Disk, B: Begun<D>> Shared<D, B> {
         requires of { IsPassOf self.now pass.old }
         requires share { 2 ≤ pass.old.share }
         ensures kept { pass.new ≡ record pass.old { share = pass.old.share - 1 } }
-        ensures given { result ≡ record pass.old { share = 1; own = []; faults = 0 } }
+        ensures given { result ≡ record pass.old { share = 1; own = []; tried = []; faults = 0 } }
         ensures both { IsPassOf self.now pass.new × IsPassOf self.now result }
     {
         self.turn.split(pass)

@@ -6,4 +6,5 @@ pub mod Idle
 pub mod Line
 pub mod History
 pub mod Faults
+pub mod Tries
 pub mod Steps

@@ -9,4 +9,5 @@ pub mod Line
 pub mod Places
 pub mod Rule
 pub mod Steps
+pub mod Tries
 pub mod Views

@@ -5,7 +5,7 @@
 //! drawn, and word 2 the ticket that has the turn. The slot has the value, while no pass has the
 //! turn.
 ghost use Rattle.hose_turn.specs.steps.Views.{nobody, cut, branch, glued};
-ghost use Rattle.hose_turn.specs.steps.Steps.{OpensLock, Draws, Looks, Settles, Counts, PassesOn};
+ghost use Rattle.hose_turn.specs.steps.Steps.{OpensLock, Draws, Looks, Settles, Counts, Tries, PassesOn};
 ghost use Rattle.hose_turn.specs.steps.Faults.{rise, no_rise};
 
 use crate::view::{Counted, HoldsHistory, View};
@@ -69,6 +69,15 @@ pub(crate) struct CountEntry<N> {
 
 impl<S, N: Counted> Play<Option<S>, View> for CountEntry<N> {
     ghost then = { Counts N.entry };
+}
+
+/// The value did not take an entry that the pass tried.
+pub(crate) struct TryEntry<N> {
+    named: PhantomData<N>,
+}
+
+impl<S, N: Counted> Play<Option<S>, View> for TryEntry<N> {
+    ghost then = { Tries N.entry };
 }
 
 /// A pass gives the value back, and the turn to the next ticket.

@@ -3,19 +3,20 @@ ghost use Rattle.std.specs.Prelude.{◌≡◌, ◌⊎◌, ℕ, ◌+◌, ◌-◌,
 ghost use mathlib.Core.List.{IsPrefix};
 ghost use Rattle.hose_graph.specs.declared.entry.Entry.{Entry};
 ghost use Rattle.hose_turn.specs.declared.view.Origin.{Origin};
+ghost use Rattle.hose_turn.specs.declared.view.Tried.{Tried};
 ghost use Rattle.std.specs.Borrow.{sem, follows};
 ghost use Rattle.hose_turn.specs.steps.Known.{first_known, HasJoined, HasOwnPlaces, HasWholeHistory};
 ghost use Rattle.hose_turn.specs.Faults.{end_of_count};
 ghost use Rattle.hose_turn.specs.steps.Faults.{rise};
 ghost use Rattle.hose_turn.specs.steps.Views.{unborn, opener};
-ghost use Rattle.hose_turn.specs.steps.Held.{holder, value_of, floor_of, HasCounted};
+ghost use Rattle.hose_turn.specs.steps.Held.{holder, value_of, floor_of, tries_of, HasCounted, HasTried};
 ghost use Rattle.hose_turn.specs.contracts.pass.Held.{the_row};
 
 use crate::bells::Bells;
 use crate::pass::{ALL_SHARES, Held, Pass};
 use crate::rule::{
     AT_TURN, Begin, Board, BoardSeat, CountEntry, Cut, Draw, EPOCH, Glue, Look, Open, PassOn,
-    Settle, TICKET,
+    Settle, TICKET, TryEntry,
 };
 use crate::view::{Counted, HoldsHistory};
 use atomic_table::{Badge, Table};
@@ -61,9 +62,10 @@ impl<S: HoldsHistory + Drop> Turn<S> {
     /// The value has to stand for some list, since that list itself. Nothing names that list here:
     /// the first pass has an origin, and so a list, for which the value stands.
     pub fn new(alloc: Global, value: S) -> Result<(Turn<S>, Pass), AllocError>
-        requires { (origin : Origin) × S.stands origin origin.since value }
+        requires { (origin : Origin) × S.stands origin origin.since [] value }
         ensures first { IfOk result (λ made. made.1 ≡ first_known made.0 made.1.origin) }
-        ensures stands { IfOk result (λ made. S.stands made.1.origin made.1.origin.since value) }
+        ensures stands { IfOk result
+            (λ made. S.stands made.1.origin made.1.origin.since [] value) }
     {
         match Turn::from_ticket(alloc, value, 0) {
             Ok(made) => Ok(made),
@@ -75,9 +77,10 @@ impl<S: HoldsHistory + Drop> Turn<S> {
     /// are counted modulo 2^64, so that number makes no difference. Where memory is wanting the
     /// value comes back.
     pub fn from_ticket(alloc: Global, value: S, ticket: u64) -> Result<(Turn<S>, Pass), S>
-        requires { (origin : Origin) × S.stands origin origin.since value }
+        requires { (origin : Origin) × S.stands origin origin.since [] value }
         ensures first { IfOk result (λ made. made.1 ≡ first_known made.0 made.1.origin) }
-        ensures stands { IfOk result (λ made. S.stands made.1.origin made.1.origin.since value) }
+        ensures stands { IfOk result
+            (λ made. S.stands made.1.origin made.1.origin.since [] value) }
         ensures back { IfErr result (λ back. back ≡ value) }
     {
         let Ok(bells) = Bells::new(alloc) else {
@@ -97,9 +100,9 @@ impl<S: HoldsHistory + Drop> Turn<S> {
         requires words { board.now.shared.table_id.words ≡ 3 }
         requires table { seat.old.table_id ≡ board.now.shared.table_id }
         requires unborn { seat.old.me ≡ (unborn, []) }
-        requires stands { (origin : Origin) × S.stands origin origin.since value }
+        requires stands { (origin : Origin) × S.stands origin origin.since [] value }
         ensures table { seat.new.table_id ≡ seat.old.table_id }
-        ensures begun { (origin : Origin) × (ticket : ℕ) × S.stands origin origin.since value
+        ensures begun { (origin : Origin) × (ticket : ℕ) × S.stands origin origin.since [] value
             × (seat.new.me ≡ (opener origin ticket (S.faults value), (0, Some value) ∷ [])) }
     {
         let epoch = value.epoch();
@@ -115,7 +118,7 @@ impl<S: HoldsHistory + Drop> Turn<S> {
         requires turn { pass.old.turn ≡ self.now }
         requires share { 2 ≤ pass.old.share }
         ensures kept { pass.new ≡ record pass.old { share = pass.old.share - 1 } }
-        ensures given { result ≡ record pass.old { share = 1; own = []; faults = 0 } }
+        ensures given { result ≡ record pass.old { share = 1; own = []; tried = []; faults = 0 } }
     {
         let badge = replace(&mut pass.badge, Badge::blank());
         let mut seat: BoardSeat<S> = badge.into_seat();
@@ -143,7 +146,8 @@ impl<S: HoldsHistory + Drop> Turn<S> {
         requires { pass.turn ≡ self.now }
         ensures kept { holder result ≡ record pass { seen = (holder result).seen } }
         ensures seen { IsPrefix pass.seen (holder result).seen }
-        ensures stands { S.stands (holder result).origin (holder result).seen (value_of result) }
+        ensures stands { S.stands (holder result).origin (holder result).seen (tries_of result)
+            (value_of result) }
         ensures floor { floor_of result ≡ S.faults (value_of result) }
         ensures places { HasOwnPlaces (holder result) }
     {
@@ -207,7 +211,8 @@ impl<S: HoldsHistory + Drop> Turn<S> {
     fn count_named<N: Counted>(&self, held: &mut Held<S>, entry: Snapshot<Entry>)
         requires turn { (holder held.old).turn ≡ self.now }
         requires stands { let known = holder held.old in
-            S.stands known.origin (known.seen ++ N.entry ∷ []) (value_of held.old) }
+            S.stands known.origin (known.seen ++ N.entry ∷ []) (tries_of held.old)
+            (value_of held.old) }
         ensures { HasCounted held.old held.new N.entry }
     {
         // The entry is for the clauses alone, and the epoch tells that its word does not wrap.
@@ -223,17 +228,38 @@ impl<S: HoldsHistory + Drop> Turn<S> {
     pub fn count(&self, held: &mut Held<S>, entry: Snapshot<Entry>)
         requires turn { (holder held.old).turn ≡ self.now }
         requires stands { let known = holder held.old in
-            S.stands known.origin (known.seen ++ entry.value ∷ []) (value_of held.old) }
+            S.stands known.origin (known.seen ++ entry.value ∷ []) (tries_of held.old)
+            (value_of held.old) }
         ensures { HasCounted held.old held.new entry.value }
     {
         self.count_named::<Brand>(held, entry);
+    }
+
+    /// Notes an entry as `fail` does, where a type names it, so that its step can tell it.
+    fn fail_named<N: Counted>(&self, held: &mut Held<S>, entry: Snapshot<Entry>)
+        requires { (holder held.old).turn ≡ self.now }
+        ensures { HasTried held.old held.new N.entry }
+    {
+        // The entry is for the clauses alone.
+        let _ = entry;
+        self.board.shared.load::<TryEntry<N>>(&mut held.seat, EPOCH);
+    }
+
+    /// Says that the value was to take an entry in this turn and did not. The entry is for
+    /// contracts alone, as that of `count`.
+    pub fn fail(&self, held: &mut Held<S>, entry: Snapshot<Entry>)
+        requires { (holder held.old).turn ≡ self.now }
+        ensures { HasTried held.old held.new entry.value }
+    {
+        self.fail_named::<Brand>(held, entry);
     }
 
     /// Gives the value back, and the turn on. The pass has one fault more where the value's count
     /// of faults rose.
     pub fn unlock(&self, held: Held<S>) -> Pass
         requires turn { (holder held).turn ≡ self.now }
-        requires stands { S.stands (holder held).origin (holder held).seen (value_of held) }
+        requires stands { S.stands (holder held).origin (holder held).seen (tries_of held)
+            (value_of held) }
         requires faults { floor_of held ≤ S.faults (value_of held) }
         ensures passed { let known = holder held in
             let more = rise (floor_of held) (S.faults (value_of held)) in
@@ -251,7 +277,8 @@ impl<S: HoldsHistory + Drop> Turn<S> {
     pub fn close(self, pass: Pass) -> S
         requires turn { pass.turn ≡ self }
         requires share { pass.share ≡ ALL_SHARES }
-        ensures history { (history : List Entry) × HasWholeHistory S.stands pass history result }
+        ensures history { (history : List Entry) × (tries : List Tried)
+            × HasWholeHistory S.stands pass history tries result }
         ensures faults { (pass.faults ≤ S.faults result) ⊎ (end_of_count ≤ S.faults result) }
     {
         let Turn { board, bells: _ } = self;

@@ -2,22 +2,24 @@
 ghost use Rattle.std.specs.Prelude.{◌≡◌, ℕ, ◌+◌, List, [], length};
 ghost use Rattle.hose_graph.specs.declared.entry.Entry.{Entry};
 ghost use Rattle.hose_turn.specs.declared.view.Origin.{Origin};
+ghost use Rattle.hose_turn.specs.declared.view.Tried.{Tried};
 
 use hose_graph::{Entry, Topology};
 use std::marker::Brand;
 
 /// A value that stands for a list of entries.
 pub trait HoldsHistory {
-    /// The value stands for the list, with what was fixed when its lock was made.
-    ghost stands: { Origin → List Entry → Self → Type 0 };
+    /// The value stands for the list, with what was fixed when its lock was made, and these are all
+    /// that it was to take since and did not.
+    ghost stands: { Origin → List Entry → List Tried → Self → Type 0 };
 
     /// How many faults its disk has met.
     ghost faults: { Self → ℕ };
 
     /// The first epoch and the length of the list together.
     fn epoch(&self) -> u64
-        ensures { (origin : Origin) (history : List Entry) → stands origin history self.now
-            → result ≡ origin.first + length history };
+        ensures { (origin : Origin) (history : List Entry) (tries : List Tried)
+            → stands origin history tries self.now → result ≡ origin.first + length history };
 }
 
 /// Names the entry that a step counts. The call that counts picks it.
@@ -29,8 +31,8 @@ impl Counted for Brand {
     ghost entry = { Entry.Release [] 0 };
 }
 
-// No value of `Origin` or of `View` is made: they stand in contracts and proofs alone, where an
-// array is a list of any length.
+// No value of `Origin`, of `Tried` or of `View` is made: they stand in contracts and proofs alone,
+// where an array is a list of any length.
 
 /// What is fixed when a lock is made.
 pub struct Origin {
@@ -41,6 +43,13 @@ pub struct Origin {
     pub since: [Entry; 0],
     /// The network of the value's book.
     pub network: Topology,
+}
+
+/// An entry that the value was to take and did not.
+pub struct Tried {
+    /// How many entries the list had then.
+    pub place: u64,
+    pub entry: Entry,
 }
 
 pub struct View {
@@ -56,6 +65,10 @@ pub struct View {
     pub told: [Entry; 0],
     /// The places in the history of the entries that the pass counted.
     pub own: [u64; 0],
+    /// What the pass tried.
+    pub tried: [Tried; 0],
+    /// All that was tried, as the pass has the turn.
+    pub all_tried: [Tried; 0],
     pub faults: u64,
     /// The count of faults of the value that the pass took.
     pub floor: u64,

@@ -17,7 +17,8 @@ struct Log {
 }
 
 impl HoldsHistory for Log {
-    ghost stands = { λ origin history log. (log.entries.items ≡ history) × (origin.first ≡ 0) };
+    ghost stands = { λ origin history tries log. (log.entries.items ≡ history)
+        × (origin.first ≡ 0) };
 
     ghost faults = { λ log. 0 };
 

@@ -32,9 +32,10 @@ pub record Accounts (ended : List (Option Connection)) (pass : Known) : Type 0 w
   pub are : ended ≡ map Some connections
   pub account : AccountFor connections pass
 
--- What each worker begins with: a part of the first pass that has nothing of its own.
+-- What each worker begins with: a part of the first pass that has nothing of its own and tried
+-- nothing.
 abbrev pub part_of : Known → Known
-part_of first = record first { share = 1; own = []; faults = 0 }
+part_of first = record first { share = 1; own = []; tried = []; faults = 0 }
 
 -- A worker served connections along its pass: as many ended as it accepted, and where they are told
 -- they account for the pass.

@@ -1,22 +1,42 @@
 -- Exchanges: a line of a session and its reply, one after another.
 use Rattle.std.specs.Prelude.{◌≡◌, ℕ, ◌+◌, ◌≤◌, All, List, ◌++◌, length, Option}
+use mathlib.Core.List.{IsPrefix}
 use Rattle.hose_words.specs.declared.lines.Line.{Line}
 use Rattle.hose_graph.specs.Network.{Network}
+use Rattle.hose_graph.specs.declared.command.Command.{Command}
 use Rattle.hose_graph.specs.declared.command.Reply.{Reply}
 use Rattle.hose_graph.specs.declared.entry.Entry.{Entry}
 use Rattle.hose_law.specs.Quotes.{Holding, none_held}
 use Rattle.hose_law.specs.Script.{disks_in, one_if_disk}
 use Rattle.hose_law.specs.Transcript.{IsSessionStep, IsTranscript, SessionLine, Stage, session_state}
+use Rattle.hose_law.specs.Transcript.SessionLine.{Asks}
 use Rattle.hose_law.specs.Transcript.Stage.{Left, Refused, Serving, Waiting}
 use Rattle.hose_core.specs.declared.quotes.Quote.{Quote}
 use Rattle.hose_core.specs.steps.Holding.{AreHeld}
+use Rattle.hose_shared.specs.Trying.{IsTriedBy}
 use Rattle.hose_shared.specs.steps.Along.{HasEntryAt}
 use Rattle.hose_shared.specs.steps.Sharing.{IsPassOf, IsSamePass, SharedBook}
+use Rattle.hose_turn.specs.declared.view.Tried.{Tried}
 use Rattle.hose_turn.specs.Known.{Known}
 use Rattle.hose_greeting.specs.SessionLines.{SaysFirst, SaysLater}
 use Rattle.hose_greeting.specs.steps.Shown.{ShownSays}
+use Rattle.hose_session.specs.Session.{IsAskedIn}
 use Rattle.hose_session.specs.declared.phase.Phase.{Phase}
 use Rattle.hose_session.specs.declared.phase.Phase.TheVariants as phase
+
+-- A line at a stage asked for what was tried: it is a command of the customer who is served then,
+-- and its reply is that of a step at a place of the history, from this one on.
+pub record IsAskedAt (network : Network) (history : List Entry) (from : ℕ) (stage : Stage)
+    (said : SessionLine) (reply : Reply) (one : Tried) : Type 0 where
+  pub customer : List ℕ
+  pub held : Holding
+  pub command : Command
+  pub serves : stage ≡ Serving customer held
+  pub asks : said ≡ Asks command
+  pub before : List Entry
+  pub begins : IsPrefix before history
+  pub later : from ≤ length before
+  pub asked : IsTriedBy network before customer held command reply one
 
 -- An exchange: a line was answered while a pass went on, from each place that it had seen, at one
 -- that it has seen then.
@@ -28,6 +48,9 @@ pub record IsExchange (network : Network) (old new : Known) (stage : Stage) (sai
   pub entries : All (HasEntryAt network new.seen) added
   pub same : IsSamePass old new
   pub own : new.own ≡ old.own ++ added
+  pub tries : List Tried
+  pub tried : new.tried ≡ old.tried ++ tries
+  pub asked : All (IsAskedAt network new.seen (length old.seen) stage said reply) tries
   pub faults : old.faults + one_if_disk reply ≤ new.faults
 
 -- A line of a customer who holds this was answered, and the customer is served on, with these
@@ -86,7 +109,7 @@ CanBeServed shared progress =
 
 -- Lines were answered while a pass went on: the transcript along all that it has seen then.
 pub record GoesAlong (network : Network) (old new : Known) (lines : List SessionLine)
-    (replies : List Reply) (stage : Stage) (own : List ℕ) : Type 0 where
+    (replies : List Reply) (stage : Stage) (own : List ℕ) (tries : List Tried) : Type 0 where
   pub last : ℕ
   pub transcript : IsTranscript network 0 new.seen (length old.seen) lines replies
       (session_state stage last own)
@@ -94,6 +117,8 @@ pub record GoesAlong (network : Network) (old new : Known) (lines : List Session
   pub entries : All (HasEntryAt network new.seen) own
   pub same : IsSamePass old new
   pub owns : new.own ≡ old.own ++ own
+  pub tried : new.tried ≡ old.tried ++ tries
+  pub asked : All (IsAskedIn network new.seen (length old.seen) lines replies) tries
   pub disks : old.faults + disks_in replies ≤ new.faults
 
 -- what the lines of a session that is so far and their replies have come to
@@ -101,5 +126,6 @@ pub record ComesAlong (network : Network) (first : Known) (progress : Progress)
     (lines : List SessionLine) (replies : List Reply) : Type 0 where
   pub stage : Stage
   pub own : List ℕ
-  pub along : GoesAlong network first progress.pass lines replies stage own
+  pub tries : List Tried
+  pub along : GoesAlong network first progress.pass lines replies stage own tries
   pub at : IsAt network progress stage

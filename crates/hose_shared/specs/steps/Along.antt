@@ -21,7 +21,9 @@ use Rattle.hose_core.specs.steps.Holding.{AreHeld}
 use Rattle.hose_core.specs.steps.Planning.{IsNotAdmitted}
 use Rattle.hose_core.specs.steps.Stepping.{committed_of}
 use Rattle.hose_core.specs.declared.quotes.Quote.{Quote}
+use Rattle.hose_turn.specs.declared.view.Tried.{Tried}
 use Rattle.hose_turn.specs.Known.{Known}
+use Rattle.hose_shared.specs.Trying.{IsTriedBy}
 use Rattle.hose_shared.specs.steps.Sharing.{HasSeenMore, IsSamePass}
 
 -- what an admission reserves is a cheapest way to carry its hose over the links allowed at a book
@@ -43,7 +45,8 @@ pub record HasEntryAt (network : Network) (history : List Entry) (place : ℕ) :
 
 -- A command of a customer who holds this was answered by a step at a place of the history that the
 -- pass has seen then, not before what it had seen. The step's entry, if it added one, is the pass's
--- own, and no other that it had not before. Where the disk failed, the pass has met more faults.
+-- own, and no other that it had not before. So is what was tried there and not entered. Where the
+-- disk failed, the pass has met more faults.
 pub record StepsAlong (network : Network) (customer : List ℕ) (held : Holding) (command : Command)
     (answer : Reply) (old new : Known) : Type 0 where
   pub place : ℕ
@@ -55,6 +58,9 @@ pub record StepsAlong (network : Network) (customer : List ℕ) (held : Holding)
   pub later : length old.seen ≤ place
   pub same : IsSamePass old new
   pub own : new.own ≡ old.own ++ added
+  pub tries : List Tried
+  pub tried : new.tried ≡ old.tried ++ tries
+  pub asked : All (IsTriedBy network (take place new.seen) customer held command answer) tries
   pub failed : committed_of answer ≡ Disk → old.faults < new.faults
 
 -- A command was answered so, whatever the customer held, with a reply that names what is there.

@@ -27,7 +27,8 @@ pub record IsSamePass (old new : Known) : Type 0 where
   pub faults : old.faults ≤ new.faults
   pub places : HasOwnPlaces new
 
--- it has maybe seen more, and has no more entries of its own
+-- it has maybe seen more, and has no more entries of its own and tried no more
 pub record HasSeenMore (old new : Known) : Type 0 where
   pub same : IsSamePass old new
   pub own : new.own ≡ old.own
+  pub tried : new.tried ≡ old.tried

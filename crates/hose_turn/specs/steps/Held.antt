@@ -1,10 +1,11 @@
 -- A pass that has the turn, with the value, as callers see it.
-use Rattle.std.specs.Prelude.{◌≡◌, ℕ}
+use Rattle.std.specs.Prelude.{◌≡◌, ℕ, List, [], ◌∷◌, ◌++◌}
 use Rattle.hose_graph.specs.declared.entry.Entry.{Entry}
 use Rattle.hose_turn.specs.declared.pass.Held.{Held}
+use Rattle.hose_turn.specs.declared.view.Tried.{Tried}
 use Rattle.hose_turn.specs.Known.{Known}
-use Rattle.hose_turn.specs.steps.Known.{with_own_entry, HasOwnPlaces}
-use Rattle.hose_turn.specs.steps.Views.{known_of}
+use Rattle.hose_turn.specs.steps.Known.{with_own_entry, with_tried, HasOwnPlaces}
+use Rattle.hose_turn.specs.steps.Views.{known_of, tried_at}
 
 module _ {S : Type 0} where
   -- what the pass knows
@@ -19,9 +20,21 @@ module _ {S : Type 0} where
   abbrev pub floor_of : Held S → ℕ
   floor_of held = held.seat.me.0.floor
 
+  -- all that was tried until now
+  abbrev pub tries_of : Held S → List Tried
+  tries_of held = held.seat.me.0.all_tried
+
   -- the pass counted the entry as its own, and its value stays
   pub record HasCounted (old new : Held S) (entry : Entry) : Type 0 where
     pub counted : holder new ≡ with_own_entry (holder old) entry
     pub places : HasOwnPlaces (holder new)
+    pub value : value_of new ≡ value_of old
+    pub floor : floor_of new ≡ floor_of old
+    pub tries : tries_of new ≡ tries_of old
+
+  -- the pass tried the entry where it is, and the value, which stays, did not take it
+  pub record HasTried (old new : Held S) (entry : Entry) : Type 0 where
+    pub tried : holder new ≡ with_tried (holder old) entry
+    pub tries : tries_of new ≡ tries_of old ++ tried_at (holder old).seen entry ∷ []
     pub value : value_of new ≡ value_of old
     pub floor : floor_of new ≡ floor_of old

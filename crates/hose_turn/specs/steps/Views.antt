@@ -4,6 +4,7 @@ use Rattle.atomic_table.specs.Seated.{TableId}
 use Rattle.hose_graph.specs.declared.entry.Entry.{Entry}
 use Rattle.hose_turn.specs.declared.view.View.{View}
 use Rattle.hose_turn.specs.declared.view.Origin.{Origin}
+use Rattle.hose_turn.specs.declared.view.Tried.{Tried}
 use Rattle.hose_turn.specs.steps.Limits.{all_shares}
 use Rattle.hose_turn.specs.Known.{Known}
 use Rattle.hose_turn.specs.steps.Places.{HasSomePlaces}
@@ -26,6 +27,8 @@ nobody = record {
   seen = [];
   told = [];
   own = [];
+  tried = [];
+  all_tried = [];
   faults = 0;
   floor = 0;
 }
@@ -58,6 +61,7 @@ known_of turn view = record {
   share = view.share;
   seen = view.seen;
   own = view.own;
+  tried = view.tried;
   faults = view.faults;
 }
 
@@ -114,6 +118,7 @@ glued view other = record view {
   share = view.share + other.share;
   told = other.seen;
   own = view.own ++ other.own;
+  tried = view.tried ++ other.tried;
   faults = view.faults + other.faults;
 }
 
@@ -125,15 +130,28 @@ settled view longer = record view { seen = longer; told = [] }
 abbrev pub drew : View → ℕ → View
 drew view ticket = record view { ticket = Some ticket }
 
--- a pass whose turn has come, with the count of faults of the value that it took
-abbrev pub turned : View → List Entry → ℕ → View
-turned view history floor = record view { has_turn = true; seen = history; floor = floor }
+-- a pass whose turn has come, with all that was tried and the count of faults of the value that it
+-- took
+abbrev pub turned : View → List Entry → List Tried → ℕ → View
+turned view history tries floor =
+    record view { has_turn = true; seen = history; all_tried = tries; floor = floor }
 
 -- a pass that counted an entry, whose place is the number of entries before it
 abbrev pub counted : View → Entry → View
 counted view entry = record view {
   seen = view.seen ++ entry ∷ [];
   own = view.own ++ length view.seen ∷ [];
+}
+
+-- an entry that is tried where a pass has seen the whole list
+abbrev pub tried_at : List Entry → Entry → Tried
+tried_at seen entry = record { place = length seen; entry = entry }
+
+-- a pass whose entry was not taken
+abbrev pub failed : View → Entry → View
+failed view entry = record view {
+  tried = view.tried ++ tried_at view.seen entry ∷ [];
+  all_tried = view.all_tried ++ tried_at view.seen entry ∷ [];
 }
 
 -- a pass that gave its turn on, with more faults

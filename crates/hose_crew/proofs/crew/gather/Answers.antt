@@ -13,7 +13,7 @@ loop-hand-init g c =
       none_gathered _ _ c.args.left.pass c.args.left.share.parts asked.pass (search rules) asked.share.0 asked.of.places,
       search rules,
       refl,
-      none_returned g.N.DoorStart.start.told (g.L.Door.told c.args.left.door) c.args.left.tally.total c.args.left.share.amount c.args.left.pass asked.share.1 (none_accounts c.args.left.pass (search rules)),
+      none_returned g.N.DoorStart.start.told (g.L.Door.told c.args.left.door) c.args.left.tally.total c.args.left.share.amount c.args.left.pass asked.share.1 (none_accounts c.args.left.pass (search rules) (search rules)),
       refl,
       refl,
     )

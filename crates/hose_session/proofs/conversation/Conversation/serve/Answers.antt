@@ -1,14 +1,13 @@
-use Rattle.std.proofs.Common.{◌≡◌, ◌∙◌, Err, [], ℕ, rules, ap, arith, subst}
-use Rattle.hose_words.specs.Form.{IsChoice}
-use Rattle.hose_words.specs.Grammar.{IsFirst, IsFirstNotAllowed}
+use Rattle.std.proofs.Common.{◌≡◌, ◌∙◌, Err, ℕ, rules, ap, arith, subst}
+use Rattle.hose_words.specs.Words.{IsChoice, IsFirst, words_of}
+use Rattle.hose_words.specs.Shapes.{IsFirstWrong}
 use Rattle.hose_words.specs.steps.Lines.{Shows}
-use Rattle.hose_words.specs.Words.{words_of}
 use Rattle.hose_words.specs.declared.lines.Line.{Line}
 use Rattle.hose_graph.specs.Network.{Network}
 use Rattle.hose_graph.specs.declared.command.Reply.TheVariants.{Long, Memory}
 use Rattle.hose_law.specs.Transcript.SessionLine.{Asks, IsBad, IsLong, Unread}
 use Rattle.hose_law.specs.Transcript.Stage.{Serving}
-use Rattle.hose_proto.specs.Command.{IsCommand, TakesMemory, command_grammar, verb_word}
+use Rattle.hose_proto.specs.Command.{IsCommand, TakesMemory, command_shape, verb_word}
 use Rattle.hose_shared.proofs.Passes.{more_same}
 use Rattle.hose_greeting.specs.SessionLines.{IsBye}
 use Rattle.hose_session.proofs.Exchanging.{bad_exchange, bye_exchange, in_phase, left_at, long_exchange, memory_exchange, provided_exchange, served_at}
@@ -54,9 +53,9 @@ returns-else-is_bye-clause-answers g c = λ held are.
     let word : ℕ = c.in-Err-Bad.word in
     let told = c.read_command.ensures.bad word (c.in-Err-Bad.is ∙ ap Err c.in-Err-Bad.field-0-is) in
     let at : told.0 ≡ word = omega (arith, told.1) in
-    let first = subst (λ (w : ℕ). IsFirstNotAllowed (command_grammar c.topology.result.now) [] (words_of c.in-Text.text.now) w) at told.2 in
-    let wrong = subst (λ (n : Network). IsFirstNotAllowed (command_grammar n) [] (words_of c.in-Text.text.now) word) c.topology.ensures.value first in
-    let says = text_is (λ bytes. (¬ IsBye bytes) × IsFirstNotAllowed (command_grammar network) [] (words_of bytes) word) c.args.line c.in-Text.text c.in-Text.is
+    let first = subst (λ (w : ℕ). IsFirstWrong (command_shape c.topology.result.now) (words_of c.in-Text.text.now) w) at told.2 in
+    let wrong = subst (λ (n : Network). IsFirstWrong (command_shape n) (words_of c.in-Text.text.now) word) c.topology.ensures.value first in
+    let says = text_is (λ bytes. (¬ IsBye bytes) × IsFirstWrong (command_shape network) (words_of bytes) word) c.args.line c.in-Text.text c.in-Text.is
     ((λ bye. cc (c.is_bye.ensures.1 bye, c.if-is_bye.false)), wrong) in
     in_phase network pass pass seat.quotes (Serving name held) c.args.line _ c.args.self.now.phase name c.requires.phase
     (served_at network pass pass c.args.line _ seat.quotes name held (IsBad word) (λ bytes shows. let here = says bytes shows in (here.0, here.1.0, here.1.1))

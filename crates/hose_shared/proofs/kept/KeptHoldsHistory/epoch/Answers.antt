@@ -5,6 +5,6 @@ use Rattle.hose_law.proofs.Epochs.{epoch_of}
 use Rattle.hose_shared.proofs.kept.KeptHoldsHistory.epoch.Goals as goal
 
 pub returns : goal.returns
-returns g c = λ origin history stood.
+returns g c = λ origin history tries stood.
     let is = c.epoch.ensures.value ∙ ap (λ (l : Ledger). l.book.epoch) c.book.ensures ∙ ap (λ (b : Book). b.epoch) stood.book ∙ epoch_of history in
     let first = stood.epoch in omega arith

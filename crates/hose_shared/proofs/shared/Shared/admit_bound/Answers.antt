@@ -80,13 +80,13 @@ admit_with_rows-reply-requires-clause-table g c =
     let there : IfSome c.as_ref-table.result (λ table. table.now.network ≡ c.self.inside.topology) = search rules in
     subst (λ (n : Network). IfSome c.as_ref-table.result (λ table. table.now.network ≡ n)) (ap (λ (s : SharedBook). s.network) c.self.view_is ∙ sym (same ∙ c.begin_turn-held.ensures.network)) there
 
-pub end_turn-requires-clause-answers : goal.end_turn-requires-clause-answers
-end_turn-requires-clause-answers g c =
+pub end_turn-pass-requires-clause-answers : goal.end_turn-pass-requires-clause-answers
+end_turn-pass-requires-clause-answers g c =
     let same = ap (λ (k : _). k.store) (c.value_mut.ensures.value ∙ sym c.begin_turn-held.ensures.value) in
     let customer = c.args.caller.now.customer.now in
     let asked = c.loop.asked in
     let called = c.admit_with_rows-reply.ensures in
-    (customer, none_held, admission_command asked.known asked.hose, c.admit_with_rows-reply.result.0, admit_turn c.begin_turn-held.ensures.begins same called.answered _ customer none_held asked called)
+    (customer, none_held, admission_command asked.known asked.hose, admit_turn c.begin_turn-held.ensures.begins same called.answered _ customer none_held asked called)
 
 pub returns : goal.returns
 returns g c =
@@ -97,10 +97,10 @@ returns g c =
     let called = c.admit_with_rows-reply.ensures in
     let same = ap (λ (k : _). k.store) (c.value_mut.ensures.value ∙ sym c.begin_turn-held.ensures.value) in
     let more = more_on c.args.pass c.loop.pass _ c.loop.invariant.1 c.begin_turn-held.ensures.more in
-    let along : AnswersAlong network customer (admission_command asked.known asked.hose) answer c.args.pass c.end_turn.result = record {
+    let along : AnswersAlong network customer (admission_command asked.known asked.hose) answer c.args.pass c.end_turn-pass.result = record {
       steps = λ held.
           along_of _ customer held _ _ _ _ _ more
-          (c.end_turn.ensures customer held (admission_command asked.known asked.hose) answer (admit_turn c.begin_turn-held.ensures.begins same called.answered _ customer held asked called));
+          (c.end_turn-pass.ensures customer held (admission_command asked.known asked.hose) (admit_turn c.begin_turn-held.ensures.begins same called.answered _ customer held asked called));
       names = subst (λ (n : Network). NamesPlaces n answer) (ap (λ (s : _). s.ledger.network) same ∙ c.begin_turn-held.ensures.network) called.answered.names;
     } in
-    subst (λ (a : Admission). AnswersAlong network customer (admission_command a.known a.hose) answer c.args.pass c.end_turn.result) c.loop.invariant.0 along
+    subst (λ (a : Admission). AnswersAlong network customer (admission_command a.known a.hose) answer c.args.pass c.end_turn-pass.result) c.loop.invariant.0 along

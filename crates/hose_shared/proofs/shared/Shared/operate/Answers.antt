@@ -28,8 +28,8 @@ returns-in_default g c = record {
   names = tt;
 }
 
-pub end_turn-requires-clause-answers : goal.end_turn-requires-clause-answers
-end_turn-requires-clause-answers g c =
+pub end_turn-pass-requires-clause-answers : goal.end_turn-pass-requires-clause-answers
+end_turn-pass-requires-clause-answers g c =
     let same = ap (λ (k : _). k.store) (c.value_mut.ensures.value ∙ sym c.begin_turn-held.ensures.value) in
     let customer = c.args.caller.now.customer.now in
     let called = c.service_now-reply.ensures in
@@ -38,7 +38,6 @@ end_turn-requires-clause-answers g c =
       customer,
       none_held,
       service_command c.args.down c.args.link,
-      c.service_now-reply.result,
       order_turn c.begin_turn-held.ensures.begins same called.answered _ customer none_held c.args.down c.args.link entered mine (called.step c.args.down c.args.link c.in-Ok.ensures),
     )
 
@@ -51,7 +50,7 @@ returns g c = record {
       let mine = c.is_operator-is_operator.ensures.0 c.if-not-is_operator.false in
       let entered = ap Some (c.of-entry.ensures ∙ c.entry.ensures ∙ (λ i. service_entry (c.in-Ok.ensures.kind i) (c.in-Ok.ensures.of i))) in
       along_of _ customer held _ _ _ _ _ c.begin_turn-held.ensures.more
-      (c.end_turn.ensures customer held (service_command c.args.down c.args.link) c.service_now-reply.result
+      (c.end_turn-pass.ensures customer held (service_command c.args.down c.args.link)
       (order_turn c.begin_turn-held.ensures.begins same called.answered _ customer held c.args.down c.args.link entered mine (called.step c.args.down c.args.link c.in-Ok.ensures)));
   names = subst (λ (n : Network). NamesPlaces n c.service_now-reply.result) (ap (λ (k : _). k.store.ledger.network) (c.value_mut.ensures.value ∙ sym c.begin_turn-held.ensures.value) ∙ c.begin_turn-held.ensures.network) c.service_now-reply.ensures.answered.names;
 }

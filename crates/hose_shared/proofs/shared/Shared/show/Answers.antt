@@ -7,13 +7,13 @@ use Rattle.hose_shared.proofs.Passes.{along_of}
 use Rattle.hose_shared.proofs.Turned.{reads_turn}
 use Rattle.hose_shared.proofs.shared.Shared.show.Goals as goal
 
-pub end_turn-requires-clause-answers : goal.end_turn-requires-clause-answers
-end_turn-requires-clause-answers g c =
+pub end_turn-pass-requires-clause-answers : goal.end_turn-pass-requires-clause-answers
+end_turn-pass-requires-clause-answers g c =
     let now = ap (λ (k : _). k.store) (sym c.begin_turn-held.ensures.value) in
     let same = ap (λ (k : _). k.store) (c.value.ensures ∙ sym c.begin_turn-held.ensures.value) in
     let customer = c.args.caller.now.customer.now in
     let told = c.show_now-reply.ensures in
-    (customer, none_held, Show c.args.id, c.show_now-reply.result, reads_turn c.begin_turn-held.ensures.begins same now customer none_held (Show c.args.id) told.step told.met)
+    (customer, none_held, Show c.args.id, reads_turn c.begin_turn-held.ensures.begins same now customer none_held (Show c.args.id) told.step told.met)
 
 pub returns : goal.returns
 returns g c = record {
@@ -23,6 +23,6 @@ returns g c = record {
       let customer = c.args.caller.now.customer.now in
       let told = c.show_now-reply.ensures in
       along_of _ customer held _ _ _ _ _ c.begin_turn-held.ensures.more
-      (c.end_turn.ensures customer held (Show c.args.id) c.show_now-reply.result (reads_turn c.begin_turn-held.ensures.begins same now customer held (Show c.args.id) told.step told.met));
+      (c.end_turn-pass.ensures customer held (Show c.args.id) (reads_turn c.begin_turn-held.ensures.begins same now customer held (Show c.args.id) told.step told.met));
   names = subst (λ (n : Network). NamesPlaces n c.show_now-reply.result) (ap (λ (k : _). k.store.ledger.network) (c.value.ensures ∙ sym c.begin_turn-held.ensures.value) ∙ c.begin_turn-held.ensures.network) c.show_now-reply.ensures.names;
 }

@@ -27,8 +27,8 @@ take_now-reply-requires-clause-since g c =
     let one = c.requires.quote in
     grounds_since c.value_mut.result.now.store.ledger known.seen one.0 c.args.quote.now (ap (λ (s : _). s.ledger.book) same ∙ stood.book) tracks (quote_in_turn same begun.network begun.more one.1)
 
-pub end_turn-requires-clause-answers : goal.end_turn-requires-clause-answers
-end_turn-requires-clause-answers g c =
+pub end_turn-pass-requires-clause-answers : goal.end_turn-pass-requires-clause-answers
+end_turn-pass-requires-clause-answers g c =
     let same = ap (λ (k : _). k.store) (c.value_mut.ensures.value ∙ sym c.begin_turn-held.ensures.value) in
     let begun = c.begin_turn-held.ensures in
     let customer = c.requires.claim.0 in
@@ -38,7 +38,7 @@ end_turn-requires-clause-answers g c =
     let called = c.take_now-reply.ensures in
     let of = quote_in_turn same begun.network begun.more c.requires.quote.1 in
     let stepped = called.step customer 0 1 (holder c.begin_turn-held.result.0).seen held one claim (ap (λ (s : _). s.ledger.book) same ∙ begun.begins.stands.book) refl of in
-    (customer, held, Take 1, c.take_now-reply.result, take_turn begun.begins same called.answered _ customer held 1 one c.args.quote.now refl of.hose (ap Some (c.of-entry.ensures ∙ claim.entry)) called.told stepped)
+    (customer, held, Take 1, take_turn begun.begins same called.answered _ customer held 1 one c.args.quote.now refl of.hose (ap Some (c.of-entry.ensures ∙ claim.entry)) called.told stepped)
 
 pub returns-clause-steps : goal.returns-clause-steps
 returns-clause-steps g c = λ customer held number one claim there of_quote.
@@ -49,7 +49,7 @@ returns-clause-steps g c = λ customer held number one claim there of_quote.
     let of = quote_in_turn same begun.network begun.more of_quote in
     let stepped = called.step customer 0 number known.seen held one claim (ap (λ (s : _). s.ledger.book) same ∙ begun.begins.stands.book) there of in
     let turn = take_turn begun.begins same called.answered _ customer held number one c.args.quote.now there of.hose (ap Some (c.of-entry.ensures ∙ claim.entry)) called.told stepped in
-    record { known = known; more = begun.more; at = c.end_turn.ensures customer held (Take number) c.take_now-reply.result turn }
+    record { known = known; more = begun.more; at = c.end_turn-pass.ensures customer held (Take number) turn }
 
 pub returns-clause-names : goal.returns-clause-names
 returns-clause-names g c =

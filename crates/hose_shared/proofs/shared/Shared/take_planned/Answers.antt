@@ -2,7 +2,6 @@ use Rattle.std.proofs.Common.{◌≡◌, ◌∙◌, [], Some, ap, length, refl, 
 use Rattle.hose_graph.specs.steps.Naming.{NamesPlaces}
 use Rattle.hose_graph.specs.Network.{Network}
 use Rattle.hose_graph.specs.declared.command.Command.TheVariants.{Admit}
-use Rattle.hose_graph.specs.declared.command.Reply.TheVariants.{Memory}
 use Rattle.hose_law.specs.History.{book_of}
 use Rattle.hose_law.specs.Quotes.{HeldQuote, none_held}
 use Rattle.hose_law.specs.steps.Tracks.{Tracks}
@@ -11,7 +10,7 @@ use Rattle.hose_core.specs.steps.Holding.{IsMadeAt}
 use Rattle.hose_core.specs.steps.Planning.{AdmitsAtOnce}
 use Rattle.hose_store.specs.steps.Commit.{store_books}
 use Rattle.hose_turn.specs.steps.Held.{holder}
-use Rattle.hose_shared.proofs.Bound.{claimed_turn, idle_more, idle_turn, memory_step, settled_turn}
+use Rattle.hose_shared.proofs.Bound.{claimed_turn, idle_more, idle_turn, memory_step}
 use Rattle.hose_shared.proofs.Entries.{quote_in_turn, quote_there, stays_along}
 use Rattle.hose_shared.proofs.Passes.{along_of, more_on, more_same}
 use Rattle.hose_shared.proofs.Recently.{grounds_since}
@@ -45,11 +44,38 @@ admit_claimed_now-settled-requires-clause-since g c =
 pub end_turn-pass-requires-clause-answers : goal.end_turn-pass-requires-clause-answers
 end_turn-pass-requires-clause-answers g c =
     let same = ap (λ (k : _). k.store) (c.value_mut.ensures.value ∙ sym c.begin_turn-held.ensures.value) in
-    let called = c.admit_claimed_now-settled in
-    settled_turn c.begin_turn-held.ensures.begins same _ c.args.caller.now.customer.now c.args.known c.args.quote.hose c.in-Ok.claim.entry (ap Some (c.of-entry.ensures)) called.result called.ensures.admits
+    let customer = c.args.caller.now.customer.now in
+    let hose = c.args.quote.hose in
+    let stays : c.admit_claimed_now-settled.new.books ≡ c.value_mut.result.now.store = rw c.in_default-settled.is at c.admit_claimed_now-settled.ensures.admits in
+    (customer, none_held, Admit hose, idle_turn c.begin_turn-held.ensures.begins same customer c.args.known hose stays)
 
-pub returns-in-Some : goal.returns-in-Some
-returns-in-Some g c =
+pub returns-in_default-settled : goal.returns-in_default-settled
+returns-in_default-settled g c =
+    let same = ap (λ (k : _). k.store) (c.value_mut.ensures.value ∙ sym c.begin_turn-held.ensures.value) in
+    let begun = c.begin_turn-held.ensures in
+    let customer = c.args.caller.now.customer.now in
+    let hose = c.args.quote.hose in
+    let known = holder c.begin_turn-held.result.0 in
+    let new = c.end_turn-pass.result in
+    let stays : c.admit_claimed_now-settled.new.books ≡ c.value_mut.result.now.store = rw c.in_default-settled.is at c.admit_claimed_now-settled.ensures.admits in (
+      refl,
+      more_on c.args.pass known new begun.more (idle_more c.args.self.now.network known.seen customer none_held (Admit hose) known new
+          (c.end_turn-pass.ensures customer none_held (Admit hose) (idle_turn begun.begins same customer c.args.known hose stays))),
+    )
+
+pub end_turn-pass-requires-2-clause-answers : goal.end_turn-pass-requires-2-clause-answers
+end_turn-pass-requires-2-clause-answers g c =
+    let same = ap (λ (k : _). k.store) (c.value_mut.ensures.value ∙ sym c.begin_turn-held.ensures.value) in
+    let customer = c.args.caller.now.customer.now in
+    let known = c.args.known in
+    let hose = c.args.quote.hose in
+    let reply = c.in-Some.reply in
+    let entry = c.in-Ok.claim.entry in
+    let admits : AdmitsAtOnce (store_books g.D.Disk) c.value_mut.result.now.store c.admit_claimed_now-settled.new.books customer (record { known = known; hose = hose }) reply (Some entry) = rw c.in-Some.is at c.admit_claimed_now-settled.ensures.admits in
+    (customer, none_held, admission_command known hose, claimed_turn c.begin_turn-held.ensures.begins same customer known hose _ entry (ap Some (c.of-entry.ensures)) none_held reply admits)
+
+pub returns : goal.returns
+returns g c =
     let same = ap (λ (k : _). k.store) (c.value_mut.ensures.value ∙ sym c.begin_turn-held.ensures.value) in
     let begun = c.begin_turn-held.ensures in
     let network = c.args.self.now.network in
@@ -59,21 +85,7 @@ returns-in-Some g c =
     let reply = c.in-Some.reply in
     let entry = c.in-Ok.claim.entry in
     let admits : AdmitsAtOnce (store_books g.D.Disk) c.value_mut.result.now.store c.admit_claimed_now-settled.new.books customer (record { known = known; hose = hose }) reply (Some entry) = rw c.in-Some.is at c.admit_claimed_now-settled.ensures.admits in record {
-      steps = λ held. along_of network customer held (admission_command known hose) reply c.args.pass (holder c.begin_turn-held.result.0) c.end_turn-pass.result begun.more
-          (c.end_turn-pass.ensures customer held (admission_command known hose) reply (claimed_turn begun.begins same _ customer known hose entry (ap Some (c.of-entry.ensures)) held reply admits));
+      steps = λ held. along_of network customer held (admission_command known hose) reply c.args.pass (holder c.begin_turn-held.result.0) c.end_turn-pass-2.result begun.more
+          (c.end_turn-pass-2.ensures customer held (admission_command known hose) (claimed_turn begun.begins same customer known hose _ entry (ap Some (c.of-entry.ensures)) held reply admits));
       names = subst (λ (n : Network). NamesPlaces n reply) (ap (λ (s : _). s.ledger.network) same ∙ begun.network) admits.answered.names;
     }
-
-pub returns-in-None : goal.returns-in-None
-returns-in-None g c =
-    let same = ap (λ (k : _). k.store) (c.value_mut.ensures.value ∙ sym c.begin_turn-held.ensures.value) in
-    let begun = c.begin_turn-held.ensures in
-    let customer = c.args.caller.now.customer.now in
-    let hose = c.args.quote.hose in
-    let known = holder c.begin_turn-held.result.0 in
-    let new = c.end_turn-pass.result in
-    let stays : c.admit_claimed_now-settled.new.books ≡ c.value_mut.result.now.store = rw c.in-None.is at c.admit_claimed_now-settled.ensures.admits in (
-      refl,
-      more_on c.args.pass known new begun.more (idle_more c.args.self.now.network known.seen customer none_held (Admit hose) known new
-          (c.end_turn-pass.ensures customer none_held (Admit hose) Memory (idle_turn begun.begins same _ customer c.args.known hose stays))),
-    )

@@ -5,7 +5,7 @@ use Rattle.hose_turn.proofs.turn.Turn.begin.Goals as goal
 
 pub compare_exchange_with-requires : goal.compare_exchange_with-requires
 compare_exchange_with-requires g c = let origin = c.requires.stands in
-    (search rules, search rules, begins g.S.HoldsHistory.stands g.S.HoldsHistory.faults _ _ _ _ c.args.value origin.0 (ap (λ me. me.0) c.requires.unborn) origin.1 (c.epoch-epoch.ensures _ _ origin.1))
+    (search rules, search rules, begins g.S.HoldsHistory.stands g.S.HoldsHistory.faults _ _ _ _ c.args.value origin.0 (ap (λ me. me.0) c.requires.unborn) origin.1 (c.epoch-epoch.ensures _ _ _ origin.1))
 
 pub exchange-requires : goal.exchange-requires
 exchange-requires g c =

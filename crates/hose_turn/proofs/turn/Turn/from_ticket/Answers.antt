@@ -1,4 +1,4 @@
-use Rattle.std.proofs.Common.{rules, ◌≡◌, ◌<◌, ◌∙◌, ap, sym, subst, refl, arith}
+use Rattle.std.proofs.Common.{rules, ◌≡◌, ◌<◌, ◌∙◌, [], ap, sym, subst, refl, arith}
 use Rattle.hose_turn.specs.steps.Faults.{no_rise}
 use Rattle.hose_turn.specs.steps.Known.{first_known}
 use Rattle.hose_turn.specs.steps.Views.{passed_on, known_of, IsAtRest}
@@ -15,7 +15,7 @@ fetch_add-requires g c =
       search rules,
       passes g.S.HoldsHistory.stands g.S.HoldsHistory.faults no_rise _ _ _ c.args.value (λ floor count le small. omega arith)
           (subst (λ view. 0 < view.share) (sym view) (omega arith)) (ap (λ view. view.has_turn) view) (ap (λ me. me.1) begun.3)
-          (subst (λ view. g.S.HoldsHistory.stands view.origin view.seen c.args.value) (sym view) begun.2) (omega arith),
+          (subst (λ view. g.S.HoldsHistory.stands view.origin view.seen view.all_tried c.args.value) (sym view) begun.2) (omega arith),
     )
 
 pub of-requires-clause-rests : goal.of-requires-clause-rests
@@ -41,4 +41,4 @@ returns-clause-stands g c =
     let begun = c.begin.ensures.begun in
     let passed = c.fetch_add.ensures.2 c.args.value (ap (λ me. me.1) begun.3) in
     let origin = ap (λ known. known.origin) c.of.ensures ∙ (ap (λ me. me.0.origin) passed ∙ ap (λ me. me.0.origin) begun.3) in
-    subst (λ origin. g.S.HoldsHistory.stands origin origin.since c.args.value) (sym origin) begun.2
+    subst (λ origin. g.S.HoldsHistory.stands origin origin.since [] c.args.value) (sym origin) begun.2

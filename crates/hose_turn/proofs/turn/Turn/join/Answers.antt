@@ -60,6 +60,7 @@ returns g c =
       same = search rules;
       share = search rules;
       own = search rules;
+      tried = search rules;
       apart = subst (λ (z : List ℕ × List ℕ). AreApart z.0 z.1) (λ i. (sym mine i, theirs i)) (places_apart _ owned.0 a.own b.own owned.1);
       places = own_places c.into_badge.result.table_id c.into_badge.result.views (invariant_of-pass g c);
       faults = search rules;

@@ -20,7 +20,7 @@ exchange-requires g c =
     let me = c.loop.invariant.1 ∙ drew.2 in
     let same : c.load.result ≡ c.fetch_add-mine.result = search rules in
     let took = (c.load.ensures.2 drew.0 (ap (λ me. me.0.ticket) me)).0 (same ∙ drew.1) in
-    let there = ap (λ me. me.1) took.5 in
+    let there = ap (λ me. me.1) took.6 in
     (search rules, (Some took.0, there ∙ ap (λ slots. (0, Some took.0) ∷ rest slots) (sym there)))
 
 pub unwrap-value-requires : goal.unwrap-value-requires
@@ -29,4 +29,4 @@ unwrap-value-requires g c =
     let me = c.loop.invariant.1 ∙ drew.2 in
     let same : c.load.result ≡ c.fetch_add-mine.result = search rules in
     let took = (c.load.ensures.2 drew.0 (ap (λ me. me.0.ticket) me)).0 (same ∙ drew.1) in
-    let there = ap (λ me. me.1) took.5 in search rules
+    let there = ap (λ me. me.1) took.6 in search rules
