@@ -4,7 +4,8 @@ use Rattle.std.specs.Prelude.{MatchOption, ⊤}
 use Rattle.std.proofs.lemmas.Bool.{cases_lt}
 use Rattle.std.proofs.lemmas.Str.Pattern.{IsSplitOnceResult, split_after}
 use Rattle.hose_graph.specs.Name.{IsName}
-use Rattle.hose_words.specs.Form.{IsWithin, TellsNumber}
+use Rattle.hose_words.specs.Numbers.{IsWithin}
+use Rattle.hose_words.specs.steps.Form.{TellsNumber}
 use Rattle.hose_doors.specs.Doors.{IsSocketPath, NamesDoor}
 use Rattle.hose_doors.specs.declared.door.HostDoor.TheVariants as door
 

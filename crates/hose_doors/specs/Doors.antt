@@ -1,7 +1,7 @@
 -- The words that name the doors of a host.
 use Rattle.std.specs.Prelude.{◌≡◌, ◌≢◌, ◌≤◌, ℕ, List, ◌∷◌, ◌++◌, All, Contains, Option, None, Some, decimal, get_or, length}
 use Rattle.hose_graph.specs.Name.{IsName}
-use Rattle.hose_words.specs.Form.{IsWithin}
+use Rattle.hose_words.specs.Numbers.{IsWithin}
 use Rattle.hose_net.specs.declared.doors.Address.{Address}
 use Rattle.hose_net.specs.declared.doors.Address.TheVariants as address
 use Rattle.hose_doors.specs.declared.door.HostDoor.{HostDoor}

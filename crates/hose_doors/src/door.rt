@@ -1,7 +1,8 @@
 // The doors of a host, as words name them.
 ghost use Rattle.std.specs.Prelude.{◌≡◌, ◌↔◌, IfNone, IfSome, IsTrue, decimal, map};
 ghost use Rattle.hose_graph.specs.Name.{IsName};
-ghost use Rattle.hose_words.specs.Form.{IsWithin, TellsNumber};
+ghost use Rattle.hose_words.specs.Numbers.{IsWithin};
+ghost use Rattle.hose_words.specs.steps.Form.{TellsNumber};
 ghost use Rattle.std.specs.String.{string_bytes};
 ghost use Rattle.hose_doors.specs.Doors.{IsAt, IsDoor, IsSocketPath, NamesDoor, OpensAs, bound_name, door_word};
 ghost use Rattle.hose_doors.specs.steps.Doors.{AreDoorsUpTo};

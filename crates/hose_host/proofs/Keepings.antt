@@ -18,7 +18,7 @@ use Rattle.hose_net.specs.declared.hold.Hold.{Hold}
 use Rattle.hose_net.specs.declared.hold.Hold.TheVariants.{Alone, Upto}
 use Rattle.hose_net.specs.declared.hold.Parting.{Parting}
 use Rattle.hose_net.specs.declared.hold.Parting.TheVariants as parting
-use Rattle.hose_net.specs.Story.{Answers, AwaitsMore, Exchange, Holds as HoldsSo, Joins, Link, MayHappen, MayHold, MayLink, Happens, IsByDoor, IsHosted, IsKept, IsKeptAtLink, IsServed, IsSettled, Life, PartsFor, Step, AllServed, began, waited, happened, answered, held as is_held, bound_in, bound_of, exchanges, hold_in, is_empty, leaves_lines, life, lines_of, link_after, link_in, newcomer, no_link, nobody, texts_of}
+use Rattle.hose_net.specs.Story.{Answers, AwaitsMore, Exchange, Holds as HoldsSo, Joins, Link, MayHappen, MayHold, MayLink, Happens, IsByDoor, IsHosted, IsKept, IsKeptAtLink, IsServed, IsSettled, Life, PartsFor, Step, AllServed, began, waited, happened, answered, held as is_held, bound_in, bound_of, exchanges, hold_in, is_empty, leaves_lines, life, lines_of, link_after, link_answered, link_in, new_link, newcomer, no_link, nobody, texts_of}
 use Rattle.hose_net.proofs.Laws.{own_on}
 use Rattle.hose_net.proofs.Stories.{IsAt, bound-answers, bound-happens, bound-holds, exchanges-happens, exchanges-holds, exchanges-push, happened_now, happened_on, hold-push, life-answers, life-came, life-got, life-holds, life-left, life-linked, life-other, life-other_answers, life-refused, life-sent, life-stopped, link-push, link-same, served_holds, served_linked, served_now, served_too}
 use Rattle.hose_host.specs.steps.Seats.{AllFinished, AtRest, Awaits, Calm, Exact, Finished, FinishedBelow, Freed, FreedBelow, Gone, GrowsByLost, Held, Holds, InRound, IsSaid, Keeping, Quiet, Releases, Resting, SeatState, Sits, emptied, fresh_seat, held_of, with_held, with_text}
@@ -383,7 +383,7 @@ module _ {N A R B : Type 0} (net : ConnectionsGhosts N) (by : Ghosts A R B) (hea
 
   -- nothing happened
   stands_waited : (first : N) (from : by.origin) (topic : by.subject) (story : List (Step by.said R)) (was now : N) (by_now : A) → net.did was [] now → Stands net by first from topic story heard was by_now → Stands net by first from topic story heard now by_now
-  stands_waited first from topic story was now by_now went stands = record { hosts = waited stands.hosts went; link = stands.link; comes = stands.comes; links = stands.links; about = stands.about; hears = stands.hears; alone = stands.alone; within = stands.within; knows = stands.knows }
+  stands_waited first from topic story was now by_now went stands = record { hosts = waited stands.hosts went; link = stands.link; comes = stands.comes; links = stands.links; answered = stands.answered; about = stands.about; hears = stands.hears; alone = stands.alone; within = stands.within; knows = stands.knows }
 
   -- who answers has changed, and no line was answered
   stands_by : (first : N) (from : by.origin) (topic : by.subject) (story : List (Step by.said R)) (network : N) (old now : A) → ((xs : List (Exchange by.said R)) (link : Link) → by.comes from xs link old → by.comes from xs link now) → by.about now ≡ by.about old → by.count now ≡ by.count old → ((place : ℕ) → (life place story).here ≡ true → by.is_new now place ≡ is_empty (life place story).own) → Stands net by first from topic story heard network old → Stands net by first from topic story heard network now
@@ -392,6 +392,7 @@ module _ {N A R B : Type 0} (net : ConnectionsGhosts N) (by : Ghosts A R B) (hea
     link = stands.link;
     comes = comes (exchanges story) stands.link stands.comes;
     links = stands.links;
+    answered = stands.answered;
     about = about ∙ stands.about;
     hears = stands.hears;
     alone = stands.alone;
@@ -420,12 +421,13 @@ module _ {N A R B : Type 0} (net : ConnectionsGhosts N) (by : Ghosts A R B) (hea
     lined place = (before place).lines
 
     -- something happened
-    stands_on : (happening : Happening) (now : N) (by_new : A) (link : Link) → MayHappen story happening → net.did was (happening ∷ []) now → IsKept (terms_of net by from topic) story was happening now → AllServed (terms_of net by from topic) (story ++ Happens happening ∷ []) → by.comes from (exchanges story) link by_new → ((link_in (story ++ Happens happening ∷ [])).here ≡ true → link ≡ link_in (story ++ Happens happening ∷ [])) → by.about by_new ≡ topic → by.count by_new ≡ by.count by_now → ((place : ℕ) → (life place (story ++ Happens happening ∷ [])).here ≡ true → by.is_new by_new place ≡ is_empty (life place (story ++ Happens happening ∷ [])).own) → Stands net by first from topic (story ++ Happens happening ∷ []) heard now by_new
-    stands_on happening now by_new link free went kept served comes links about count knows = record {
+    stands_on : (happening : Happening) (now : N) (by_new : A) (link : Link) → MayHappen story happening → net.did was (happening ∷ []) now → IsKept (terms_of net by from topic) story was happening now → AllServed (terms_of net by from topic) (story ++ Happens happening ∷ []) → by.comes from (exchanges story) link by_new → ((link_in (story ++ Happens happening ∷ [])).here ≡ true → link ≡ link_in (story ++ Happens happening ∷ [])) → link.answered ≡ (link_in (story ++ Happens happening ∷ [])).answered → by.about by_new ≡ topic → by.count by_new ≡ by.count by_now → ((place : ℕ) → (life place (story ++ Happens happening ∷ [])).here ≡ true → by.is_new by_new place ≡ is_empty (life place (story ++ Happens happening ∷ [])).own) → Stands net by first from topic (story ++ Happens happening ∷ []) heard now by_new
+    stands_on happening now by_new link free went kept served comes links counts about count knows = record {
       hosts = happened happening free stands.hosts went kept served;
       link = link;
       comes = subst (λ (xs : List (Exchange by.said R)). by.comes from xs link by_new) (sym (exchanges-happens story happening)) comes;
       links = links;
+      answered = counts;
       about = about;
       hears = bound-happens story happening ∙ stands.hears;
       alone = λ is. hold-push story (Happens happening) ∙ stands.alone is;
@@ -442,10 +444,10 @@ module _ {N A R B : Type 0} (net : ConnectionsGhosts N) (by : Ghosts A R B) (hea
         record {
           later = story ++ Happens happening ∷ [];
           onward = (Happens happening ∷ [], refl);
-          links = linked;
+          links = ap (λ (l : Link). l.here) linked;
           others = others;
           stands = stands_on happening now by_now stands.link free went kept_then (served_too (terms_of net by from topic) place story (story ++ Happens happening ∷ []) others same before (subst (λ (h : ℕ). IsServed (by.text topic) h (life place (story ++ Happens happening ∷ []))) (sym (same ∙ stands.hears)) (subst (IsServed (by.text topic) heard) (sym is) served)))
-              stands.comes (λ there. stands.links (ap (λ (l : Link). l.here) (sym linked) ∙ there) ∙ sym linked) stands.about refl
+              stands.comes (λ there. stands.links (ap (λ (l : Link). l.here) (sym linked) ∙ there) ∙ sym linked) (stands.answered ∙ ap (λ (l : Link). l.answered) (sym linked)) stands.about refl
               (knows_on place story (story ++ Happens happening ∷ []) by_now by_now others (λ other apart. refl) stands.knows (subst (λ (l : Life by.said R). l.here ≡ true → by.is_new by_now place ≡ is_empty l.own) (sym is) known));
           sits = λ kept. subst (λ (l : Life by.said R). Exact (by.text topic) heard l seat coming) (sym is) (sits kept);
           ends = subst (λ (l : Life by.said R). Q l seat) (sym is) so;
@@ -455,25 +457,26 @@ module _ {N A R B : Type 0} (net : ConnectionsGhosts N) (by : Ghosts A R B) (hea
     went_exact Q place now happening seat coming new here free went kept_then is known lines exact so =
         went_on Q place now happening seat coming new here free went kept_then is known (served_exact (by.text topic) heard new seat coming lines exact) (λ kept. exact) so
 
-    answered_on : (Q : Life by.said R → SeatState → Type 0) (now : A) (old mid new : SeatState) (coming : List ℕ) (exchange : Exchange by.said R) → (exact : Exact (by.text topic) heard (life exchange.place story) old (10 ∷ coming)) → exchange.line ≡ exact.held → exchange.door ≡ old.door → exchange.first ≡ by.is_new by_now exchange.place → by.says topic exchange.first exchange.door exchange.line exchange.said → by.comes from (exchanges story ++ exchange ∷ []) stands.link now → by.count by_now ≤ by.count now → exchange.needs ≤ by.count now → by.is_new now exchange.place ≡ false → ((other : ℕ) → other ≢ exchange.place → by.is_new now other ≡ by.is_new by_now other) → by.about now ≡ topic
+    answered_on : (Q : Life by.said R → SeatState → Type 0) (now : A) (old mid new : SeatState) (coming : List ℕ) (exchange : Exchange by.said R) → (exact : Exact (by.text topic) heard (life exchange.place story) old (10 ∷ coming)) → exchange.line ≡ exact.held → exchange.door ≡ old.door → exchange.first ≡ by.is_new by_now exchange.place → by.says topic exchange.first exchange.door exchange.line exchange.said → by.comes from (exchanges story ++ exchange ∷ []) (link_answered stands.link) now → by.count by_now ≤ by.count now → exchange.needs ≤ by.count now → by.is_new now exchange.place ≡ false → ((other : ℕ) → other ≢ exchange.place → by.is_new now other ≡ by.is_new by_now other) → by.about now ≡ topic
         → Exact (by.text topic) heard (record (life exchange.place story) { own = (life exchange.place story).own ++ exchange ∷ [] }) mid coming → (new.lost ≡ false → new ≡ mid) → ((life : Life by.said R) → Q life new) → GoesOnAt net by Q exchange.place first from topic story heard (at was now new coming)
     answered_on Q now old mid new coming exchange exact line door is_first says comes rises needs known frames stays there text_is so =
         let others : (other : ℕ) → other ≢ exchange.place → life other (story ++ Answers exchange ∷ []) ≡ life other story = λ other apart. life-other_answers other story exchange apart in
         let same : bound_in (story ++ Answers exchange ∷ []) ≡ bound_in story = bound-answers story exchange in
-        let linked : link_in (story ++ Answers exchange ∷ []) ≡ link_in story = link-push story (Answers exchange) in
+        let linked : link_in (story ++ Answers exchange ∷ []) ≡ link_answered (link_in story) = link-push story (Answers exchange) in
         let grown : Life by.said R = record (life exchange.place story) { own = (life exchange.place story).own ++ exchange ∷ [] } in
         let is : life exchange.place (story ++ Answers exchange ∷ []) ≡ grown = life-answers exchange story in
         let lines : All (IsByDoor grown.door) grown.own = All-push (IsByDoor grown.door) (life exchange.place story).own exchange (lined exchange.place) (door ∙ exact.by, subst (All (λ byte. byte ≢ 10)) (sym line) exact.plain) in
         record {
           later = story ++ Answers exchange ∷ [];
           onward = (Answers exchange ∷ [], refl);
-          links = linked;
+          links = ap (λ (l : Link). l.here) linked;
           others = others;
           stands = record {
             hosts = answered exchange stands.hosts (is_first ∙ stands.knows exchange.place exact.here) says (served_too (terms_of net by from topic) exchange.place story (story ++ Answers exchange ∷ []) others same before (subst (λ (h : ℕ). IsServed (by.text topic) h (life exchange.place (story ++ Answers exchange ∷ []))) (sym (same ∙ stands.hears)) (subst (IsServed (by.text topic) heard) (sym is) (served_exact (by.text topic) heard grown mid coming lines there))));
-            link = stands.link;
-            comes = subst (λ (xs : List (Exchange by.said R)). by.comes from xs stands.link now) (sym (exchanges-push story exchange)) comes;
-            links = λ there. stands.links (ap (λ (l : Link). l.here) (sym linked) ∙ there) ∙ sym linked;
+            link = link_answered stands.link;
+            comes = subst (λ (xs : List (Exchange by.said R)). by.comes from xs (link_answered stands.link) now) (sym (exchanges-push story exchange)) comes;
+            links = λ there. ap link_answered (stands.links (ap (λ (l : Link). l.here) (sym linked) ∙ there)) ∙ sym linked;
+            answered = ap (λ (n : ℕ). n + 1) stands.answered ∙ ap (λ (l : Link). l.answered) (sym linked);
             about = stays;
             hears = same ∙ stands.hears;
             alone = λ is. hold-push story (Answers exchange) ∙ stands.alone is;
@@ -524,7 +527,7 @@ module _ {N A R B : Type 0} (net : ConnectionsGhosts N) (by : Ghosts A R B) (hea
   }
 
   -- a line was answered
-  pub keeps_answered : (place : ℕ) (network : N) (old now : A) (seat new : SeatState) (coming : List ℕ) (shown : Line) (reply : R) → seat.lost ≡ false → ((held : List ℕ) → Holds seat held → Shows shown held) → ((from : by.origin) (link : Link) → AnswersAt (λ (xs : List (Exchange by.said R)). by.comes from xs link) (by.says (by.about old)) place seat.door shown (by.is_new old place) (by.count now) old now reply) → by.count old ≤ by.count now → by.is_new now place ≡ false → ((other : ℕ) → other ≢ place → (by.is_new now other ≡ by.is_new old other) × (by.over now other ≡ by.over old other)) → by.about now ≡ by.about old → (new.lost ≡ false → IsSaid heard (by.count now) (by.text (by.about old) reply) (emptied seat) new)
+  pub keeps_answered : (place : ℕ) (network : N) (old now : A) (seat new : SeatState) (coming : List ℕ) (shown : Line) (reply : R) → seat.lost ≡ false → ((held : List ℕ) → Holds seat held → Shows shown held) → ((from : by.origin) (link : Link) → AnswersAt (λ (xs : List (Exchange by.said R)). by.comes from xs link) (λ (xs : List (Exchange by.said R)). by.comes from xs (link_answered link)) (by.says (by.about old)) place seat.door shown (by.is_new old place) (by.count now) old now reply) → by.count old ≤ by.count now → by.is_new now place ≡ false → ((other : ℕ) → other ≢ place → (by.is_new now other ≡ by.is_new old other) × (by.over now other ≡ by.over old other)) → by.about now ≡ by.about old → (new.lost ≡ false → IsSaid heard (by.count now) (by.text (by.about old) reply) (emptied seat) new)
       → Keeps net by (Freed heard []) (Freed heard []) place heard (at network old seat (10 ∷ coming)) (at network now new coming)
   keeps_answered place network old now seat new coming shown reply kept shows comes_on rises known frames same text_is = λ first from topic story stands sits so.
       let exact = sits kept in
@@ -659,12 +662,12 @@ module _ {N A R B : Type 0} (net : ConnectionsGhosts N) (by : Ghosts A R B) wher
 
   module _ (heard : ℕ) (first : N) (from : by.origin) (topic : by.subject) (story : List (Step by.said R)) (was : N) (by_now : A) (stands : Stands net by first from topic story heard was by_now) where
     -- something happened at the link
-    linked_on : (step : LinkStep) (now : N) (by_new : A) (link : Link) (opened : Bool) → MayLink (link_in story) step → net.did was (Linked step ∷ []) now → IsKeptAtLink (terms_of net by from topic) story was step now → by.comes from (exchanges story) link by_new → ((link_in (story ++ Happens (Linked step) ∷ [])).here ≡ true → link ≡ link_in (story ++ Happens (Linked step) ∷ [])) → LeavesPlaces by.is_new by.over by.about by.count by_now by_new → IsOpen net by opened (story ++ Happens (Linked step) ∷ []) → GoesOnLink net by opened first from topic story heard now by_new
-    linked_on step now by_new link opened free went kept comes links leaves there = record {
+    linked_on : (step : LinkStep) (now : N) (by_new : A) (link : Link) (opened : Bool) → MayLink (link_in story) step → net.did was (Linked step ∷ []) now → IsKeptAtLink (terms_of net by from topic) story was step now → by.comes from (exchanges story) link by_new → ((link_in (story ++ Happens (Linked step) ∷ [])).here ≡ true → link ≡ link_in (story ++ Happens (Linked step) ∷ [])) → link.answered ≡ (link_in (story ++ Happens (Linked step) ∷ [])).answered → LeavesPlaces by.is_new by.over by.about by.count by_now by_new → IsOpen net by opened (story ++ Happens (Linked step) ∷ []) → GoesOnLink net by opened first from topic story heard now by_new
+    linked_on step now by_new link opened free went kept comes links counts leaves there = record {
       later = story ++ Happens (Linked step) ∷ [];
       onward = (Happens (Linked step) ∷ [], refl);
       same = λ place. life-linked place step story;
-      stands = stands_on net by heard first from topic story was by_now stands (Linked step) now by_new link free went kept (served_linked (terms_of net by from topic) step story (before net by heard first from topic story was by_now stands)) comes links (leaves.same_about ∙ stands.about) leaves.same_count
+      stands = stands_on net by heard first from topic story was by_now stands (Linked step) now by_new link free went kept (served_linked (terms_of net by from topic) step story (before net by heard first from topic story was by_now stands)) comes links counts (leaves.same_about ∙ stands.about) leaves.same_count
           (λ place. subst (λ (l : Life by.said R). l.here ≡ true → by.is_new by_new place ≡ is_empty l.own) (sym (life-linked place step story)) (λ here. leaves.same_new place ∙ stands.knows place here));
       there = there;
     }
@@ -675,13 +678,13 @@ module _ {N A R B : Type 0} (net : ConnectionsGhosts N) (by : Ghosts A R B) wher
   pub link_opened : (was : Bool) (n1 n2 : N) (a1 a2 : A) (path : List ℕ) → by.standby_at (by.about a1) ≡ Some path → net.did n1 (Linked (Opened path) ∷ []) n2 → ((from : by.origin) (xs : List (Exchange by.said R)) (link : Link) (at : List ℕ) → by.comes from xs link a1 → by.comes from xs (link_after link (Opened at)) a2) → LeavesPlaces by.is_new by.over by.about by.count a1 a2 → KeepsLink net by was n1 a1 true n2 a2
   link_opened was n1 n2 a1 a2 path is went comes leaves = λ heard first from topic story stands there.
       let push = pushed heard first from topic story n1 a1 stands (Opened path) in
-      linked_on heard first from topic story n1 a1 stands (Opened path) n2 a2 (record no_link { here = true }) true tt went (ap (λ (t : by.subject). by.standby_at t) (sym stands.about) ∙ is) (comes from (exchanges story) stands.link path stands.comes) (λ _. sym push) leaves (λ _. ap (λ (l : Link). l.here) push)
+      linked_on heard first from topic story n1 a1 stands (Opened path) n2 a2 (new_link stands.link.answered) true tt went (ap (λ (t : by.subject). by.standby_at t) (sym stands.about) ∙ is) (comes from (exchanges story) stands.link path stands.comes) (λ _. ap new_link stands.answered ∙ sym push) (stands.answered ∙ ap (λ (l : Link). l.answered) (sym push)) leaves (λ _. ap (λ (l : Link). l.here) push)
 
   pub link_gave : (n1 n2 : N) (a1 a2 : A) (bytes : List ℕ) → net.did n1 (Linked (Gave bytes) ∷ []) n2 → ((from : by.origin) (xs : List (Exchange by.said R)) (link : Link) → by.comes from xs link a1 → by.comes from xs (link_after link (Gave bytes)) a2) → LeavesPlaces by.is_new by.over by.about by.count a1 a2 → KeepsLink net by true n1 a1 true n2 a2
   link_gave n1 n2 a1 a2 bytes went comes leaves = λ heard first from topic story stands there.
       let push = pushed heard first from topic story n1 a1 stands (Gave bytes) in
       let same = stands.links (there refl) in
-      linked_on heard first from topic story n1 a1 stands (Gave bytes) n2 a2 (link_after stands.link (Gave bytes)) true (there refl) went tt (comes from (exchanges story) stands.link stands.comes) (λ _. ap (λ (l : Link). link_after l (Gave bytes)) same ∙ sym push) leaves (λ _. ap (λ (l : Link). l.here) push ∙ there refl)
+      linked_on heard first from topic story n1 a1 stands (Gave bytes) n2 a2 (link_after stands.link (Gave bytes)) true (there refl) went tt (comes from (exchanges story) stands.link stands.comes) (λ _. ap (λ (l : Link). link_after l (Gave bytes)) same ∙ sym push) (stands.answered ∙ ap (λ (l : Link). l.answered) (sym push)) leaves (λ _. ap (λ (l : Link). l.here) push ∙ there refl)
 
   pub link_took : (n1 n2 : N) (a1 a2 : A) (unsent : List ℕ) (count : ℕ) (kept : B) → net.did n1 (Linked (Took (take count unsent)) ∷ []) n2 → net.saw B n1 kept n2 → ((from : by.origin) (xs : List (Exchange by.said R)) (link : Link) → by.comes from xs link a1 → by.stands from xs kept) → ((from : by.origin) (xs : List (Exchange by.said R)) (link : Link) (many : ℕ) → by.comes from xs link a1 → (heard : Option ℕ) × by.leads from xs (link_after link (Took (take many unsent))) heard) → ((from : by.origin) (xs : List (Exchange by.said R)) (link : Link) → by.comes from xs link a1 → by.comes from xs (link_after link (Took (take count unsent))) a2) → LeavesPlaces by.is_new by.over by.about by.count a1 a2 → KeepsLink net by true n1 a1 true n2 a2
   link_took n1 n2 a1 a2 unsent count kept went saw stand leads comes leaves = λ heard first from topic story stands there.
@@ -690,12 +693,12 @@ module _ {N A R B : Type 0} (net : ConnectionsGhosts N) (by : Ghosts A R B) wher
       let leads_so = leads from (exchanges story) stands.link count stands.comes in
       linked_on heard first from topic story n1 a1 stands (Took (take count unsent)) n2 a2 (link_after stands.link (Took (take count unsent))) true (there refl) went
       (kept, saw, stand from (exchanges story) stands.link stands.comes, leads_so.0, subst (λ (l : Link). by.leads from (exchanges story) (link_after l (Took (take count unsent))) leads_so.0) same leads_so.1)
-      (comes from (exchanges story) stands.link stands.comes) (λ _. ap (λ (l : Link). link_after l (Took (take count unsent))) same ∙ sym push) leaves (λ _. ap (λ (l : Link). l.here) push ∙ there refl)
+      (comes from (exchanges story) stands.link stands.comes) (λ _. ap (λ (l : Link). link_after l (Took (take count unsent))) same ∙ sym push) (stands.answered ∙ ap (λ (l : Link). l.answered) (sym push)) leaves (λ _. ap (λ (l : Link). l.here) push ∙ there refl)
 
   pub link_closed : (was : Bool) (n1 n2 : N) (by_now : A) → net.did n1 (Linked Closed ∷ []) n2 → KeepsLink net by was n1 by_now false n2 by_now
   link_closed was n1 n2 by_now went = λ heard first from topic story stands there.
       let push = pushed heard first from topic story n1 by_now stands Closed in
-      linked_on heard first from topic story n1 by_now stands Closed n2 by_now stands.link false tt went tt stands.comes (λ here. absurd (false≢true (sym (ap (λ (l : Link). l.here) push) ∙ here))) (leaves_same by_now) (λ here. absurd (false≢true here))
+      linked_on heard first from topic story n1 by_now stands Closed n2 by_now stands.link false tt went tt stands.comes (λ here. absurd (false≢true (sym (ap (λ (l : Link). l.here) push) ∙ here))) (stands.answered ∙ ap (λ (l : Link). l.answered) (sym push)) (leaves_same by_now) (λ here. absurd (false≢true here))
 
   -- ---- with all seats and the link
 
@@ -728,7 +731,7 @@ module _ {N A R B : Type 0} (net : ConnectionsGhosts N) (by : Ghosts A R B) wher
   pub host_all : (P Q : ℕ → ℕ → Life by.said R → SeatState → Type 0) (opened : Bool) (one two : Hall N A) → KeepsAll net by P Q one two → KeepsHost net by P Q (record { hall = one; opened = opened }) (record { hall = two; opened = opened })
   host_all P Q opened one two keeps = λ first from topic story stands there all.
       let on = keeps first from topic story stands all in
-      record { later = on.later; onward = on.onward; also = λ is. ap (λ (l : Link). l.here) on.also ∙ there is; stands = on.stands; sit = on.sit }
+      record { later = on.later; onward = on.onward; also = λ is. on.also ∙ there is; stands = on.stands; sit = on.sit }
 
   pub host_then : (P Q S : ℕ → ℕ → Life by.said R → SeatState → Type 0) (one two three : Host N A) → KeepsHost net by P Q one two → KeepsHost net by Q S two three → KeepsHost net by P S one three
   host_then P Q S one two three begun more = λ first from topic story stands there sit.
@@ -783,7 +786,7 @@ module _ {N A R B : Type 0} (net : ConnectionsGhosts N) (by : Ghosts A R B) wher
           also = λ is. ap (λ (l : Link). l.here) (links story) ∙ there is;
           stands = stands_on net by heard first from topic story n1 by_now stands happening n2 by_now stands.link (free story) went (kept from topic story)
               (λ place. subst (λ (h : ℕ). IsServed (by.text topic) h (life place later)) (sym (bound-happens story happening)) (subst (IsServed (by.text topic) (bound_in story)) (sym (same place story)) (before net by heard first from topic story n1 by_now stands place)))
-              stands.comes (λ is. stands.links (ap (λ (l : Link). l.here) (sym (links story)) ∙ is) ∙ sym (links story)) stands.about refl
+              stands.comes (λ is. stands.links (ap (λ (l : Link). l.here) (sym (links story)) ∙ is) ∙ sym (links story)) (stands.answered ∙ ap (λ (l : Link). l.answered) (sym (links story))) stands.about refl
               (λ place. subst (λ (l : Life by.said R). l.here ≡ true → by.is_new by_now place ≡ is_empty l.own) (sym (same place story)) (stands.knows place));
           sit = sit_same Is topic heard story later seats (λ place. same place story) all;
         },
@@ -826,6 +829,7 @@ module _ {N A R B : Type 0} (net : ConnectionsGhosts N) (by : Ghosts A R B) wher
           link = stands.link;
           comes = subst (λ (xs : List (Exchange by.said R)). by.comes from xs stands.link by_now) (sym (exchanges-holds story hold)) stands.comes;
           links = λ here. stands.links (ap (λ (l : Link). l.here) (sym push) ∙ here) ∙ sym push;
+          answered = stands.answered ∙ ap (λ (l : Link). l.answered) (sym push);
           about = stands.about;
           hears = bound-holds story hold ∙ is;
           alone = λ most. hold-push story (HoldsSo hold) ∙ alone most;
@@ -905,7 +909,7 @@ module _ {N A R B : Type 0} (net : ConnectionsGhosts N) (by : Ghosts A R B) wher
   -- a whole run
   module _ (heard : ℕ) (opened : Bool) (first last : N) (old now : A) (seats : List SeatState) (from : by.origin) (comes : by.comes from [] no_link old) where
     begins : Stands net by first from (by.about old) [] 0 first old
-    begins = record { hosts = began; link = no_link; comes = comes; links = λ here. refl; about = refl; hears = refl; alone = λ is. absurd (omega (arith, is)); within = All-nil (λ (x : Exchange by.said R). x.needs ≤ by.count old); knows = λ place here. absurd (false≢true here) }
+    begins = record { hosts = began; link = no_link; comes = comes; links = λ here. refl; answered = refl; about = refl; hears = refl; alone = λ is. absurd (omega (arith, is)); within = All-nil (λ (x : Exchange by.said R). x.needs ≤ by.count old); knows = λ place here. absurd (false≢true here) }
 
     none_sits : AllSit net by Resting (by.about old) 0 [] []
     none_sits = record { sit = λ place seat below. absurd (omega (arith, below)); rest = λ place seat below. absurd (omega (arith, below)); beyond = λ place past. refl }

@@ -2,7 +2,7 @@
 ghost use Rattle.std.specs.Prelude.{◌≡◌, ◌≢◌, ◌≤◌, ℕ, List, Bool, Option, Some, true, false, drop, length, option_map, take, IfOk, IfSome};
 ghost use Rattle.hose_io.specs.steps.Writing.{IsPut};
 ghost use Rattle.hose_net.specs.Happening.{Gave, Opened, Took};
-ghost use Rattle.hose_net.specs.Story.{Exchange, Link, link_after};
+ghost use Rattle.hose_net.specs.Story.{Exchange, Link, link_after, link_answered};
 ghost use Rattle.hose_host.specs.steps.Answering.{AnswersAt, LeavesPlaces, LeavesOthers};
 
 use hose_io::{Failed, Sink};
@@ -52,7 +52,8 @@ pub trait HostAnswers {
     ghost stands: { origin → List (Exchange said Self.Reply) → Self.Kept → Type 0 };
 
     /// Where these lines were answered, what was sent at a link is what a standby is sent, and by
-    /// what the link gave it is heard to have so many entries.
+    /// what the link gave so much is heard of it: as many entries as it has, or the answer behind
+    /// as many lines.
     ghost leads: { origin → List (Exchange said Self.Reply) → Link → Option ℕ → Type 0 };
 
     /// Where these lines were answered, the standby told at a link that it has so many entries,
@@ -74,7 +75,7 @@ pub trait HostAnswers {
     /// No line of anyone is answered any more.
     ghost ends: { Self → Bool };
 
-    /// How many entries stand.
+    /// How much is to be heard of a standby before a reply is sent that is given now.
     ghost count: { Self → ℕ };
 
     /// What is to be sent to the standby next.
@@ -111,7 +112,8 @@ pub trait HostAnswers {
         requires goes_on { ends self.old ≡ false }
         ensures fits { fits self.new }
         ensures answers { (from : origin) (link : Link) → AnswersAt
-            (λ exchanges. comes from exchanges link) (says (about self.old)) place
+            (λ exchanges. comes from exchanges link)
+            (λ exchanges. comes from exchanges (link_answered link)) (says (about self.old)) place
             door line.entry (is_new self.old place) (count self.new) self.old self.new result }
         ensures known { is_new self.new place ≡ false }
         ensures others { LeavesOthers is_new over place self.old self.new }
@@ -129,7 +131,7 @@ pub trait HostAnswers {
         ensures { (from : origin) (exchanges : List (Exchange said Self.Reply)) (link : Link)
             → comes from exchanges link self.now → stands from exchanges result.now };
 
-    /// How many entries stand.
+    /// How much is to be heard of a standby before a reply is sent that is given now.
     fn counted(&self) -> u64
         ensures { result ≡ count self.now };
 
@@ -202,11 +204,15 @@ pub trait HostAnswers {
         ensures ends { ends self.new ≡ ends self.old }
         ensures leaves { LeavesPlaces is_new over about count self.old self.new };
 
-    /// How many entries the standby is heard to have, by the link.
+    /// How much is heard of the standby, by the link.
     fn heard(&self) -> Option<u64>
         ensures { (from : origin) (exchanges : List (Exchange said Self.Reply)) (link : Link)
             → comes from exchanges link self.now
             → IfSome result (λ many. leads from exchanges link (Some many)) };
+
+    /// Whether what was heard of the standby last is news: it has more entries than before, or
+    /// lacks none. One of which nothing is news for too long is late.
+    fn is_news(&self) -> bool;
 
     /// How many entries the standby told to have, where they are more than there are.
     fn ahead(&self) -> Option<u64>

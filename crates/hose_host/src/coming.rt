@@ -91,7 +91,7 @@ fn oldest_silent(seats: &[Seat], door: usize) -> Option<usize> {
             }
         }
     }
-    if count < SILENT { None } else { oldest }
+    if count <= SILENT { None } else { oldest }
 }
 
 // Lets a connection go, and says whether there was one.

@@ -103,7 +103,6 @@ pub fn turn<N: Connections, A: HostAnswers>(
     match network.next() {
         Ready::Stop => Some(Parting::Told),
         Ready::Door(door) => {
-            make_room(network, answers, &mut places.seats, &mut places.free, door);
             come(
                 alloc,
                 network,
@@ -113,6 +112,7 @@ pub fn turn<N: Connections, A: HostAnswers>(
                 &mut places.came,
                 door,
             );
+            make_room(network, answers, &mut places.seats, &mut places.free, door);
             None
         }
         Ready::Place(place) => serve_place(network, answers, places, place, piece),

@@ -236,8 +236,8 @@ fn close<N: Connections, A: HostAnswers>(network: &mut N, answers: &A, places: &
     places.opened = false;
 }
 
-// Hears how many entries the standby has, and sends what may be sent then; a link that is of no use
-// is closed.
+// Hears how much the standby gave, and sends what may be sent then; a link that is of no use is
+// closed.
 fn hear<N: Connections, A: HostAnswers>(network: &mut N, answers: &mut A, places: &mut Places)
     requires fits { A.fits answers.old }
     requires opened { places.old.opened ≡ true }
@@ -251,6 +251,7 @@ fn hear<N: Connections, A: HostAnswers>(network: &mut N, answers: &mut A, places
         close(network, answers, places);
         return;
     }
+    renew(network, answers);
     let Some(count) = answers.heard() else {
         return;
     };
@@ -266,7 +267,17 @@ fn is_useless<A: HostAnswers>(answers: &A) -> bool {
     answers.is_link_over()
 }
 
-// The standby is heard to have so many entries: replies that need no more may be sent.
+// Gives the standby its time anew, where what was heard of it is news.
+fn renew<N: Connections, A: HostAnswers>(network: &mut N, answers: &A)
+    ensures { (opened : Bool) → KeepsLink N.Connections A.HostAnswers opened network.old answers.now
+        opened network.new answers.now }
+{
+    if answers.is_news() {
+        network.expect(answers.patience().1);
+    }
+}
+
+// So much is heard of the standby: replies that need no more may be sent.
 fn join<N: Connections, A: HostAnswers>(
     network: &mut N,
     answers: &mut A,
@@ -284,10 +295,6 @@ fn join<N: Connections, A: HostAnswers>(
     ensures fits { A.fits answers.new }
 {
     let was = places.heard;
-    if !is_news(answers, was, count) {
-        return;
-    }
-    network.expect(answers.patience().1);
     if !joins(answers, was, count) {
         return;
     }
@@ -296,14 +303,8 @@ fn join<N: Connections, A: HostAnswers>(
     free_all(network, answers, &mut places.seats, &mut places.free, count);
 }
 
-// Whether it is news that the standby has so many entries: they are more than before, or all that
-// there are. One that has fewer, and gets no more, is late in the end.
-fn is_news<A: HostAnswers>(answers: &A, heard: u64, count: u64) -> bool {
-    (heard != ALONE && heard < count) || answers.counted() <= count
-}
-
-// Whether replies are held from now on until a standby has what they need, of which so many entries
-// are heard: more than before, or all that there are, where the host went on alone.
+// Whether replies are held from now on until as much is heard of a standby as they need, of which
+// so much is heard: more than before, or all that any reply needs, where the host went on alone.
 fn joins<A: HostAnswers>(answers: &A, heard: u64, count: u64) -> bool
     ensures less { result ≡ true → count < bound_of Alone }
     ensures joins { result ≡ true

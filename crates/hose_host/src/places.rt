@@ -5,9 +5,9 @@ use crate::Seat;
 use std::alloc::Global;
 
 /// What a host keeps of all its connections, by their places: a seat for each, the places where no
-/// one is, how many entries a reply may need that is sent, and how many have come. And what it
-/// keeps of its link to a standby: whether it is open, for how many seconds it is told that the
-/// host goes on alone, and whether one was ever opened.
+/// one is, how much a reply may need that is sent, and how many have come. And what it keeps of its
+/// link to a standby: whether it is open, for how many seconds it is told that the host goes on
+/// alone, and whether one was ever opened.
 #[derive(Drop)]
 pub struct Places {
     pub seats: Vec<Seat>,

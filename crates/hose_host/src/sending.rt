@@ -178,7 +178,7 @@ fn free_seat<N: Connections, A: HostAnswers>(
     if seat.is_lost() {
         return false;
     }
-    let full = seat.waiting() >= WAITING;
+    let full = seat.waiting() >= WAITING || seat.has_kept();
     release(network, answers, heard, place, seat);
     send(network, answers, place, seat);
     ask_if(network, answers, full, place, seat);

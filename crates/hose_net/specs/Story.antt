@@ -1,5 +1,5 @@
 -- The story of a host: what happened at its connections, and what it answered.
-use Rattle.std.specs.Prelude.{◌≡◌, ◌≢◌, ℕ, ◌-◌, ◌^◌, Bool, true, false, ⊤, ◌==◌, if◌then◌else◌, ◌<◌, ◌≤◌, List, [], ◌∷◌, ◌++◌, Option, Some, All}
+use Rattle.std.specs.Prelude.{◌≡◌, ◌≢◌, ℕ, ◌-◌, ◌^◌, Bool, true, false, ⊤, ◌==◌, if◌then◌else◌, nat_lt, ◌+◌, ◌<◌, ◌≤◌, List, [], ◌∷◌, ◌++◌, Option, Some, All}
 use Rattle.std.specs.List.{flat_map, fold}
 use Rattle.hose_net.specs.Happening.{Came, Closed, Gave, Got, Happening, Late, Left, LinkStep, Linked, Opened, Refused, Sent, Stopped, Took}
 use Rattle.hose_net.specs.declared.hold.Hold.{Hold}
@@ -8,8 +8,8 @@ use Rattle.hose_net.specs.declared.hold.Parting.{Parting}
 use Rattle.hose_net.specs.declared.hold.Parting.TheVariants as parting
 
 -- a line that was answered: the place and the door of who gave it, whether it is the first line of
--- its connection, its bytes without the line feed, what they say, the reply, and how many entries
--- stood when it was given
+-- its connection, its bytes without the line feed, what they say, the reply, and how much has to be
+-- heard of a standby before it is sent: how many entries, or the answer behind how many lines
 pub record Exchange (L R : Type 0) : Type 0 where
   pub place : ℕ
   pub door : ℕ
@@ -74,23 +74,41 @@ life place story = fold (lives place) nobody story
 -- ---- a standby
 
 -- what there was of the link to a standby: whether it is there, the bytes that it gave, and those
--- that it was sent
+-- that it was sent; how many lines were answered until now; and, for each number, the bytes that it
+-- was sent while fewer lines than these were answered
 pub record Link : Type 0 where
   pub here : Bool
   pub given : List ℕ
   pub sent : List ℕ
+  pub answered : ℕ
+  pub early : ℕ → List ℕ
 
 -- where there was none yet
 abbrev pub no_link : Link
-no_link = record { here = false; given = []; sent = [] }
+no_link = record { here = false; given = []; sent = []; answered = 0; early = λ many. [] }
+
+-- a link that was just opened, where so many lines were answered
+abbrev pub new_link : ℕ → Link
+new_link lines = record no_link { here = true; answered = lines }
+
+-- a link that was sent more
+abbrev pub link_took : Link → List ℕ → Link
+link_took link bytes = record link {
+  sent = link.sent ++ bytes;
+  early = λ many. if nat_lt link.answered many then link.early many ++ bytes else link.early many;
+}
 
 -- what there was of the link, after something happened there
 abbrev pub link_after : Link → LinkStep → Link
-link_after link (Opened path) = record no_link { here = true }
+link_after link (Opened path) = new_link link.answered
 link_after link (Gave bytes) = record link { given = link.given ++ bytes }
-link_after link (Took bytes) = record link { sent = link.sent ++ bytes }
+link_after link (Took bytes) = link_took link bytes
 link_after link Closed = record link { here = false }
 link_after link Late = link
+
+-- what there was of the link, after one more line was answered
+abbrev pub link_answered : Link → Link
+link_answered link = record link { answered = link.answered + 1 }
 
 -- what there was of the link, after a step
 abbrev pub links : {L R : Type 0} → Link → Step L R → Link
@@ -101,7 +119,7 @@ links link (Happens (Refused place)) = link
 links link (Happens (Left place)) = link
 links link (Happens (Linked step)) = link_after link step
 links link (Happens Stopped) = link
-links link (Answers exchange) = link
+links link (Answers exchange) = link_answered link
 links link (Holds hold) = link
 
 -- what there was of the link, after a story
@@ -118,12 +136,12 @@ holds hold (Holds now) = now
 abbrev pub hold_in : {L R : Type 0} → List (Step L R) → Hold
 hold_in story = fold holds (Upto 0) story
 
--- how many entries a reply may need that is sent; no history has so many as the first of these
+-- how much a reply may need that is sent; no reply needs more than the first of these
 abbrev pub bound_of : Hold → ℕ
 bound_of Alone = 2 ^ 64 - 1
 bound_of (Upto count) = count
 
--- how many entries a reply may need that is sent, after a story
+-- how much a reply may need that is sent, after a story
 abbrev pub bound_in : {L R : Type 0} → List (Step L R) → ℕ
 bound_in story = bound_of (hold_in story)
 
@@ -165,8 +183,8 @@ pub record IsServed {L R : Type 0} (text : R → List ℕ) (bound : ℕ) (life :
 -- what a host is about: what a call on its network does, and what is shown to one that sends bytes;
 -- what is kept where lines were answered; what bytes of a line say, by whether the line is the
 -- first of its connection and by the door that this came by; the text of a reply; the path of the
--- standby, if there is one, and whether the host may go on alone; how many entries the standby is
--- heard to have by a link, where these lines were answered, and that it has more than the host
+-- standby, if there is one, and whether the host may go on alone; how much is heard of the standby
+-- by a link, where these lines were answered, and how many entries it has, more than the host
 pub record Terms (N B L R : Type 0) : Type 1 where
   pub did : N → List Happening → N → Type 0
   pub saw : N → B → N → Type 0
@@ -227,14 +245,14 @@ IsKept terms story was Stopped now = ⊤
 abbrev pub AllServed : {N B L R : Type 0} → Terms N B L R → List (Step L R) → Type 0
 AllServed terms story = (place : ℕ) → IsServed terms.text (bound_in story) (life place story)
 
--- A standby that is heard to have so many entries joins, or has more than before: where the host
--- was alone, it has what each reply needs that was given.
+-- So much is heard of a standby, which joins, or of which more is heard than before: where the host
+-- was alone, it is what each reply needs that was given.
 abbrev pub Joins : {L R : Type 0} → Hold → ℕ → List (Exchange L R) → Type 0
 Joins Alone count all = All (λ exchange. exchange.needs ≤ count) all
 Joins (Upto before) count all = before ≤ count
 
--- how replies may be held from now on: the host goes on alone, where it may; or the standby is
--- heard to have so many entries
+-- how replies may be held from now on: the host goes on alone, where it may; or so much is heard of
+-- the standby
 abbrev pub MayHold : {N B L R : Type 0} → Terms N B L R → List (Step L R) → Hold → Type 0
 MayHold terms story Alone = terms.may_be_alone ≡ true
 MayHold terms story (Upto count) = terms.leads (exchanges story) (link_in story) (Some count)

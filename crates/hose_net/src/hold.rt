@@ -1,11 +1,14 @@
 // How replies are held back for a standby, and why a host ends.
+//
+// How much is heard of a standby is a number: of the entries that it has, or, where who answers
+// lines says so, of the lines behind which it gave an answer.
 
 /// Which replies may be sent.
 #[derive(Clone, Copy, Debug, PartialEq, Eq)]
 pub enum Hold {
     /// All: the host goes on alone.
     Alone,
-    /// Those that need no more entries than these, which the standby is heard to have.
+    /// Those that need no more than this, which is heard of the standby.
     Upto(u64),
 }
 

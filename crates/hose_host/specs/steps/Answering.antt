@@ -6,12 +6,12 @@ use Rattle.hose_words.specs.steps.Lines.{Shows}
 
 -- A line was answered that came from a place by a door, the first of its connection or not:
 -- whatever bytes it shows, they say something, and what all exchanges had come to comes on by this
--- one, at whose reply so many entries stood.
-abbrev pub AnswersAt : {L R A : Type 0} → (List (Exchange L R) → A → Type 0)
+-- one, whose reply needs so much.
+abbrev pub AnswersAt : {L R A : Type 0} → (comes then_comes : List (Exchange L R) → A → Type 0)
     → (Bool → ℕ → List ℕ → L → Type 0) → ℕ → ℕ → Line → Bool → ℕ → A → A → R → Type 0
-AnswersAt {L} {R} comes Says place door line first needs old new reply =
+AnswersAt {L} {R} comes then_comes Says place door line first needs old new reply =
     (before : List (Exchange L R)) (bytes : List ℕ) → Shows line bytes → comes before old
-    → (said : L) × Says first door bytes said × comes (before ++ record {
+    → (said : L) × Says first door bytes said × then_comes (before ++ record {
       place = place;
       door = door;
       first = first;
@@ -26,7 +26,7 @@ abbrev pub LeavesOthers : {A : Type 0} → (A → ℕ → Bool) → (A → ℕ �
 LeavesOthers is_new over place old new = (other : ℕ) → other ≢ place
     → (is_new new other ≡ is_new old other) × (over new other ≡ over old other)
 
--- all places are as they were, what lines are about and how many entries stand
+-- all places are as they were, what lines are about and how much a reply needs
 pub record LeavesPlaces {A S : Type 0} (is_new over : A → ℕ → Bool) (about : A → S)
     (count : A → ℕ) (old new : A) : Type 0 where
   pub same_new : (place : ℕ) → is_new new place ≡ is_new old place

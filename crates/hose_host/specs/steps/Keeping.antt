@@ -20,7 +20,7 @@ pub record At (N A : Type 0) : Type 0 where
 abbrev pub at : {N A : Type 0} → N → A → SeatState → List ℕ → At N A
 at network by seat coming = record { network = network; by = by; seat = seat; coming = coming }
 
--- where a host is with all connections, and how many entries a reply may need that is sent
+-- where a host is with all connections, and how much a reply may need that is sent
 pub record Hall (N A : Type 0) : Type 0 where
   pub network : N
   pub by : A
@@ -63,13 +63,14 @@ module _ {N A R B : Type 0} (net : ConnectionsGhosts N) (by : Ghosts A R B) wher
   }
 
   -- A host stands at the end of this story, and knows of whom it answered no line. What it knows of
-  -- the link is of the one that is there.
+  -- the link is of the one that is there, and how many lines were answered.
   pub record Stands (first : N) (from : by.origin) (topic : by.subject)
       (story : List (Step by.said R)) (heard : ℕ) (network : N) (answers : A) : Type 0 where
     pub hosts : Hosts (terms_of from topic) first story network
     pub link : Link
     pub comes : by.comes from (exchanges story) link answers
     pub links : (link_in story).here ≡ true → link ≡ link_in story
+    pub answered : link.answered ≡ (link_in story).answered
     pub about : by.about answers ≡ topic
     pub hears : bound_in story ≡ heard
     pub alone : heard ≡ bound_of Alone → hold_in story ≡ Alone
@@ -83,7 +84,7 @@ module _ {N A R B : Type 0} (net : ConnectionsGhosts N) (by : Ghosts A R B) wher
       (now : At N A) : Type 0 where
     pub later : List (Step by.said R)
     pub onward : IsPrefix story later
-    pub links : link_in later ≡ link_in story
+    pub links : (link_in later).here ≡ (link_in story).here
     pub others : (other : ℕ) → other ≢ place → life other later ≡ life other story
     pub stands : Stands first from topic later heard now.network now.by
     pub sits : Sits (by.text topic) heard (life place later) now.seat now.coming
@@ -120,13 +121,14 @@ module _ {N A R B : Type 0} (net : ConnectionsGhosts N) (by : Ghosts A R B) wher
     pub stands : Stands first from topic later now.heard now.network now.by
     pub sit : AllSit Then topic now.heard later now.seats
 
-  -- a call keeps what a host is, if all connections are so, and they are then so; nothing happens
-  -- at the link
+  -- a call keeps what a host is, if all connections are so, and they are then so; the link is not
+  -- opened or closed
   abbrev pub KeepsAll : How → How → Hall N A → Hall N A → Type 0
   KeepsAll First Then old new = (first : N) (from : by.origin) (topic : by.subject)
       (story : List (Step by.said R)) → Stands first from topic story old.heard old.network old.by
       → AllSit First topic old.heard story old.seats
-      → GoesOn (λ later. link_in later ≡ link_in story) Then first from topic story new
+      → GoesOn (λ later. (link_in later).here ≡ (link_in story).here) Then first from topic story
+      new
 
   -- a link is there where it is said to be open
   abbrev pub IsOpen : Bool → List (Step by.said R) → Type 0

@@ -13,12 +13,12 @@ pub returns-in-Door-clause-keeps : goal.returns-in-Door-clause-keeps
 returns-in-Door-clause-keeps g c =
     let was = c.args.places.now in
     let asked = housed c.next.new.self c.args.answers.now was.seats.items was.heard was.opened in
-    let room = housed c.make_room.new.network c.make_room.new.answers c.make_room.new.seats.items was.heard was.opened in
-    let last = housed c.come.new.network c.come.new.answers c.come.new.seats.items was.heard was.opened in
+    let came = housed c.come.new.network c.come.new.answers c.come.new.seats.items was.heard was.opened in
+    let last = housed c.make_room.new.network c.make_room.new.answers c.make_room.new.seats.items was.heard was.opened in
     host_then g.N.Connections g.A.HostAnswers Resting Resting Resting (host_of c.args.network.now c.args.answers.now was) asked last
     (host_link g.N.Connections g.A.HostAnswers Resting was.opened was.opened c.args.network.now c.next.new.self c.args.answers.now c.args.answers.now was.seats.items was.heard (link_quiet g.N.Connections g.A.HostAnswers was.opened c.args.network.now c.next.new.self c.args.answers.now (rw c.in-Door.is at c.next.ensures)))
     (host_all g.N.Connections g.A.HostAnswers Resting Resting was.opened asked.hall last.hall
-    (all_then g.N.Connections g.A.HostAnswers Resting Resting Resting asked.hall room.hall last.hall (c.make_room.ensures.keeps was.heard) (c.come.ensures.keeps was.heard)))
+    (all_then g.N.Connections g.A.HostAnswers Resting Resting Resting asked.hall came.hall last.hall (c.come.ensures.keeps was.heard) (c.make_room.ensures.keeps was.heard)))
 
 pub returns-in-Place-clause-keeps : goal.returns-in-Place-clause-keeps
 returns-in-Place-clause-keeps g c =

@@ -1,28 +1,20 @@
 use Rattle.hose_host.specs.steps.Keeping.{housed}
 use Rattle.hose_host.specs.steps.Seats.{FreedBelow, InRound}
-use Rattle.hose_host.proofs.Keepings.{host_freed, host_joins, host_link, host_then, link_quiet, link_same, round_gone}
+use Rattle.hose_host.proofs.Keepings.{host_freed, host_joins, host_link, host_then, link_same, round_gone}
 use Rattle.hose_host.proofs.linking.join.Goals as goal
-
-pub returns-then-not-is_news-clause-keeps : goal.returns-then-not-is_news-clause-keeps
-returns-then-not-is_news-clause-keeps g c = λ ended.
-    let places = c.args.places.now in
-    host_link g.N.Connections g.A.HostAnswers (InRound ended) places.opened places.opened c.args.network.now c.args.network.now c.args.answers.now c.args.answers.now places.seats.items places.heard (link_same g.N.Connections g.A.HostAnswers places.opened c.args.network.now c.args.answers.now)
 
 pub returns-then-not-joins-clause-keeps : goal.returns-then-not-joins-clause-keeps
 returns-then-not-joins-clause-keeps g c = λ ended.
     let places = c.args.places.now in
-    host_link g.N.Connections g.A.HostAnswers (InRound ended) places.opened places.opened c.args.network.now c.expect.new.self c.args.answers.now c.args.answers.now places.seats.items places.heard (link_quiet g.N.Connections g.A.HostAnswers places.opened c.args.network.now c.expect.new.self c.args.answers.now c.expect.ensures)
+    host_link g.N.Connections g.A.HostAnswers (InRound ended) places.opened places.opened c.args.network.now c.args.network.now c.args.answers.now c.args.answers.now places.seats.items places.heard (link_same g.N.Connections g.A.HostAnswers places.opened c.args.network.now c.args.answers.now)
 
 pub returns-clause-keeps : goal.returns-clause-keeps
 returns-clause-keeps g c = λ ended.
     let places = c.args.places.now in
     let count = c.args.count in
     let first = housed c.args.network.now c.args.answers.now places.seats.items places.heard places.opened in
-    let expects = housed c.expect.new.self c.args.answers.now places.seats.items places.heard places.opened in
-    let joined = housed c.expect.new.self c.args.answers.now places.seats.items count places.opened in
+    let joined = housed c.args.network.now c.args.answers.now places.seats.items count places.opened in
     let last = housed c.free_all.new.network c.free_all.new.answers c.free_all.new.seats.items count places.opened in
     host_then g.N.Connections g.A.HostAnswers (InRound ended) (FreedBelow 0) (InRound ended) first joined last
-    (host_then g.N.Connections g.A.HostAnswers (InRound ended) (InRound ended) (FreedBelow 0) first expects joined
-    (host_link g.N.Connections g.A.HostAnswers (InRound ended) places.opened places.opened c.args.network.now c.expect.new.self c.args.answers.now c.args.answers.now places.seats.items places.heard (link_quiet g.N.Connections g.A.HostAnswers places.opened c.args.network.now c.expect.new.self c.args.answers.now c.expect.ensures))
-    (host_joins g.N.Connections g.A.HostAnswers (InRound ended) places.heard count c.expect.new.self c.args.answers.now places.seats.items places.opened (λ place life seat so. round_gone g.N.Connections g.A.HostAnswers ended place places.heard life seat so) c.requires.opened (c.joins.ensures.less c.if-not-joins.false) (c.joins.ensures.joins c.if-not-joins.false) c.requires.heard))
-    (host_freed g.N.Connections g.A.HostAnswers ended count c.expect.new.self c.free_all.new.network c.args.answers.now c.tell_joined.new.answers c.free_all.new.answers places.seats.items c.free_all.new.seats.items places.opened c.tell_joined.ensures.comes c.tell_joined.ensures.leaves c.free_all.ensures.keeps)
+    (host_joins g.N.Connections g.A.HostAnswers (InRound ended) places.heard count c.args.network.now c.args.answers.now places.seats.items places.opened (λ place life seat so. round_gone g.N.Connections g.A.HostAnswers ended place places.heard life seat so) c.requires.opened (c.joins.ensures.less c.if-not-joins.false) (c.joins.ensures.joins c.if-not-joins.false) c.requires.heard)
+    (host_freed g.N.Connections g.A.HostAnswers ended count c.args.network.now c.free_all.new.network c.args.answers.now c.tell_joined.new.answers c.free_all.new.answers places.seats.items c.free_all.new.seats.items places.opened c.tell_joined.ensures.comes c.tell_joined.ensures.leaves c.free_all.ensures.keeps)
