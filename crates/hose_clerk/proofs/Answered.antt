@@ -1,10 +1,9 @@
 -- Lines of one session, and what is answered to them.
-use Rattle.std.proofs.Common.{◌≡◌, ◌∙◌, inl, inr, ℕ, Bool, false, Bor, List, [], refl, sym, ap, subst}
+use Rattle.std.proofs.Common.{◌≡◌, ◌∙◌, inl, inr, ℕ, Bool, false, Bor, List, refl, sym, ap, subst}
 use Rattle.std.specs.Prelude.{if◌then◌else◌}
 use Rattle.std.proofs.lemmas.Slice.Eq.{bytes_eq-Decides}
-use Rattle.hose_words.specs.Form.{IsChoice}
-use Rattle.hose_words.specs.Grammar.{IsFirst, IsFirstNotAllowed}
-use Rattle.hose_words.specs.Words.{words_of}
+use Rattle.hose_words.specs.Words.{IsChoice, IsFirst, words_of}
+use Rattle.hose_words.specs.Shapes.{IsFirstWrong}
 use Rattle.hose_words.specs.declared.lines.Line.{Line}
 use Rattle.hose_words.specs.declared.lines.Line.TheVariants.{Text}
 use Rattle.hose_graph.specs.Network.{Network}
@@ -27,7 +26,7 @@ use Rattle.hose_core.specs.steps.Holding.{AllQuotes, AreAllKept, AreHeld, AreKep
 use Rattle.hose_core.specs.steps.Stepping.{IsSameOrNext, Steps, committed_of}
 use Rattle.hose_core.specs.declared.quotes.Quote.{Quote}
 use Rattle.hose_core.proofs.HeldQuotes.{none_are_held}
-use Rattle.hose_proto.specs.Command.{IsCommand, TakesMemory, command_grammar, verb_word}
+use Rattle.hose_proto.specs.Command.{IsCommand, TakesMemory, command_shape, verb_word}
 use Rattle.hose_greeting.specs.SessionLines.{IsBye}
 use Rattle.hose_greeting.proofs.Shown.{text_is}
 use Rattle.hose_clerk.specs.HostLines.{HostLine, IsCount, IsEnd, SaysLaterAt}
@@ -49,7 +48,7 @@ says_text network line text (Speaks (Greets name)) is says = absurd says
 says_text network line text (Speaks (Asks command)) is says = text_is (λ bytes. IsCommand network (words_of bytes) command) line text is says
 says_text network line text (Speaks Leaves) is says = text_is IsBye line text is says
 says_text network line text (Speaks (IsBad word)) is says = λ bytes shows.
-    let here = text_is (λ (b : List ℕ). (¬ IsBye b) × IsFirstNotAllowed (command_grammar network) [] (words_of b) word × (¬ IsEnd b) × (¬ IsCount b)) line text is says bytes shows in
+    let here = text_is (λ (b : List ℕ). (¬ IsBye b) × IsFirstWrong (command_shape network) (words_of b) word × (¬ IsEnd b) × (¬ IsCount b)) line text is says bytes shows in
     ((here.0, here.1.0, here.1.1), here.1.2, here.1.3)
 says_text network line text (Speaks IsLong) is says = absurd says
 says_text network line text (Speaks Unread) is says = text_is (λ bytes. IsFirst (IsChoice TakesMemory verb_word) (words_of bytes)) line text is says

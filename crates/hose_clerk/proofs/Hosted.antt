@@ -1,12 +1,12 @@
 -- Lines of all connections, one after the other, and what they have come to.
-use Rattle.std.proofs.Common.{◌≡◌, ◌∙◌, ◌⊎◌, inl, inr, ⊎_elim, ℕ, zero, suc, ◌+◌, ◌-◌, ◌^◌, ◌≤◌, Bool, true, false, List, [], ◌∷◌, ◌++◌, Option, None, Some, length, refl, sym, ap, subst, arith, append-nil}
+use Rattle.std.proofs.Common.{◌≡◌, ◌∙◌, ◌⊎◌, inl, inr, ⊎_elim, ℕ, zero, suc, ◌+◌, ◌-◌, ◌^◌, ◌≤◌, Bool, true, false, List, [], ◌∷◌, ◌++◌, Option, None, Some, length, refl, sym, ap, subst, arith, append-nil, length-append}
 use Rattle.std.specs.Prelude.{if◌then◌else◌, IfSome, slice_get, take}
 use Rattle.std.proofs.Math.Seq.{take-append_seam}
 use Rattle.std.proofs.lemmas.Bool.{cases_Bool, cases_eq, eq-eqb, false≢true, ne_eqb}
 use mathlib.Core.List.{IsPrefix}
 use Rattle.hose_io.specs.Frame.{Frame, Rose, Stays}
 use Rattle.hose_io.proofs.Frames.{Stays-next, Stays-none, Stays-same}
-use Rattle.hose_net.specs.Story.{Exchange, Link, no_link}
+use Rattle.hose_net.specs.Story.{Exchange, Link, link_answered, no_link}
 use Rattle.hose_graph.specs.Network.{Network}
 use Rattle.hose_graph.specs.declared.command.Reply.{Reply}
 use Rattle.hose_graph.specs.declared.command.Reply.TheVariants.{Disk}
@@ -40,7 +40,10 @@ use Rattle.hose_clerk.specs.declared.sessions.Session.TheVariants as session
 use Rattle.hose_lead.specs.steps.Standby.{IsLed, StandbyState}
 use Rattle.hose_lead.proofs.Told.{longer}
 use Rattle.hose_clerk.specs.steps.Answering.{AnswersTo, AreSessionsKept, FitsStage, GrowsWith, HasAsked, HasHosted, HasReplied, HasStayed, IsBefore, IsSessionKept}
+use Rattle.hose_clerk.specs.steps.Linking.{AreMarks, IsMark, LinkState, needed_of}
 use Rattle.hose_clerk.specs.steps.Sessions.{IsPut, LeavesAll, is_new_at, is_over_at, session_at}
+use Rattle.hose_clerk.specs.declared.fence.Fence.{Fence}
+use Rattle.hose_clerk.proofs.Marks.{mark_more, marks_none, marks_weaker, needed_is, ordered_answered, ordered_none, steps_push}
 
 -- a line that was answered
 abbrev pub Answered : Type 0
@@ -94,11 +97,6 @@ front_stays (first ∷ xs) more (suc place) x is =
     let rest = front_stays xs more place x is in
     λ i. first ∷ rest i
 
--- one line more is answered
-steps_push : (network : Network) (xs : List Answered) (x : Answered) (first middle last : HostState) → AreHostSteps network xs first middle → IsHostStep network x middle last → AreHostSteps network (xs ++ x ∷ []) first last
-steps_push network [] x first middle last steps step = (last, subst (λ (state : HostState). IsHostStep network x state last) steps step, refl)
-steps_push network (one ∷ xs) x first middle last steps step = (steps.0, steps.1, steps_push network xs x steps.0 middle last steps.2 step)
-
 disks_push : (xs : List Answered) (x : Answered) → disks_of (xs ++ x ∷ []) ≡ disks_of xs + disks_told x.reply
 disks_push [] x = refl
 disks_push (first ∷ xs) x = omega (arith, disks_push xs x)
@@ -106,28 +104,28 @@ disks_push (first ∷ xs) x = omega (arith, disks_push xs x)
 -- ---- what exchanges ask for
 
 -- what exchanges ask for more of them ask for
-asked_more : (since : List Entry) (xs : List Answered) (x : Answered) (network : Network) (book : Book) (entry : Entry) → IsAskedOf since xs network book entry → IsAskedOf since (xs ++ x ∷ []) network book entry
-asked_more since xs x network book entry is = record {
+asked_more : (required : Bool) (since : List Entry) (xs : List Answered) (x : Answered) (network : Network) (book : Book) (entry : Entry) → IsAskedOf required since xs network book entry → IsAskedOf required since (xs ++ x ∷ []) network book entry
+asked_more required since xs x network book entry is = record {
   decided = is.decided;
   place = is.place;
   exchange = is.exchange;
   there = still_there xs (x ∷ []) is.place is.exchange is.there;
   state = is.state;
-  before = subst (λ (front : List Answered). AreHostSteps network front (host_from since) is.state) (sym (front_stays xs (x ∷ []) is.place is.exchange is.there)) is.before;
+  before = subst (λ (front : List Answered). AreHostSteps network required front (host_from since) is.state) (sym (front_stays xs (x ∷ []) is.place is.exchange is.there)) is.before;
   is_book = is.is_book;
   asks = is.asks;
 }
 
 -- what the last one asks for
-asked_last : (since : List Entry) (xs : List Answered) (x : Answered) (network : Network) (state : HostState) (entry : Entry) → AreHostSteps network xs (host_from since) state
-    → IsDecidedAt network (book_of 0 state.history) entry → IsAskedAt network state x entry → IsAskedOf since (xs ++ x ∷ []) network (book_of 0 state.history) entry
-asked_last since xs x network state entry before decided asks = record {
+asked_last : (required : Bool) (since : List Entry) (xs : List Answered) (x : Answered) (network : Network) (state : HostState) (entry : Entry) → AreHostSteps network required xs (host_from since) state
+    → IsDecidedAt network (book_of 0 state.history) entry → IsAskedAt network state x entry → IsAskedOf required since (xs ++ x ∷ []) network (book_of 0 state.history) entry
+asked_last required since xs x network state entry before decided asks = record {
   decided = decided;
   place = length xs;
   exchange = x;
   there = there xs x;
   state = state;
-  before = subst (λ (front : List Answered). AreHostSteps network front (host_from since) state) (sym (take-append_seam xs (x ∷ []))) before;
+  before = subst (λ (front : List Answered). AreHostSteps network required front (host_from since) state) (sym (take-append_seam xs (x ∷ []))) before;
   is_book = refl;
   asks = asks;
 }
@@ -218,8 +216,8 @@ record Changed {K R : Type 0} (books : Ghosts K R) (Kind : EntryKind) (network :
   stays : Stays (books.frame old) (books.frame new)
   told : TellsOne (books.frame old) disks (books.frame new)
 
-module _ {K R : Type 0} (books : Ghosts K R) (is_of : K → Network → List Entry → Type 0) (since : List Entry) (first old new : K) (xs : List Answered) (sessions : List Session) (tally : Tally) (standby : StandbyState) (link : Link)
-    (was : HasHosted books is_of since first old sessions false tally standby xs link) where
+module _ {K R : Type 0} (books : Ghosts K R) (is_of : K → Network → List Entry → Type 0) (required : Bool) (since : List Entry) (first old new : K) (xs : List Answered) (sessions : List Session) (tally : Tally) (at_link : LinkState) (link : Link)
+    (was : HasHosted books is_of required since first old sessions false tally at_link xs link) where
   abbrev network : Network
   network = (books.ledger first).network
 
@@ -229,13 +227,13 @@ module _ {K R : Type 0} (books : Ghosts K R) (is_of : K → Network → List Ent
   module _ (x : Answered) where
     -- what a line more may ask for
     abbrev Asked : EntryKind
-    Asked = IsAskedOf since (xs ++ x ∷ [])
+    Asked = IsAskedOf required since (xs ++ x ∷ [])
 
     before : Leads books Asked network since first here.history old
     before = record {
       decided = was.hosted.decided;
       begins = was.hosted.begins;
-      goes_on = goes_weaker books (IsAskedOf since xs) Asked network since first (asked_more since xs x network) was.hosted.goes_on;
+      goes_on = goes_weaker books (IsAskedOf required since xs) Asked network since first (asked_more required since xs x network) was.hosted.goes_on;
     }
 
     stayed : (next : List Entry) → HasStayed old new here.history x.reply next → Changed books Asked network since first old new here.history next (disks_told x.reply)
@@ -249,7 +247,7 @@ module _ {K R : Type 0} (books : Ghosts K R) (is_of : K → Network → List Ent
     module _ (stage : Stage) (next : List Entry) (later : x.first ≡ false) (at : here.stages x.place ≡ stage) (asked : HasAsked books old new here.history stage x.said x.reply next) where
       asks : (entry : Option Entry) → entry ≡ asked.entry → IfSome entry (Asked network (book_of 0 here.history))
       asks None is = tt
-      asks (Some entry) is = asked_last since xs x network here entry was.hosted.steps
+      asks (Some entry) is = asked_last required since xs x network here entry was.hosted.steps
           (subst (λ (n : Network). IsDecidedAt n (book_of 0 here.history) entry) was.network (subst (λ (e : Option Entry). IfSome e (IsDecidedAt (books.ledger old).network (book_of 0 here.history))) (sym is) asked.decided))
           (record {
             customer = asked.customer;
@@ -287,7 +285,7 @@ module _ {K R : Type 0} (books : Ghosts K R) (is_of : K → Network → List Ent
     changed stage next never at (inr asked) = ⊎_elim (λ yes. absurd (never yes asked)) (λ no. went stage next no (at no) asked) (cases_Bool x.first)
 
     module _ (one left : Session) (after : List Session) (at : session_at sessions x.place ≡ one) (open_still : is_over_at one ≡ false) (put : IsPut sessions x.place left after) (is_first : x.first ≡ is_new_at one)
-        (answers : AnswersTo books tally old new one x.said x.reply left) (needs : x.needs ≡ (books.ledger new).book.epoch) (grows : GrowsWith books is_of) where
+        (answers : AnswersTo books tally old new one x.said x.reply left) (needs : x.needs ≡ needed_of at_link.required (tally_with x.reply tally).lines (books.ledger new).book.epoch) (grows : GrowsWith books is_of) where
       abbrev stage : Stage
       stage = stage_before x.first (here.stages x.place)
 
@@ -300,7 +298,7 @@ module _ {K R : Type 0} (books : Ghosts K R) (is_of : K → Network → List Ent
         abbrev state : HostState
         state = record { history = replied.next; stages = with_stage here.stages x.place replied.after; ended = ends_host x.reply; tally = tally_with x.reply here.tally }
 
-        step : IsHostStep network x here state
+        step : IsHostStep network required x here state
         step = record {
           goes_on = was.ends;
           after = replied.after;
@@ -309,7 +307,9 @@ module _ {K R : Type 0} (books : Ghosts K R) (is_of : K → Network → List Ent
           stages = refl;
           ended = refl;
           tally = refl;
-          needs = needs ∙ epoch_is (books.ledger new).book replied.next replied.book;
+          needs = needs
+              ∙ ap (λ (b : Bool). needed_of b (tally_with x.reply tally).lines (books.ledger new).book.epoch) was.requires
+              ∙ needed_is required state (tally_with x.reply tally).lines (books.ledger new).book.epoch (ap (λ (t : Tally). (tally_with x.reply t).lines) was.counted) (sym (epoch_is (books.ledger new).book replied.next replied.book));
         }
 
         what_changed : Changed books Asked network since first old new here.history replied.next (disks_told x.reply)
@@ -342,16 +342,20 @@ module _ {K R : Type 0} (books : Ghosts K R) (is_of : K → Network → List Ent
         history_next (inr asked) = subst (λ (h : List Entry). is_of new network h) (sym asked.leads)
             (of_goes books is_of grows network here.history old new asked.answer asked.entry asked.goes was.history)
 
-        led_next : HasStayed old new here.history x.reply replied.next ⊎ HasAsked books old new here.history stage x.said x.reply replied.next → IsLed network replied.next link.given link.sent standby
-        led_next (inl is) = subst (λ (h : List Entry). IsLed network h link.given link.sent standby) (sym is.stays) was.led
-        led_next (inr asked) = subst (λ (h : List Entry). IsLed network h link.given link.sent standby) (sym asked.leads)
-            (led_with network here.history link.given link.sent standby asked.entry (committed_of asked.answer) was.led)
+        led_next : HasStayed old new here.history x.reply replied.next ⊎ HasAsked books old new here.history stage x.said x.reply replied.next → IsLed network replied.next link.given link.sent at_link.standby
+        led_next (inl is) = subst (λ (h : List Entry). IsLed network h link.given link.sent at_link.standby) (sym is.stays) was.led
+        led_next (inr asked) = subst (λ (h : List Entry). IsLed network h link.given link.sent at_link.standby) (sym asked.leads)
+            (led_with network here.history link.given link.sent at_link.standby asked.entry (committed_of asked.answer) was.led)
 
-        hosted_by : HasHosted books is_of since first new after (ends_host x.reply) (tally_with x.reply tally) standby (xs ++ x ∷ []) link
+        marks_next : AreMarks (IsMark network required since (xs ++ x ∷ []) state link.early) at_link.fence
+        marks_next = marks_weaker (IsMark network required since xs here link.early) (IsMark network required since (xs ++ x ∷ []) state link.early)
+            (mark_more network required since xs here link.early x state step) at_link.fence was.marks
+
+        hosted_by : HasHosted books is_of required since first new after (ends_host x.reply) (tally_with x.reply tally) at_link (xs ++ x ∷ []) (link_answered link)
         hosted_by = record {
           hosted = record {
             state = state;
-            steps = steps_push network xs x (host_from since) here state was.hosted.steps step;
+            steps = steps_push network required xs x (host_from since) here state was.hosted.steps step;
             decided = what_changed.leads.decided;
             begins = what_changed.leads.begins;
             goes_on = what_changed.leads.goes_on;
@@ -365,17 +369,21 @@ module _ {K R : Type 0} (books : Ghosts K R) (is_of : K → Network → List Ent
           counted = ap (tally_with x.reply) was.counted;
           history = history_next replied.changes;
           led = led_next replied.changes;
+          requires = was.requires;
+          answered = omega (arith, was.answered, length-append xs (x ∷ []));
+          ordered = ordered_answered link was.ordered;
+          marks = marks_next;
         }
 
       -- one line more is answered
-      pub hosted_more : HasHosted books is_of since first new after (ends_host x.reply) (tally_with x.reply tally) standby (xs ++ x ∷ []) link
+      pub hosted_more : HasHosted books is_of required since first new after (ends_host x.reply) (tally_with x.reply tally) at_link (xs ++ x ∷ []) (link_answered link)
       hosted_more = hosted_by (answers.replied here.history stage was.book is_at)
 
 -- what all lines have come to stays as who is new or over is put at a place
-pub hosted_put : {K R : Type 0} (books : Ghosts K R) (is_of : K → Network → List Entry → Type 0) (since : List Entry) (first now : K) (place : ℕ) (one : Session) (sessions after : List Session) (ended : Bool) (tally : Tally) (standby : StandbyState) (xs : List Answered) (link : Link)
+pub hosted_put : {K R : Type 0} (books : Ghosts K R) (is_of : K → Network → List Entry → Type 0) (required : Bool) (since : List Entry) (first now : K) (place : ℕ) (one : Session) (sessions after : List Session) (ended : Bool) (tally : Tally) (at_link : LinkState) (xs : List Answered) (link : Link)
     → ((network : Network) (history : List Entry) (stage : Stage) → FitsStage network history one stage) → IsPut sessions place one after
-    → HasHosted books is_of since first now sessions ended tally standby xs link → HasHosted books is_of since first now after ended tally standby xs link
-hosted_put books is_of since first now place one sessions after ended tally standby xs link fits put was = record {
+    → HasHosted books is_of required since first now sessions ended tally at_link xs link → HasHosted books is_of required since first now after ended tally at_link xs link
+hosted_put books is_of required since first now place one sessions after ended tally at_link xs link fits put was = record {
   hosted = was.hosted;
   book = was.book;
   network = was.network;
@@ -388,12 +396,16 @@ hosted_put books is_of since first now place one sessions after ended tally stan
   counted = was.counted;
   history = was.history;
   led = was.led;
+  requires = was.requires;
+  answered = was.answered;
+  ordered = was.ordered;
+  marks = was.marks;
 }
 
 -- and as places are made
-pub hosted_left : {K R : Type 0} (books : Ghosts K R) (is_of : K → Network → List Entry → Type 0) (since : List Entry) (first now : K) (sessions after : List Session) (ended : Bool) (tally : Tally) (standby : StandbyState) (xs : List Answered) (link : Link)
-    → LeavesAll sessions after → HasHosted books is_of since first now sessions ended tally standby xs link → HasHosted books is_of since first now after ended tally standby xs link
-hosted_left books is_of since first now sessions after ended tally standby xs link leaves was = record {
+pub hosted_left : {K R : Type 0} (books : Ghosts K R) (is_of : K → Network → List Entry → Type 0) (required : Bool) (since : List Entry) (first now : K) (sessions after : List Session) (ended : Bool) (tally : Tally) (at_link : LinkState) (xs : List Answered) (link : Link)
+    → LeavesAll sessions after → HasHosted books is_of required since first now sessions ended tally at_link xs link → HasHosted books is_of required since first now after ended tally at_link xs link
+hosted_left books is_of required since first now sessions after ended tally at_link xs link leaves was = record {
   hosted = was.hosted;
   book = was.book;
   network = was.network;
@@ -402,6 +414,10 @@ hosted_left books is_of since first now sessions after ended tally standby xs li
   counted = was.counted;
   history = was.history;
   led = was.led;
+  requires = was.requires;
+  answered = was.answered;
+  ordered = was.ordered;
+  marks = was.marks;
 }
 
 -- so does what sessions hold
@@ -409,9 +425,10 @@ pub kept_left : (ledger : Ledger) (sessions after : List Session) → LeavesAll 
 kept_left ledger sessions after leaves kept place = subst (IsSessionKept ledger) (sym (leaves place)) (kept place)
 
 -- nothing is answered yet, and no one is there
-pub hosted_none : {K R : Type 0} (books : Ghosts K R) (is_of : K → Network → List Entry → Type 0) (since : List Entry) (now : K) (standby : StandbyState) → IsSound (books.ledger now).network 0 since → HasBookOf 0 since (books.ledger now)
-    → is_of now (books.ledger now).network since → IsLed (books.ledger now).network since [] [] standby → HasHosted books is_of since now now [] false no_tally standby [] no_link
-hosted_none books is_of since now standby sound book history led = record {
+pub hosted_none : {K R : Type 0} (books : Ghosts K R) (is_of : K → Network → List Entry → Type 0) (required : Bool) (since : List Entry) (now : K) (standby : StandbyState) (fence : Fence) → IsSound (books.ledger now).network 0 since → HasBookOf 0 since (books.ledger now)
+    → is_of now (books.ledger now).network since → IsLed (books.ledger now).network since [] [] standby → fence.mark ≡ None → fence.passed ≡ None
+    → HasHosted books is_of required since now now [] false no_tally (record { required = required; standby = standby; fence = fence }) [] no_link
+hosted_none books is_of required since now standby fence sound book history led no_mark none_passed = record {
   hosted = record {
     state = host_from since;
     steps = refl;
@@ -428,4 +445,8 @@ hosted_none books is_of since now standby sound book history led = record {
   counted = refl;
   history = history;
   led = led;
+  requires = refl;
+  answered = refl;
+  ordered = ordered_none;
+  marks = marks_none (IsMark (books.ledger now).network required since [] (host_from since) no_link.early) fence no_mark none_passed;
 }

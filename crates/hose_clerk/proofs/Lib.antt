@@ -1,4 +1,5 @@
 mod Placed
 mod Answered
+mod Marks
 pub mod Hosted
 mod Linked

@@ -1,8 +1,7 @@
 -- What the lines of a host say: those of sessions, of which the first is by the rule of its door,
 -- and `end` and `figures`.
 use Rattle.std.specs.Prelude.{◌≡◌, ◌≢◌, ℕ, ◌<◌, ◌≤◌, Bool, true, false, List, [], ◌∷◌, ⊤, codes, length, slice_index_or}
-use Rattle.hose_words.specs.Form.{Form, finish, grammar_of, place, this}
-use Rattle.hose_words.specs.Grammar.{Grammar, IsFirstNotAllowed}
+use Rattle.hose_words.specs.Shapes.{IsFirstWrong}
 use Rattle.hose_words.specs.Words.{words_of}
 use Rattle.hose_words.specs.Limits.{line_limit}
 use Rattle.hose_graph.specs.Limits.{operator}
@@ -10,7 +9,7 @@ use Rattle.hose_graph.specs.Name.{IsName}
 use Rattle.hose_graph.specs.Network.{Network}
 use Rattle.hose_law.specs.Transcript.{SessionLine}
 use Rattle.hose_law.specs.Transcript.SessionLine.{Greets, IsBad, IsLong}
-use Rattle.hose_greeting.specs.SessionLines.{IsGreeting, SaysLater}
+use Rattle.hose_greeting.specs.SessionLines.{IsGreeting, SaysLater, greeting_shape}
 use Rattle.hose_clerk.specs.declared.doors.DoorRule.{DoorRule}
 use Rattle.hose_clerk.specs.declared.doors.DoorRule.TheVariants.{Any, AnyButOperator, Only}
 
@@ -38,25 +37,13 @@ pub record IsNameAt (rule : DoorRule) (name : List ℕ) : Type 0 where
   pub is_name : IsName name
   pub may_greet : MayGreet rule name
 
--- `hello NAME`, by a customer who may greet
-pub record IsGreetingAt (rule : DoorRule) (line name : List ℕ) : Type 0 where
-  pub greets : IsGreeting line name
-  pub may_greet : MayGreet rule name
-
--- the form of a greeting
-abbrev pub greeting_form_at : DoorRule → Form
-greeting_form_at rule = this (codes "hello") (place (IsNameAt rule) finish)
-
--- the grammar of the line that greets
-abbrev pub greeting_grammar_at : DoorRule → Grammar
-greeting_grammar_at rule = grammar_of (greeting_form_at rule)
-
 -- What the first line of a session says at a door of this rule: it is a greeting by a customer who
 -- may greet there, or it has a first word that is not allowed, or it is too long.
 abbrev pub SaysFirstAt : DoorRule → List ℕ → SessionLine → Type 0
-SaysFirstAt rule bytes (Greets name) = (length bytes ≤ line_limit) × IsGreetingAt rule bytes name
+SaysFirstAt rule bytes (Greets name) =
+    (length bytes ≤ line_limit) × IsGreeting (IsNameAt rule) bytes name
 SaysFirstAt rule bytes (IsBad word) = (length bytes ≤ line_limit)
-    × IsFirstNotAllowed (greeting_grammar_at rule) [] (words_of bytes) word
+    × IsFirstWrong (greeting_shape (IsNameAt rule)) (words_of bytes) word
 SaysFirstAt rule bytes IsLong = line_limit < length bytes
 SaysFirstAt rule bytes line = ⊥
 

@@ -1,6 +1,6 @@
 -- What a host answers to the lines of all its connections, in their order: one history, and a
 -- session for each connection.
-use Rattle.std.specs.Prelude.{◌≡◌, ◌≢◌, ◌⊎◌, ℕ, ◌+◌, ◌-◌, ◌^◌, ◌==◌, ◌≤◌, Bool, true, false, if◌then◌else◌, List, [], ◌∷◌, length, slice_get, take, Option, Some}
+use Rattle.std.specs.Prelude.{◌≡◌, ◌≢◌, ◌⊎◌, ℕ, ◌+◌, ◌-◌, ◌^◌, ◌==◌, ◌≤◌, Bool, true, false, if◌then◌else◌, List, [], ◌∷◌, ◌++◌, length, slice_get, take, Option, None, Some}
 use Rattle.hose_net.specs.Story.{Exchange, Link}
 use Rattle.hose_graph.specs.Limits.{operator}
 use Rattle.hose_graph.specs.Network.{Network}
@@ -16,7 +16,7 @@ use Rattle.hose_law.specs.Script.{one_if_disk}
 use Rattle.hose_law.specs.Transcript.{IsPlainReply, SessionLine, Stage, stage_after}
 use Rattle.hose_law.specs.Transcript.SessionLine.{Greets, Asks}
 use Rattle.hose_law.specs.Transcript.Stage.{Left, Refused, Serving, Waiting}
-use Rattle.hose_lead.specs.Leading.{Leads, TellsAhead}
+use Rattle.hose_lead.specs.Leading.{AnswersBehind, Leads, TellsAhead}
 use Rattle.hose_clerk.specs.HostLines.{HostLine}
 use Rattle.hose_clerk.specs.HostLines.HostLine.{Counts, Ends, Speaks}
 use Rattle.hose_clerk.specs.Tally.{no_tally, tally_with}
@@ -106,9 +106,16 @@ ends_host (reply.Told told) = false
 ends_host (reply.Ending at) = true
 ends_host (reply.Figures figures) = false
 
--- A line is answered where a host is: the reply is right at the history, the connection alone that
--- gave it goes on, the reply is counted, and as many entries are needed as stand then.
-pub record IsHostStep (network : Network) (exchange : Exchange HostLine HostReply)
+-- how much has to be heard of a standby before a reply is sent that is given where a host is: where
+-- no reply is told without one, an answer behind each line until then; else the entries that stand
+abbrev pub needed : Bool → HostState → ℕ
+needed true state = state.tally.lines
+needed false state = length state.history
+
+-- A line is answered where a host is, whose standby is required or not: the reply is right at the
+-- history, the connection alone that gave it goes on, the reply is counted, and it needs what it is
+-- to need.
+pub record IsHostStep (network : Network) (required : Bool) (exchange : Exchange HostLine HostReply)
     (old new : HostState) : Type 0 where
   pub goes_on : old.ended ≡ false
   pub after : Stage
@@ -118,16 +125,17 @@ pub record IsHostStep (network : Network) (exchange : Exchange HostLine HostRepl
   pub stages : new.stages ≡ with_stage old.stages exchange.place after
   pub ended : new.ended ≡ ends_host exchange.reply
   pub tally : new.tally ≡ tally_with exchange.reply old.tally
-  pub needs : exchange.needs ≡ length new.history
+  pub needs : exchange.needs ≡ needed required new
 
 -- ---- all lines
 
 -- lines are answered one after the other, and lead a host from here to there
-abbrev pub AreHostSteps : Network → List (Exchange HostLine HostReply) → HostState → HostState
-    → Type 0
-AreHostSteps network [] first last = last ≡ first
-AreHostSteps network (exchange ∷ exchanges) first last = (next : HostState)
-    × IsHostStep network exchange first next × AreHostSteps network exchanges next last
+abbrev pub AreHostSteps : Network → Bool → List (Exchange HostLine HostReply) → HostState
+    → HostState → Type 0
+AreHostSteps network required [] first last = last ≡ first
+AreHostSteps network required (exchange ∷ exchanges) first last = (next : HostState)
+    × IsHostStep network required exchange first next
+    × AreHostSteps network required exchanges next last
 
 -- An exchange asks for an entry where a host is: its line is a command of the customer whom its
 -- connection is served as, and its reply is that of a step by what is held there, whose answer has
@@ -148,14 +156,15 @@ pub record IsAskedAt (network : Network) (state : HostState)
 
 -- The entry is decided at the book, and one of the exchanges asks for it: those before it lead a
 -- host, from this history on, to where the history is that of the book.
-pub record IsAskedOf (since : List Entry) (exchanges : List (Exchange HostLine HostReply))
-    (network : Network) (book : Book) (entry : Entry) : Type 0 where
+pub record IsAskedOf (required : Bool) (since : List Entry)
+    (exchanges : List (Exchange HostLine HostReply)) (network : Network) (book : Book)
+    (entry : Entry) : Type 0 where
   pub decided : IsDecidedAt network book entry
   pub place : ℕ
   pub exchange : Exchange HostLine HostReply
   pub there : slice_get exchanges place ≡ Some exchange
   pub state : HostState
-  pub before : AreHostSteps network (take place exchanges) (host_from since) state
+  pub before : AreHostSteps network required (take place exchanges) (host_from since) state
   pub is_book : book_of 0 state.history ≡ book
   pub asks : IsAskedAt network state exchange entry
 
@@ -179,15 +188,43 @@ TellsDisks before exchanges after =
 
 -- Lines lead a host, from this history on, to where by what the link to its standby gave and was
 -- sent the standby is heard to have so many of the history's entries.
-abbrev pub LeadsBy : Network → List Entry → List (Exchange HostLine HostReply) → Link → Option ℕ
-    → Type 0
-LeadsBy network since exchanges link heard = (state : HostState)
-    × AreHostSteps network exchanges (host_from since) state
+abbrev pub LeadsAt : Network → Bool → List Entry → List (Exchange HostLine HostReply) → Link
+    → Option ℕ → Type 0
+LeadsAt network required since exchanges link heard = (state : HostState)
+    × AreHostSteps network required exchanges (host_from since) state
     × Leads network state.history link.given link.sent heard
 
+-- The same of a standby that is required, where so many lines were answered at a moment: it is
+-- heard to have every entry that stood then, and gave an answer to a packet that it was sent behind
+-- what it was sent until then.
+pub record IsHeardBehind (network : Network) (since : List Entry)
+    (exchanges : List (Exchange HostLine HostReply)) (link : Link) (many : ℕ) : Type 0 where
+  pub earlier : List (Exchange HostLine HostReply)
+  pub later : List (Exchange HostLine HostReply)
+  pub split : exchanges ≡ earlier ++ later
+  pub past : HostState
+  pub state : HostState
+  pub before : AreHostSteps network true earlier (host_from since) past
+  pub after : AreHostSteps network true later past state
+  pub count : ℕ
+  pub leads : Leads network state.history link.given link.sent (Some count)
+  pub lines : past.tally.lines ≡ many
+  pub had : length past.history ≤ count
+  pub behind : AnswersBehind network past.history link.given (link.early (length earlier))
+
+-- So much is heard of a standby by a link, which leads it: how many entries it has, or, where it is
+-- required, its answer behind how many lines.
+abbrev pub LeadsBy : Network → Bool → List Entry → List (Exchange HostLine HostReply) → Link
+    → Option ℕ → Type 0
+LeadsBy network false since exchanges link heard =
+    LeadsAt network false since exchanges link heard
+LeadsBy network true since exchanges link None = LeadsAt network true since exchanges link None
+LeadsBy network true since exchanges link (Some many) =
+    IsHeardBehind network since exchanges link many
+
 -- and where the standby told that it has so many entries, more than the history
-abbrev pub IsAheadBy : Network → List Entry → List (Exchange HostLine HostReply) → Link → ℕ
+abbrev pub IsAheadBy : Network → Bool → List Entry → List (Exchange HostLine HostReply) → Link → ℕ
     → Type 0
-IsAheadBy network since exchanges link count = (state : HostState)
-    × AreHostSteps network exchanges (host_from since) state
+IsAheadBy network required since exchanges link count = (state : HostState)
+    × AreHostSteps network required exchanges (host_from since) state
     × TellsAhead state.history link.given count

@@ -5,13 +5,16 @@ ghost use Rattle.hose_law.specs.History.{IsSound};
 ghost use Rattle.hose_book.specs.Ledger.{HasBookOf};
 ghost use Rattle.hose_clerk.specs.Tally.{no_tally};
 ghost use Rattle.hose_clerk.specs.steps.Answering.{AreSessionsKept, GrowsWith, HasHosted};
+ghost use Rattle.hose_clerk.specs.steps.Linking.{is_required, link_state};
 ghost use Rattle.hose_net.specs.Story.{no_link};
 
-use crate::desk::{Desk, topology_of};
+use crate::desk::{Desk, entries_of, topology_of};
 use crate::doors::{DoorRule, rule_of};
+use crate::fence::{Fence, Mark, set_if};
 use crate::figures::Figures;
 use crate::linking::{
-    LinkNotes, StandbyAt, ahead_at, ask_if, is_ended, may_go_alone, path_of, patience_with,
+    LinkNotes, StandbyAt, ahead_at, ask_if, is_ended, is_required, may_go_alone, path_of,
+    patience_with,
 };
 use crate::replies::{HostReply, put_host_reply};
 use crate::sessions::{Session, is_over, make_room, put, take};
@@ -28,7 +31,7 @@ use std::alloc::{AllocError, Global};
 
 /// Who answers the lines of all connections by one book: what answers them, the rule of each door,
 /// and how far each session is, by its place; and where replies wait for a standby, how far the
-/// link to it is.
+/// link to it is, and what of it the standby has passed.
 #[derive(Drop)]
 pub struct Clerk<K: Books + History + Drop, R: RowMaker + Drop, L: Log> {
     pub desk: Desk<K, R, L>,
@@ -36,6 +39,7 @@ pub struct Clerk<K: Books + History + Drop, R: RowMaker + Drop, L: Log> {
     pub sessions: Vec<Session>,
     pub awaited: Option<StandbyAt>,
     pub standby: Standby,
+    pub fence: Fence,
     pub notes: LinkNotes,
 }
 
@@ -61,8 +65,9 @@ impl<K: Books + History + Drop, R: RowMaker + Drop, L: Log> Clerk<K, R, L> {
         ensures hosted { (since : List Entry) → IsSound (K.ledger core.books).network 0 since
             → HasBookOf 0 since (K.ledger core.books)
             → K.History.is_of core.books (K.ledger core.books).network since
-            → HasHosted K.Books K.History.is_of since core.books core.books result.sessions.items
-            false no_tally result.standby [] no_link }
+            → HasHosted K.Books K.History.is_of (is_required awaited) since core.books core.books
+            result.sessions.items false no_tally
+            (link_state awaited result.standby result.fence) [] no_link }
     {
         let figures = Figures::new(log.nanos(), awaited.is_some());
         Clerk {
@@ -78,6 +83,7 @@ impl<K: Books + History + Drop, R: RowMaker + Drop, L: Log> Clerk<K, R, L> {
             sessions: Vec::new(alloc),
             awaited,
             standby: Standby::new(alloc),
+            fence: Fence::new(),
             notes: LinkNotes::new(),
         }
     }
@@ -92,6 +98,7 @@ impl<K: Books + History + Drop, R: RowMaker + Drop, L: Log> Clerk<K, R, L> {
             sessions: _sessions,
             awaited: _awaited,
             standby: _standby,
+            fence: _fence,
             notes: _notes,
         } = self;
         let Desk {
@@ -121,7 +128,7 @@ impl<K: Books + History + Drop, R: RowMaker + Drop, L: Log> HostAnswers for Cler
     ghost use Rattle.hose_clerk.specs.Hosting.{IsAheadBy, LeadsBy};
     ghost use Rattle.hose_clerk.specs.steps.Answering.{AreSessionsKept, GrowsWith, HasHosted, NamesOf};
     ghost use Rattle.hose_clerk.specs.steps.Hosting.{AreHosted};
-    ghost use Rattle.hose_clerk.specs.steps.Linking.{goes_alone, path_at};
+    ghost use Rattle.hose_clerk.specs.steps.Linking.{goes_alone, is_required, link_state, needed_of, path_at};
     ghost use Rattle.hose_clerk.specs.steps.Sessions.{is_new_at, is_over_at, session_at};
 
     ghost said = { HostLine };
@@ -148,16 +155,20 @@ impl<K: Books + History + Drop, R: RowMaker + Drop, L: Log> HostAnswers for Cler
     // a history, and who answers from there on
     ghost origin = { List Entry × Self };
 
-    ghost comes = { λ from exchanges link clerk. HasHosted K.Books K.History.is_of from.0
-        from.1.desk.core.books clerk.desk.core.books clerk.sessions.items clerk.desk.is_ending
-        clerk.desk.figures.tally clerk.standby exchanges link };
+    ghost comes = { λ from exchanges link clerk. HasHosted K.Books K.History.is_of
+        (is_required from.1.awaited) from.0 from.1.desk.core.books clerk.desk.core.books
+        clerk.sessions.items clerk.desk.is_ending clerk.desk.figures.tally
+        (link_state clerk.awaited clerk.standby clerk.fence) exchanges link };
 
     ghost stands = { λ from exchanges books. AreHosted K.Books
-        (K.ledger from.1.desk.core.books).network from.0 from.1.desk.core.books books exchanges };
+        (K.ledger from.1.desk.core.books).network (is_required from.1.awaited) from.0
+        from.1.desk.core.books books exchanges };
 
-    ghost leads = { λ from. LeadsBy (K.ledger from.1.desk.core.books).network from.0 };
+    ghost leads = { λ from. LeadsBy (K.ledger from.1.desk.core.books).network
+        (is_required from.1.awaited) from.0 };
 
-    ghost is_ahead = { λ from. IsAheadBy (K.ledger from.1.desk.core.books).network from.0 };
+    ghost is_ahead = { λ from. IsAheadBy (K.ledger from.1.desk.core.books).network
+        (is_required from.1.awaited) from.0 };
 
     ghost fits = { λ clerk.
         AreSessionsKept (K.ledger clerk.desk.core.books) clerk.sessions.items
@@ -171,7 +182,8 @@ impl<K: Books + History + Drop, R: RowMaker + Drop, L: Log> HostAnswers for Cler
 
     ghost ends = { λ clerk. clerk.desk.is_ending };
 
-    ghost count = { λ clerk. (K.ledger clerk.desk.core.books).book.epoch };
+    ghost count = { λ clerk. needed_of (is_required clerk.awaited) clerk.desk.figures.tally.lines
+        (K.ledger clerk.desk.core.books).book.epoch };
 
     ghost unsent = { λ clerk. clerk.standby.unsent };
 
@@ -206,7 +218,10 @@ impl<K: Books + History + Drop, R: RowMaker + Drop, L: Log> HostAnswers for Cler
     }
 
     fn counted(&self) -> u64 {
-        self.desk.core.books().book().epoch()
+        if is_required(&self.awaited) {
+            return self.desk.figures.tally.lines;
+        }
+        entries_of(&self.desk.core)
     }
 
     fn is_over(&self, place: usize) -> bool {
@@ -231,17 +246,35 @@ impl<K: Books + History + Drop, R: RowMaker + Drop, L: Log> HostAnswers for Cler
 
     fn link_opened(&mut self) {
         self.standby = Standby::new(self.desk.alloc);
+        self.fence.open();
     }
 
     fn take_in(&mut self, bytes: &[u8]) {
         self.standby.take_in(self.desk.core.books(), bytes);
-        self.desk.figures.hear(self.standby.heard());
+        let heard = self.standby.heard();
+        let entries = entries_of(&self.desk.core);
+        self.fence.hear(self.standby.answered(), heard, entries);
+        self.desk.figures.hear(heard);
+        let is_required = is_required(&self.awaited);
+        self.notes.tell_news(
+            self.desk.alloc,
+            &mut self.desk.log,
+            &self.fence,
+            is_required,
+        );
         self.notes
             .tell_ending(self.desk.alloc, &mut self.desk.log, self.standby.stage());
     }
 
     fn gather(&mut self, asks: bool) {
-        ask_if(&mut self.standby, asks);
+        // What is handed out from here on is behind all lines that were answered.
+        let mark = Mark {
+            lines: self.desk.figures.tally.lines,
+            entries: entries_of(&self.desk.core),
+            packets: self.standby.handed(),
+        };
+        let marks = set_if(&mut self.fence, is_required(&self.awaited), mark);
+        ask_if(&mut self.standby, asks || marks);
         // Where memory is wanting it is tried again.
         let _filled = self.standby.fill(self.desk.core.books());
         self.notes
@@ -257,13 +290,21 @@ impl<K: Books + History + Drop, R: RowMaker + Drop, L: Log> HostAnswers for Cler
     }
 
     fn heard(&self) -> Option<u64> {
-        self.standby.heard()
+        let heard = self.standby.heard();
+        if is_required(&self.awaited) {
+            return self.fence.lines_passed(self.standby.answered(), heard);
+        }
+        heard
+    }
+
+    fn is_news(&self) -> bool {
+        self.fence.is_news
     }
 
     fn ahead(&self) -> Option<u64> {
         let count = ahead_at(self.standby.stage())?;
         // Entries may have come since.
-        if count <= self.counted() {
+        if count <= entries_of(&self.desk.core) {
             return None;
         }
         Some(count)
@@ -274,8 +315,9 @@ impl<K: Books + History + Drop, R: RowMaker + Drop, L: Log> HostAnswers for Cler
     }
 
     fn tell_hold(&mut self, hold: Hold) {
+        let heard = self.standby.heard();
         self.desk.figures.hold(hold);
         self.notes
-            .tell_hold(self.desk.alloc, &mut self.desk.log, hold);
+            .tell_hold(self.desk.alloc, &mut self.desk.log, hold, heard);
     }
 }

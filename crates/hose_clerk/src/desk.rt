@@ -1,10 +1,10 @@
 // What answers the lines of one session after the other.
-ghost use Rattle.std.specs.Prelude.{◌≡◌, ℕ, [], true, false};
+ghost use Rattle.std.specs.Prelude.{◌≡◌, ℕ, true, false};
 ghost use Rattle.hose_graph.specs.steps.Naming.{AsksOf};
-ghost use Rattle.hose_words.specs.Grammar.{IsFirstNotAllowed};
+ghost use Rattle.hose_words.specs.Shapes.{IsFirstWrong};
 ghost use Rattle.hose_words.specs.Words.{words_of};
 ghost use Rattle.hose_law.specs.Transcript.SessionLine.{Asks};
-ghost use Rattle.hose_proto.specs.Command.{command_grammar};
+ghost use Rattle.hose_proto.specs.Command.{command_shape};
 ghost use Rattle.hose_core.specs.steps.Holding.{AreAllKept};
 ghost use Rattle.hose_clerk.specs.HostLines.{SaysBy, SaysLaterAt};
 ghost use Rattle.hose_clerk.specs.HostLines.HostLine.{Speaks};
@@ -47,6 +47,13 @@ pub fn topology_of<K: Books + Drop>(core: &Core<K>) -> &Topology
     ensures { result.now ≡ (K.ledger core.now.books).network }
 {
     core.books().book().topology()
+}
+
+/// How many entries a core's book has.
+pub fn entries_of<K: Books + Drop>(core: &Core<K>) -> u64
+    ensures { result ≡ (K.ledger core.now.books).book.epoch }
+{
+    core.books().book().epoch()
 }
 
 // The nanoseconds of a clock where it is asked, else 0.
@@ -175,8 +182,8 @@ impl<K: Books + Drop, R: RowMaker + Drop, L: Log> Desk<K, R, L> {
 
     // The reply to a line that asks for no command, of which this word is not allowed in one.
     fn answer_other(&self, client: Client, word: u64, text: &[u8]) -> (HostReply, Session)
-        requires word { IsFirstNotAllowed (command_grammar (K.ledger self.now.core.books).network)
-            [] (words_of text.now) word }
+        requires word { IsFirstWrong (command_shape (K.ledger self.now.core.books).network)
+            (words_of text.now) word }
         requires kept { AreAllKept (K.ledger self.now.core.books) client.quotes }
         ensures { AnswersText K.Books self.now.figures.tally self.now.core.books (Serving client)
             text.now result.0 result.1 }

@@ -1,9 +1,10 @@
 // Who may greet at a door, and the greeting there.
-ghost use Rattle.std.specs.Prelude.{◌≡◌, ◌↔◌, [], IfErr, IfOk, IsTrue};
-ghost use Rattle.hose_words.specs.Grammar.{IsFirstNotAllowed};
+ghost use Rattle.std.specs.Prelude.{◌≡◌, ◌↔◌, IfErr, IfOk, IsTrue};
+ghost use Rattle.hose_words.specs.Shapes.{IsFirstWrong};
 ghost use Rattle.hose_words.specs.Words.{words_of};
 ghost use Rattle.hose_words.specs.steps.Cursor.{Misses, Took};
-ghost use Rattle.hose_clerk.specs.HostLines.{IsGreetingAt, MayGreet, IsNameAt, greeting_grammar_at, rule_at};
+ghost use Rattle.hose_greeting.specs.SessionLines.{IsGreeting, greeting_shape};
+ghost use Rattle.hose_clerk.specs.HostLines.{MayGreet, IsNameAt, rule_at};
 ghost use Rattle.hose_clerk.specs.steps.Shown.{IsGreetedAt};
 
 use hose_graph::{Name, Reply};
@@ -60,9 +61,9 @@ pub fn greeting_at(rule: DoorRule, line: Line<'_>) -> Result<Name, Reply>
 
 // The name in a greeting, `hello NAME`.
 fn read_greeting(rule: DoorRule, line: &[u8]) -> Result<Name, WrongWord>
-    ensures ok { IfOk result (IsGreetingAt rule line.now) }
+    ensures ok { IfOk result (IsGreeting (IsNameAt rule) line.now) }
     ensures bad { IfErr result (λ wrong.
-        IsFirstNotAllowed (greeting_grammar_at rule) [] (words_of line.now) wrong.number) }
+        IsFirstWrong (greeting_shape (IsNameAt rule)) (words_of line.now) wrong.number) }
 {
     let mut words = Cursor::new(line);
     words.expect(b"hello")?;

@@ -1,5 +1,5 @@
 // What there was since the start, counted.
-ghost use Rattle.std.specs.Prelude.{◌≡◌, Some};
+ghost use Rattle.std.specs.Prelude.{◌≡◌, ◌≤◌, Some};
 ghost use Rattle.hose_io.specs.steps.Gather.{IsAdded};
 ghost use Rattle.hose_clerk.specs.HostReplies.{comers_text, failures_text, figures_text, orders_text, standby_text, times_text};
 ghost use Rattle.hose_clerk.specs.Tally.{no_tally, tally_with};
@@ -111,7 +111,8 @@ impl Figures {
 
     /// One line more, with this reply.
     pub fn count(&mut self, reply: &HostReply)
-        ensures { self.new.tally ≡ tally_with reply.now self.old.tally }
+        ensures tally { self.new.tally ≡ tally_with reply.now self.old.tally }
+        ensures rises { self.old.tally.lines ≤ self.new.tally.lines }
     {
         self.tally.count(reply);
     }

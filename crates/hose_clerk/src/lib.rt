@@ -13,7 +13,8 @@
 //! Each order, and each reply that tells a failure, is told to a log.
 //!
 //! Where replies wait for a standby, it is handed out what it lacks of the history, and heard to
-//! have entries, by the bytes of one link to it at a time.
+//! have entries, by the bytes of one link to it at a time. Where it is required, each reply waits
+//! until it answered what it was sent behind the line, and has what stood then.
 //!
 //! ```
 //! let doors = vec![in alloc; DoorRule::AnyButOperator]?;
@@ -26,6 +27,7 @@
 mod clerk;
 mod desk;
 mod doors;
+mod fence;
 mod figures;
 mod linking;
 mod log_lines;
@@ -38,6 +40,7 @@ mod times;
 pub use clerk::Clerk;
 pub use desk::Desk;
 pub use doors::DoorRule;
+pub use fence::{Fence, Mark};
 pub use figures::Figures;
 pub use linking::{LinkNotes, StandbyAt};
 pub use replies::HostReply;

@@ -2,11 +2,12 @@
 ghost use Rattle.std.specs.Prelude.{◌≡◌, ℕ, List, IfSome, option_map};
 ghost use Rattle.hose_graph.specs.Network.{Network};
 ghost use Rattle.hose_graph.specs.declared.entry.Entry.{Entry};
-ghost use Rattle.hose_clerk.specs.steps.Linking.{goes_alone, path_at};
+ghost use Rattle.hose_clerk.specs.steps.Linking.{goes_alone, is_required, path_at};
 ghost use Rattle.hose_lead.specs.steps.Standby.{IsLed};
 ghost use Rattle.hose_lead.specs.declared.stage.Ending.TheVariants.{Ahead};
 ghost use Rattle.hose_lead.specs.declared.stage.Stage.TheVariants.{Ended};
 
+use crate::fence::Fence;
 use hose_io::{Gather, MemSink};
 use hose_lead::{Ending, Stage, Standby};
 use hose_log::Log;
@@ -45,6 +46,13 @@ pub fn may_go_alone(awaited: &Option<StandbyAt>) -> bool
         Some(at) => !at.or_stop,
         None => true,
     }
+}
+
+/// Whether no reply is told without a standby.
+pub fn is_required(awaited: &Option<StandbyAt>) -> bool
+    ensures { result ≡ is_required awaited.now }
+{
+    !may_go_alone(awaited)
 }
 
 /// For how many seconds nothing may be heard of a standby: until its first answer, and later.
@@ -108,22 +116,45 @@ impl LinkNotes {
         }
     }
 
-    /// Tells how replies are held from now on, where that is news; and each time that they are not.
-    pub fn tell_hold<L: Log>(&mut self, alloc: Global, log: &mut L, hold: Hold) {
+    /// Tells how replies are held from now on, where that is news, with how many entries the
+    /// standby is heard to have; and each time that they are not.
+    pub fn tell_hold<L: Log>(
+        &mut self,
+        alloc: Global,
+        log: &mut L,
+        hold: Hold,
+        heard: Option<u64>,
+    ) {
         match hold {
             Hold::Alone => {
                 self.has_joined = false;
                 log.tell(b"standby", b"", b"alone");
             }
-            Hold::Upto(count) => {
-                if self.has_joined {
-                    return;
-                }
-                self.has_joined = true;
-                self.ending = None;
-                tell_number(alloc, log, b"joined at ", count);
-            }
+            Hold::Upto(_) => self.tell_joined(alloc, log, heard),
         }
+    }
+
+    // Tells that replies wait for a standby that is heard to have so many entries, where that is
+    // news.
+    fn tell_joined<L: Log>(&mut self, alloc: Global, log: &mut L, heard: Option<u64>) {
+        if self.has_joined {
+            return;
+        }
+        self.has_joined = true;
+        self.ending = None;
+        tell_number(alloc, log, b"joined at ", heard.unwrap_or(0));
+    }
+
+    /// Tells that a standby that is required has joined, once what is heard of it is news: replies
+    /// wait for it from the first line on.
+    pub fn tell_news<L: Log>(&mut self, alloc: Global, log: &mut L, at: &Fence, is_required: bool) {
+        if !is_required {
+            return;
+        }
+        if !at.is_news {
+            return;
+        }
+        self.tell_joined(alloc, log, Some(at.most));
     }
 
     /// Tells why a connection is of no use any more, where that is news.

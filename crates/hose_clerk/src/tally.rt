@@ -1,5 +1,5 @@
 // What was answered, counted by reply.
-ghost use Rattle.std.specs.Prelude.{◌≡◌};
+ghost use Rattle.std.specs.Prelude.{◌≡◌, ◌≤◌};
 ghost use Rattle.hose_clerk.specs.Tally.{no_tally, one_more, tally_told, tally_with};
 
 use crate::replies::HostReply;
@@ -40,7 +40,8 @@ impl Tally {
 
     /// One line more, with this reply.
     pub fn count(&mut self, reply: &HostReply)
-        ensures { self.new ≡ tally_with reply.now self.old }
+        ensures is { self.new ≡ tally_with reply.now self.old }
+        ensures rises { self.old.lines ≤ self.new.lines }
     {
         self.lines = one_more(self.lines);
         if let HostReply::Told(reply) = reply {
@@ -49,7 +50,8 @@ impl Tally {
     }
 
     fn count_told(&mut self, reply: &Reply)
-        ensures { self.new ≡ tally_told reply.now self.old }
+        ensures is { self.new ≡ tally_told reply.now self.old }
+        ensures lines { self.new.lines ≡ self.old.lines }
     {
         match reply {
             Reply::Admitted { .. } => self.admitted = one_more(self.admitted),
@@ -66,7 +68,8 @@ impl Tally {
 
 // One more than a count that is not at the type's end.
 fn one_more(count: u64) -> u64
-    ensures { result ≡ one_more count }
+    ensures is { result ≡ one_more count }
+    ensures rises { count ≤ result }
 {
     count.saturating_add(1)
 }

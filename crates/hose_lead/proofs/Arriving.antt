@@ -1,11 +1,11 @@
 -- Bytes of a connection come.
-use Rattle.std.proofs.Common.{◌≡◌, ◌≢◌, ◌∙◌, ℕ, List, [], ◌∷◌, ◌++◌, Option, Some, None, refl, sym, ap, subst, arith, append_assoc, append-nil, All}
+use Rattle.std.proofs.Common.{◌≡◌, ◌≢◌, ◌∙◌, ℕ, List, [], ◌∷◌, ◌++◌, Option, Some, None, refl, sym, ap, subst, arith, append_assoc, append-nil, length-append, All}
 use Rattle.std.specs.List.{flat_map}
 use Rattle.std.proofs.lemmas.List.Concat.{flat_map-append}
 use Rattle.std.proofs.lemmas.List.Elements.{All-nil, All-push}
 use Rattle.hose_graph.specs.Network.{Network}
 use Rattle.hose_graph.specs.declared.entry.Entry.{Entry}
-use Rattle.hose_lead.specs.steps.Standby.{HandsOut, IsLed, IsOpen, RisesTo, StandbyState, TakesIn}
+use Rattle.hose_lead.specs.steps.Standby.{HandsOut, IsLed, IsOpen, RisesTo, StandbyState, TakesIn, counted_more}
 use Rattle.hose_lead.specs.steps.Taking.{Knows, Takes}
 use Rattle.hose_lead.proofs.Growing.{handed_at}
 use Rattle.hose_lead.specs.declared.stage.Ending.TheVariants.{Stranger}
@@ -27,6 +27,8 @@ module _ (network : Network) (list : List Entry) (came sent : List ℕ) (old : S
     handed = led.handed;
     at = led.at;
     heard = led.heard;
+    counted = led.counted;
+    numbered = led.numbered;
   }
 
   -- a byte of a line comes
@@ -41,6 +43,8 @@ module _ (network : Network) (list : List Entry) (came sent : List ℕ) (old : S
     handed = led.handed;
     at = led.at;
     heard = led.heard;
+    counted = led.counted;
+    numbered = led.numbered;
   }
 
   -- a byte too much comes
@@ -55,6 +59,8 @@ module _ (network : Network) (list : List Entry) (came sent : List ℕ) (old : S
     handed = led.handed;
     at = (handed_at network list led.lines led.packets old.heard old.stage led.at, tt);
     heard = led.heard;
+    counted = led.counted;
+    numbered = led.numbered;
   }
 
   ends_line : (lines : List (List ℕ)) (rest line : List ℕ) → came ≡ flat_map line_of lines ++ rest → rest ≡ line → came ++ 10 ∷ [] ≡ flat_map line_of (lines ++ line ∷ []) ++ []
@@ -67,10 +73,10 @@ module _ (network : Network) (list : List Entry) (came sent : List ℕ) (old : S
       ∙ sym (append-nil (flat_map line_of (lines ++ line ∷ [])))
 
   -- the line feed of a line comes
-  pub led_line : (new : StandbyState) (text : List ℕ) → IsOpen old.stage → old.line ≡ text → Takes network list text (record old { line = [] }) new
+  pub led_line : (new : StandbyState) (text : List ℕ) → IsOpen old.stage → old.line ≡ text → Takes network list text (record old { line = []; answered = counted_more old.answered }) new
       → IsLed network list came sent old → IsLed network list (came ++ 10 ∷ []) sent new
   led_line new text opens is takes led =
-      let knows : Knows network list led.lines led.packets (record old { line = [] }) = record { at = led.at; heard = led.heard } in
+      let knows : Knows network list led.lines led.packets (record old { line = []; answered = counted_more old.answered }) = record { at = led.at; heard = led.heard } in
       let then = takes.knows led.lines led.packets knows in
       let coming = led.coming opens in
       record {
@@ -83,6 +89,8 @@ module _ (network : Network) (list : List Entry) (came sent : List ℕ) (old : S
         handed = ap (λ (l : List ℕ). sent ++ l) takes.same_unsent ∙ led.handed;
         at = then.at;
         heard = then.heard;
+        counted = omega (arith, takes.same_answered, led.counted, length-append led.lines (text ∷ []));
+        numbered = λ few. omega (arith, takes.same_handed, led.numbered (omega (arith, few, takes.same_handed)));
       }
 
 -- ---- how much is heard

@@ -8,16 +8,16 @@ use Rattle.hose_follow.specs.Packet.{Packet, packet_bytes}
 use Rattle.hose_follow.specs.Replication.{packet_at}
 use Rattle.hose_lead.specs.steps.History.{IsPacketBehind}
 use Rattle.hose_lead.specs.Leading.{ask_epoch, ask_have, ask_value, asked_again, entry_more}
-use Rattle.hose_lead.specs.steps.Standby.{EndsFor, HandsOut, IsAt, IsFilled, IsLed, IsOpen, StandbyState, TellsWhy}
+use Rattle.hose_lead.specs.steps.Standby.{EndsFor, HandsOut, IsAt, IsFilled, IsLed, IsOpen, StandbyState, TellsWhy, counted_more}
 use Rattle.hose_lead.proofs.Arriving.{hands_none}
 use Rattle.hose_lead.proofs.Handing.{led_asks, led_ends, led_hands}
 use Rattle.hose_lead.specs.declared.stage.Ending.{Ending}
 use Rattle.hose_lead.specs.declared.stage.Stage.{Stage}
 use Rattle.hose_lead.specs.declared.stage.Stage.TheVariants.{Unasked, AskedEpoch, ToldEpoch, AskedValue, Following, Ended}
 
--- the state after bytes were handed out
+-- the state after the bytes of a packet were handed out
 abbrev pub with_unsent : StandbyState → List ℕ → Stage → StandbyState
-with_unsent old bytes stage = record old { unsent = old.unsent ++ bytes; stage = stage }
+with_unsent old bytes stage = record old { unsent = old.unsent ++ bytes; stage = stage; handed = counted_more old.handed }
 
 module _ (is_of : Network → List Entry → Type 0) (old : StandbyState) where
   -- bytes were handed out, or no memory was left and nothing changed

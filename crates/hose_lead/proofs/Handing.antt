@@ -1,10 +1,10 @@
 -- What was handed out grows.
-use Rattle.std.proofs.Common.{◌≡◌, ◌∙◌, ℕ, Bool, List, [], ◌∷◌, ◌++◌, take, drop, sym, ap, append_assoc, take-append-drop, append-nil}
+use Rattle.std.proofs.Common.{◌≡◌, ◌∙◌, ℕ, Bool, List, [], ◌∷◌, ◌++◌, take, drop, sym, ap, arith, append_assoc, length-append, take-append-drop, append-nil}
 use Rattle.std.proofs.lemmas.List.Concat.{flat_map-append}
 use Rattle.hose_graph.specs.Network.{Network}
 use Rattle.hose_graph.specs.declared.entry.Entry.{Entry}
 use Rattle.hose_follow.specs.Packet.{Packet, packet_bytes, packets_bytes}
-use Rattle.hose_lead.specs.steps.Standby.{IsAt, IsLed, IsOpen, StandbyState, TellsWhy}
+use Rattle.hose_lead.specs.steps.Standby.{IsAt, IsLed, IsOpen, StandbyState, TellsWhy, counted_more}
 use Rattle.hose_lead.proofs.Growing.{handed_at}
 use Rattle.hose_lead.specs.declared.stage.Ending.{Ending}
 use Rattle.hose_lead.specs.declared.stage.Stage.{Stage}
@@ -22,7 +22,7 @@ module _ (network : Network) (list : List Entry) (came sent : List ℕ) (old : S
   -- a packet is handed out, which brings a connection to a stage
   pub led_hands : (packet : Packet) (stage : Stage) → (led : IsLed network list came sent old) → (IsOpen stage → IsOpen old.stage)
       → IsAt network list led.lines (led.packets ++ packet ∷ []) old.heard stage
-      → IsLed network list came sent (record old { unsent = old.unsent ++ packet_bytes packet; stage = stage })
+      → IsLed network list came sent (record old { unsent = old.unsent ++ packet_bytes packet; stage = stage; handed = counted_more old.handed })
   led_hands packet stage led opens at = record {
     lines = led.lines;
     rest = led.rest;
@@ -33,6 +33,8 @@ module _ (network : Network) (list : List Entry) (came sent : List ℕ) (old : S
     handed = one_more led.packets packet sent old.unsent led.handed;
     at = at;
     heard = led.heard;
+    counted = led.counted;
+    numbered = λ few. omega (arith, few, led.numbered (omega (arith, few)), length-append led.packets (packet ∷ []));
   }
 
   -- a connection ends
@@ -47,6 +49,8 @@ module _ (network : Network) (list : List Entry) (came sent : List ℕ) (old : S
     handed = led.handed;
     at = (handed_at network list led.lines led.packets old.heard old.stage led.at, told led.lines);
     heard = led.heard;
+    counted = led.counted;
+    numbered = led.numbered;
   }
 
   -- whether a `have` is to be asked for says nothing of it
@@ -61,6 +65,8 @@ module _ (network : Network) (list : List Entry) (came sent : List ℕ) (old : S
     handed = led.handed;
     at = led.at;
     heard = led.heard;
+    counted = led.counted;
+    numbered = led.numbered;
   }
 
   -- so many bytes were sent
@@ -75,4 +81,6 @@ module _ (network : Network) (list : List Entry) (came sent : List ℕ) (old : S
     handed = append_assoc sent (take count old.unsent) (drop count old.unsent) ∙ ap (λ (l : List ℕ). sent ++ l) (take-append-drop count old.unsent) ∙ led.handed;
     at = led.at;
     heard = led.heard;
+    counted = led.counted;
+    numbered = led.numbered;
   }

@@ -26,6 +26,8 @@ module _ (network : Network) (list : List Entry) (old : StandbyState) where
     };
     same_line = refl;
     same_unsent = refl;
+    same_handed = refl;
+    same_answered = refl;
   }
 
   -- how many entries a follower has is told
@@ -38,6 +40,8 @@ module _ (network : Network) (list : List Entry) (old : StandbyState) where
         record { at = (at.0, at.1, told, within); heard = may_heard_more network list lines (offered_text answer) old.heard knows.heard };
     same_line = refl;
     same_unsent = refl;
+    same_handed = refl;
+    same_answered = refl;
   }
 
   -- a follower is compared, and begins as the history does
@@ -61,6 +65,8 @@ module _ (network : Network) (list : List Entry) (old : StandbyState) where
         };
     same_line = refl;
     same_unsent = refl;
+    same_handed = refl;
+    same_answered = refl;
   }
 
   -- how many entries a follower has that was compared
@@ -83,6 +89,8 @@ module _ (network : Network) (list : List Entry) (old : StandbyState) where
         };
     same_line = refl;
     same_unsent = refl;
+    same_handed = refl;
+    same_answered = refl;
   }
     where
       at_have : (lines : List (List ℕ)) (packets : List Packet) → Knows network list lines packets old → (text : List ℕ) → IsAt network list (lines ++ text ∷ []) packets (Some n) old.stage

@@ -23,6 +23,8 @@ module _ (network : Network) (list : List Entry) (came sent : List ℕ) (state :
     handed = led.handed;
     at = at_longer network list more led.lines led.packets state.heard state.stage led.at;
     heard = heard_longer network list more led.lines state.heard led.heard;
+    counted = led.counted;
+    numbered = led.numbered;
   }
 
   heard_at : (led : IsLed network list came sent state) (count : ℕ) → state.heard ≡ Some count → IsHeard network list led.lines count

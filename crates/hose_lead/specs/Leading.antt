@@ -126,3 +126,17 @@ pub record TellsAhead (list : List Entry) (given : List ℕ) (count : ℕ) : Typ
   pub whole : BeginWith given lines
   pub told : TellsEpoch lines count
   pub more : length list < count
+
+-- A follower answered, by what a connection gave, a packet that was sent behind these bytes there:
+-- they are a beginning of some packets that are handed out where the history has these entries, it
+-- told more lines than these packets are, and it answers each packet by one line, in order.
+pub record AnswersBehind (network : Network) (list : List Entry) (given early : List ℕ) :
+    Type 0 where
+  pub told : List (List ℕ)
+  pub first : List Packet
+  pub are : AreHandedOut network list told first
+  pub rest : List ℕ
+  pub within : early ++ rest ≡ packets_bytes first
+  pub lines : List (List ℕ)
+  pub whole : BeginWith given lines
+  pub more : length first < length lines

@@ -4,7 +4,7 @@ ghost use Rattle.hose_graph.specs.Network.{Network};
 ghost use Rattle.hose_graph.specs.declared.entry.Entry.{Entry};
 ghost use Rattle.hose_graph.specs.Limits.{most_epoch};
 ghost use Rattle.hose_follow.specs.Answers.{offered_text};
-ghost use Rattle.hose_lead.specs.steps.Standby.{EndsFor, HandsOut, IfEnded, IsFilled, IsLed, IsOpen, LacksNothing, RisesTo, TakesIn, TellsWhy};
+ghost use Rattle.hose_lead.specs.steps.Standby.{EndsFor, HandsOut, IfEnded, IsFilled, IsLed, IsOpen, LacksNothing, RisesTo, TakesIn, TellsWhy, counted_more};
 ghost use Rattle.hose_lead.specs.steps.Taking.{Takes};
 
 use crate::coming::ComingLine;
@@ -33,6 +33,10 @@ pub struct Standby {
     stage: Stage,
     heard: Option<u64>,
     asks: bool,
+    // How many packets were handed out, and how many lines came whole. Each count stays at the
+    // type's end.
+    handed: u64,
+    answered: u64,
 }
 
 impl Model for Standby {
@@ -46,6 +50,8 @@ impl Model for Standby {
       stage = standby.stage;
       heard = standby.heard;
       asks = standby.asks;
+      handed = standby.handed;
+      answered = standby.answered;
     } };
 }
 
@@ -62,6 +68,8 @@ impl Standby {
             stage: Stage::Unasked,
             heard: None,
             asks: false,
+            handed: 0,
+            answered: 0,
         }
     }
 
@@ -77,6 +85,21 @@ impl Standby {
         ensures { result ≡ self.now.heard }
     {
         self.heard
+    }
+
+    /// How many packets were handed out on this connection. The count stays at the type's end.
+    pub fn handed(&self) -> u64
+        ensures { result ≡ self.now.handed }
+    {
+        self.handed
+    }
+
+    /// How many whole lines the follower gave on this connection, while it was followed: it answers
+    /// each packet by one. The count stays at the type's end.
+    pub fn answered(&self) -> u64
+        ensures { result ≡ self.now.answered }
+    {
+        self.answered
     }
 
     /// The bytes that are to be sent next.
@@ -139,16 +162,18 @@ impl Standby {
         self.add(&probe_packet(ASKING_EPOCH), Stage::AskedEpoch)
     }
 
-    // Hands bytes out, which brings it to a stage.
+    // Hands the bytes of a packet out, which brings it to a stage.
     fn add(&mut self, bytes: &[u8], stage: Stage) -> Result<(), AllocError>
         ensures ok { OnOk result (self.new ≡ record self.old {
           unsent = self.old.unsent ++ bytes.now;
           stage = stage;
+          handed = counted_more self.old.handed;
         }) }
         ensures err { OnErr result (self.new ≡ self.old) }
     {
         self.output.extend_from_slice(bytes)?;
         self.stage = stage;
+        self.handed = self.handed.saturating_add(1);
         Ok(())
     }
 
@@ -386,13 +411,15 @@ impl Standby {
         self.line.push(byte)
     }
 
-    // Takes out the line that came, and gives the answer that it is.
+    // Takes out the line that came, counts it, and gives the answer that it is.
     fn take_text(&mut self) -> Option<Offered>
         ensures answer { IfSome result (λ answer. self.old.line ≡ offered_text answer) }
-        ensures rest { self.new ≡ record self.old { line = [] } }
+        ensures rest { self.new
+            ≡ record self.old { line = []; answered = counted_more self.old.answered } }
     {
         let answer = read_answer(self.line.bytes());
         self.line.clear();
+        self.answered = self.answered.saturating_add(1);
         answer
     }
 

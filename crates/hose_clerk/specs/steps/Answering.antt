@@ -1,9 +1,8 @@
 -- How a line of one session is answered, and what all lines have come to: steps of proofs.
-use Rattle.std.specs.Prelude.{◌≡◌, ◌⊎◌, ℕ, Bool, false, List, [], IfSome, ⊤, Option}
+use Rattle.std.specs.Prelude.{◌≡◌, ◌⊎◌, ℕ, Bool, false, List, IfSome, ⊤, Option, length}
 use Rattle.hose_net.specs.Story.{Exchange, Link}
-use Rattle.hose_words.specs.Form.{IsChoice}
-use Rattle.hose_words.specs.Grammar.{IsFirst, IsFirstNotAllowed}
-use Rattle.hose_words.specs.Words.{words_of}
+use Rattle.hose_words.specs.Words.{IsChoice, IsFirst, words_of}
+use Rattle.hose_words.specs.Shapes.{IsFirstWrong}
 use Rattle.hose_words.specs.declared.lines.Line.{Line}
 use Rattle.hose_graph.specs.Network.{Network}
 use Rattle.hose_graph.specs.declared.command.Command.{Command}
@@ -21,15 +20,16 @@ use Rattle.hose_book.specs.Ledger.{HasBookOf, Ledger}
 use Rattle.hose_book.specs.steps.Commit.{IsMet, history_after}
 use Rattle.hose_book.specs.declared.books.Books.{Ghosts}
 use Rattle.hose_book.specs.declared.books.Committed.{Committed}
-use Rattle.hose_lead.specs.steps.Standby.{IsLed, StandbyState}
+use Rattle.hose_lead.specs.steps.Standby.{IsLed}
 use Rattle.hose_core.specs.steps.Holding.{AreAllKept, AreHeld, quotes_in}
 use Rattle.hose_core.specs.steps.Stepping.{Goes, IsSameOrNext, committed_of, history_with}
-use Rattle.hose_proto.specs.Command.{IsCommand, TakesMemory, command_grammar, verb_word}
+use Rattle.hose_proto.specs.Command.{IsCommand, TakesMemory, command_shape, verb_word}
 use Rattle.hose_greeting.specs.SessionLines.{IsBye}
 use Rattle.hose_clerk.specs.HostLines.{HostLine, IsCount, IsEnd}
 use Rattle.hose_clerk.specs.HostLines.HostLine.{Counts, Ends, Speaks}
 use Rattle.hose_clerk.specs.Hosting.{IsHostAnswer, disks_told}
 use Rattle.hose_clerk.specs.steps.Hosting.{AreHosted}
+use Rattle.hose_clerk.specs.steps.Linking.{AreMarks, IsMark, IsOrdered, LinkState}
 use Rattle.hose_clerk.specs.declared.replies.HostReply.{HostReply}
 use Rattle.hose_clerk.specs.declared.replies.HostReply.TheVariants as reply
 use Rattle.hose_clerk.specs.declared.tally.Tally.{Tally}
@@ -51,7 +51,7 @@ SaysText network text (Speaks (Greets name)) = ⊥
 SaysText network text (Speaks (Asks command)) = IsCommand network (words_of text) command
 SaysText network text (Speaks Leaves) = IsBye text
 SaysText network text (Speaks (IsBad word)) = (¬ IsBye text)
-    × IsFirstNotAllowed (command_grammar network) [] (words_of text) word
+    × IsFirstWrong (command_shape network) (words_of text) word
     × (¬ IsEnd text) × (¬ IsCount text)
 SaysText network text (Speaks IsLong) = ⊥
 SaysText network text (Speaks Unread) = IsFirst (IsChoice TakesMemory verb_word) (words_of text)
@@ -170,12 +170,12 @@ GrowsWith {K} books is_of = (network : Network) (history : List Entry) (old new 
 
 -- Lines were answered from a history on, by books that were first so, and have come to these: each
 -- session fits where the host is, and the replies were counted. The books are of the history there,
--- and what a link to a standby gave and was sent has led to this state.
+-- and what a link to a standby gave and was sent has led to how far it is, and its marks were made.
 pub record HasHosted {K R : Type 0} (books : Ghosts K R)
-    (is_of : K → Network → List Entry → Type 0) (since : List Entry) (first now : K)
-    (sessions : List Session) (ended : Bool) (tally : Tally) (standby : StandbyState)
+    (is_of : K → Network → List Entry → Type 0) (required : Bool) (since : List Entry)
+    (first now : K) (sessions : List Session) (ended : Bool) (tally : Tally) (by : LinkState)
     (exchanges : List (Exchange HostLine HostReply)) (link : Link) : Type 0 where
-  pub hosted : AreHosted books (books.ledger first).network since first now exchanges
+  pub hosted : AreHosted books (books.ledger first).network required since first now exchanges
   pub book : HasBookOf 0 hosted.state.history (books.ledger now)
   pub network : (books.ledger now).network ≡ (books.ledger first).network
   pub sits : (place : ℕ) → FitsStage (books.ledger now).network hosted.state.history
@@ -183,4 +183,9 @@ pub record HasHosted {K R : Type 0} (books : Ghosts K R)
   pub ends : hosted.state.ended ≡ ended
   pub counted : hosted.state.tally ≡ tally
   pub history : is_of now (books.ledger first).network hosted.state.history
-  pub led : IsLed (books.ledger first).network hosted.state.history link.given link.sent standby
+  pub led : IsLed (books.ledger first).network hosted.state.history link.given link.sent by.standby
+  pub requires : by.required ≡ required
+  pub answered : link.answered ≡ length exchanges
+  pub ordered : IsOrdered link
+  pub marks : AreMarks (IsMark (books.ledger first).network required since exchanges hosted.state
+      link.early) by.fence

@@ -1,5 +1,5 @@
 -- All lines that a host answered.
-use Rattle.std.specs.Prelude.{List, length}
+use Rattle.std.specs.Prelude.{Bool, List, length}
 use mathlib.Core.List.{IsPrefix}
 use Rattle.hose_io.specs.Frame.{Stays}
 use Rattle.hose_net.specs.Story.{Exchange}
@@ -17,12 +17,13 @@ use Rattle.hose_clerk.specs.Hosting.{HostState, host_from, AreHostSteps, IsAsked
 -- were committed to books that were first so. Failures of a disk were told no more often than the
 -- count of the books rose.
 pub record AreHosted {K R : Type 0} (books : BooksGhosts K R) (network : Network)
-    (since : List Entry) (first last : K) (exchanges : List (Exchange HostLine HostReply)) :
-    Type 0 where
+    (required : Bool) (since : List Entry) (first last : K)
+    (exchanges : List (Exchange HostLine HostReply)) : Type 0 where
   pub state : HostState
-  pub steps : AreHostSteps network exchanges (host_from since) state
+  pub steps : AreHostSteps network required exchanges (host_from since) state
   pub decided : IsDecided network 0 (length since) state.history
   pub begins : IsPrefix since state.history
-  pub goes_on : GoesOn books (IsAskedOf since exchanges) network since first state.history last
+  pub goes_on : GoesOn books (IsAskedOf required since exchanges) network since first state.history
+      last
   pub stays : Stays (books.frame first) (books.frame last)
   pub disks : TellsDisks (books.frame first).faults exchanges (books.frame last).faults

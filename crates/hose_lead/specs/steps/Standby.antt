@@ -1,5 +1,5 @@
 -- What a leader knows of a follower on one connection, by the bytes that came and were sent there.
-use Rattle.std.specs.Prelude.{◌≡◌, ◌≢◌, ◌⊎◌, ℕ, Bool, false, ◌<◌, ◌≤◌, List, [], ◌∷◌, ◌++◌, Option, None, IfSome, MatchOption, IsSomeAnd, All, length, ⊤}
+use Rattle.std.specs.Prelude.{◌≡◌, ◌≢◌, ◌⊎◌, ℕ, ◌+◌, ◌-◌, ◌^◌, Bool, false, min, ◌<◌, ◌≤◌, List, [], ◌∷◌, ◌++◌, Option, None, IfSome, MatchOption, IsSomeAnd, All, length, ⊤}
 use Rattle.std.specs.List.{flat_map}
 use Rattle.hose_graph.specs.Network.{Network}
 use Rattle.hose_graph.specs.declared.entry.Entry.{Entry}
@@ -12,13 +12,20 @@ use Rattle.hose_lead.specs.declared.stage.Stage.TheVariants.{Unasked, AskedEpoch
 
 -- what contracts see of a connection to a follower: the bytes of the line that is coming, those
 -- that are handed out and not sent yet, how far it is, how many entries the follower is heard to
--- have, and whether a `have` is to be asked for
+-- have, whether a `have` is to be asked for, how many packets were handed out, and how many lines
+-- came whole
 pub record StandbyState : Type 0 where
   pub line : List ℕ
   pub unsent : List ℕ
   pub stage : Stage
   pub heard : Option ℕ
   pub asks : Bool
+  pub handed : ℕ
+  pub answered : ℕ
+
+-- one more, up to the greatest number that a count holds
+abbrev pub counted_more : ℕ → ℕ
+counted_more count = min (count + 1) (2 ^ 64 - 1)
 
 -- Nothing more is to be handed out: an answer is waited for, or all entries were, and no `have` is
 -- to be asked for.
@@ -65,7 +72,8 @@ IsOpen (Following start upto) = ⊤
 IsOpen (Ended why) = ⊥
 
 -- What came and what was sent since a connection's beginning has led to this state, where the
--- history has these entries by now.
+-- history has these entries by now. No more lines are counted than came, and all packets that were
+-- handed out, unless their count stands at its type's end.
 pub record IsLed (network : Network) (list : List Entry) (came sent : List ℕ)
     (state : StandbyState) : Type 0 where
   pub lines : List (List ℕ)
@@ -77,6 +85,8 @@ pub record IsLed (network : Network) (list : List Entry) (came sent : List ℕ)
   pub handed : sent ++ state.unsent ≡ packets_bytes packets
   pub at : IsAt network list lines packets state.heard state.stage
   pub heard : IfSome state.heard (IsHeard network list lines)
+  pub counted : state.answered ≤ length lines
+  pub numbered : state.handed < 2 ^ 64 - 1 → length packets ≤ state.handed
 
 -- ---- how it goes on
 

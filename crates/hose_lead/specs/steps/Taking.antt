@@ -21,6 +21,8 @@ pub record Takes (network : Network) (list : List Entry) (text : List ℕ)
       → Knows network list (lines ++ text ∷ []) packets new
   pub same_line : new.line ≡ old.line
   pub same_unsent : new.unsent ≡ old.unsent
+  pub same_handed : new.handed ≡ old.handed
+  pub same_answered : new.answered ≡ old.answered
 
 -- Packets at hand were given up.
 pub record Shortens (old new : RecentState) : Type 0 where
