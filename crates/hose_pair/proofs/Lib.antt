@@ -1,3 +1,12 @@
 pub mod Arrivals
+pub mod Behind
+pub mod Carried
 pub mod Compared
+pub mod Followed
 pub mod Lines
+pub mod Linked
+pub mod OneAnswer
+pub mod OneState
+pub mod Standby
+pub mod Together
+pub mod Values

@@ -59,7 +59,7 @@ digits (b ∷ bytes) all =
     All-cons (λ byte. byte ≢ 10) (slice_index lower_digits (b / 16)) (slice_index lower_digits (b % 16) ∷ encode_lower bytes) (digit (b / 16) (omega (arith, small)))
     (All-cons (λ byte. byte ≢ 10) (slice_index lower_digits (b % 16)) (encode_lower bytes) (digit (b % 16) (omega arith)) (digits bytes (All-tail (λ byte. byte < 256) b bytes all)))
 
-no_feed : (answer : Offered) → IsWritten answer → NoFeed (offered_text answer)
+pub no_feed : (answer : Offered) → IsWritten answer → NoFeed (offered_text answer)
 no_feed (Have n) small = both (codes "have ") (decimal n) (known (codes "have ") refl) (number n small)
 no_feed (Want n) small = both (codes "want ") (decimal n) (known (codes "want ") refl) (number n small)
 no_feed (Differs at own given) (small, (_, bytes), (_, more)) =
@@ -74,7 +74,7 @@ no_feed (Disk at) small = both (codes "disk at ") (decimal at) (known (codes "di
 
 -- ---- lines are read in one way
 
-first_line : (one other more rest : List ℕ) → NoFeed one → NoFeed other → one ++ 10 ∷ more ≡ other ++ 10 ∷ rest → (one ≡ other) × (more ≡ rest)
+pub first_line : (one other more rest : List ℕ) → NoFeed one → NoFeed other → one ++ 10 ∷ more ≡ other ++ 10 ∷ rest → (one ≡ other) × (more ≡ rest)
 first_line [] [] more rest p q same = (refl, cc same)
 first_line [] (y ∷ other) more rest p q same = let first : 10 ≡ y = cc same in absurd (All-head (λ byte. byte ≢ 10) y other q (sym first))
 first_line (x ∷ one) [] more rest p q same = let first : x ≡ 10 = cc same in absurd (All-head (λ byte. byte ≢ 10) x one p first)

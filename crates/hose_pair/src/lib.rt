@@ -1,14 +1,17 @@
 //! A leader and a follower on two machines: what each may conclude of the bytes that came over a
-//! connection between them, and of its own disk.
+//! connection between them, and of its own disk; and what a host's story tells of the disk of the
+//! follower at its link.
 //!
-//! All of these are laws of `hose_follow` and `hose_store`, and nothing here runs. They are for a
-//! host that tells a customer of an order only once a follower has it: what it reads of a
-//! connection to the follower has to be answers of that follower (`law_heard`), what the follower
-//! reads has to be packets that were sent (`law_arrives`), both have to be of one history
-//! (`law_joins`), and the host's own disk has to have its list (`law_own_disk`).
+//! These are laws of the crates below, and nothing here runs. They are for a host that tells a
+//! customer of an order only once a follower has it: what it reads of a connection to the follower
+//! has to be answers of that follower (`law_heard`), what the follower reads has to be packets that
+//! were sent (`law_arrives`), both have to be of one history (`law_joins`), and the host's own disk
+//! has to have its list (`law_own_disk`). What comes of all this, and of what the host is proved to
+//! do, is `law_standby`.
 #![tactic(auto)]
 
-ghost use Rattle.std.specs.Prelude.{◌≡◌, ◌⊎◌, ◌≤◌, ℕ, [], All, Contains, List, None, Option, ◌++◌, drop, length, take};
+ghost use Rattle.std.specs.Prelude.{◌≡◌, ◌⊎◌, ◌≤◌, ℕ, Bool, true, false, [], All, Contains, List, None, Option, ◌++◌, drop, length, take};
+ghost use mathlib.Core.List.{IsPrefix};
 ghost use Rattle.sha2.specs.Sha256.{sha256};
 ghost use Rattle.hose_graph.specs.declared.entry.Entry.{Entry};
 ghost use Rattle.hose_journal.specs.Chain.{chain};
@@ -20,14 +23,23 @@ ghost use Rattle.hose_follow.specs.steps.Lines.{HasLine};
 ghost use Rattle.hose_follow.specs.Packet.{IsPacket, Packet, packets_bytes};
 ghost use Rattle.hose_follow.specs.Replication.{IsLeader};
 ghost use Rattle.hose_follow.specs.steps.Offering.{IsOffered};
-ghost use Rattle.hose_follow.specs.steps.Replication.{IsBeginning, Replication};
+ghost use Rattle.hose_follow.specs.steps.Replication.{IsBeginning, IsOfLeader, Replication};
 ghost use Rattle.hose_follow.specs.declared.answers.Offered.{Offered};
 ghost use Rattle.hose_follow.specs.declared.answers.Offered.TheVariants.{Differs};
+ghost use Rattle.hose_net.specs.Story.{Exchange, Step, hold_in};
+ghost use Rattle.hose_net.specs.declared.hold.Hold.TheVariants.{Upto};
+ghost use Rattle.hose_clerk.specs.HostLines.{HostLine};
+ghost use Rattle.hose_clerk.specs.Hosting.{HostState};
+ghost use Rattle.hose_clerk.specs.declared.doors.DoorRule.{DoorRule};
+ghost use Rattle.hose_clerk.specs.declared.replies.HostReply.{HostReply};
 ghost use Rattle.hose_pair.specs.steps.Orders.{HasOrders};
+ghost use Rattle.hose_pair.specs.steps.Standing.{AnsweredSince, Goes, HasStory, IsFresh, MayLeave, Standing, WasTold, about_of};
 ghost use Rattle.hose_pair.specs.steps.Written.{IsWritten};
 
 use hose_disk::Disk;
+use hose_follow::law_following;
 use hose_graph::Topology;
+use hose_net::Connections;
 
 /// Each whole line of what was got of a connection to a follower that is the text of an answer, as
 /// `have N` or `differs at N OWN GIVEN`, is one that it gave, where what was got is a beginning of
@@ -67,4 +79,75 @@ pub fn law_own_disk<D: Disk>(top: &Topology)
     ensures { (store : KeptStore D) → (list : List Entry) → (doubt : Option Entry) →
         (image : List ℕ) → store.ledger.network ≡ top.now → HasHistory D.Disk store list doubt →
         D.may_leave store.journal.disk image → HasOrders top.now list image }
+{}
+
+/// What a host's own story, with its link to a follower, tells of the follower's disk. From where
+/// how replies are held is what was last heard of the follower on, each image that a stop of it may
+/// leave, at each later moment, also within an offer, a closing or an opening, has all orders that
+/// stood when a line was answered of whose reply a byte was sent, while the host was alone too; or
+/// two different strings that were hashed have one SHA-256.
+///
+/// It supposes of the host that its story is as its contract says, that a process of it answers
+/// fewer lines than a count holds, and that it is started anew on a history that begins with the
+/// one that it had; of the follower that it answers by `offer`, and opens its store anew for each
+/// connection, on a disk that nothing else writes to and that keeps to its model; and of a
+/// connection that it gives a beginning of what was put into it. Connections may break and be made
+/// at any time, to other followers too, and nothing is supposed of what the follower had at its
+/// beginning.
+pub fn law_standby<N: Connections, D: Disk, K>(top: &Topology)
+    ensures told { (rules : List DoorRule) → (standby : Option (List ℕ)) →
+        (may_be_alone required : Bool) → (own : List Entry) → (start told end : Standing D) →
+        (exchange : Exchange HostLine HostReply) → (state : HostState) → (image : List ℕ) →
+        WasTold (about_of N.did (N.saw K) top.now rules standby may_be_alone required) D.Disk own
+        start told exchange state →
+        Goes (about_of N.did (N.saw K) top.now rules standby may_be_alone required) D.Disk
+        told end →
+        IsLeader top.now end.host.history → MayLeave D.Disk top.now end image →
+        HasOrders top.now state.history image
+        ⊎ Collide sha256 (hashed (digest_of top.now) own
+        ++ hashed (digest_of top.now) (take (length own) end.host.history)) }
+    // Where replies wait for entries, so many as were heard are there, whichever process of the
+    // host answered for them.
+    ensures heard { (rules : List DoorRule) → (standby : Option (List ℕ)) → (may_be_alone : Bool) →
+        (own : List Entry) → (start told end : Standing D) → (count : ℕ) → (image : List ℕ) →
+        IsFresh (about_of N.did (N.saw K) top.now rules standby may_be_alone false) D.Disk
+        own start →
+        Goes (about_of N.did (N.saw K) top.now rules standby may_be_alone false) D.Disk
+        start told →
+        told.decides ≡ true → hold_in told.story ≡ Upto count →
+        Goes (about_of N.did (N.saw K) top.now rules standby may_be_alone false) D.Disk told end →
+        IsLeader top.now end.host.history → MayLeave D.Disk top.now end image →
+        IsOfLeader top.now end.host.history count image
+        ⊎ Collide sha256 (hashed (digest_of top.now) own
+        ++ hashed (digest_of top.now) (take (length own) end.host.history)) }
+    // Where a standby is required, the follower answered a packet after each line of whose reply a
+    // byte was sent, a question's too: so it was that host's standby still.
+    ensures behind { (rules : List DoorRule) → (standby : Option (List ℕ)) →
+        (may_be_alone : Bool) → (own : List Entry) → (start told : Standing D) →
+        (exchange : Exchange HostLine HostReply) → (state : HostState) →
+        (was : WasTold (about_of N.did (N.saw K) top.now rules standby may_be_alone true) D.Disk
+        own start told exchange state) →
+        IsLeader top.now told.host.history →
+        AnsweredSince (about_of N.did (N.saw K) top.now rules standby may_be_alone true) D.Disk
+        start told was.before exchange }
+    // The host's history only grows.
+    ensures grows { (rules : List DoorRule) → (standby : Option (List ℕ)) →
+        (may_be_alone required : Bool) → (old new : Standing D) →
+        Goes (about_of N.did (N.saw K) top.now rules standby may_be_alone required) D.Disk
+        old new →
+        IsPrefix old.host.history new.host.history }
+{
+    law_following::<D>(top);
+}
+
+/// Each beginning of a host's story is a story of it. So what `law_standby` supposes of each moment
+/// holds where it holds of the last one of each process.
+pub fn law_earlier<N: Connections, K>(top: &Topology)
+    ensures { (rules : List DoorRule) → (standby : Option (List ℕ)) →
+        (may_be_alone required : Bool) →
+        (since : List Entry) → (early later : List (Step HostLine HostReply)) →
+        HasStory (about_of N.did (N.saw K) top.now rules standby may_be_alone required) since
+        (early ++ later) →
+        HasStory (about_of N.did (N.saw K) top.now rules standby may_be_alone required) since
+        early }
 {}
