@@ -3,7 +3,7 @@ use Rattle.std.proofs.Common.{◌≡◌, ◌⊎◌, inl, inr, ⊎_elim, ℕ, zer
 use Rattle.std.specs.Prelude.{IfSome, slice_get, take}
 use Rattle.std.proofs.Math.Seq.{take-append_seam}
 use mathlib.Core.List.{IsPrefix}
-use Rattle.hose_words.specs.Grammar.{IsFirstNotAllowed}
+use Rattle.hose_words.specs.Shapes.{IsFirstWrong}
 use Rattle.hose_words.specs.Words.{words_of}
 use Rattle.hose_words.specs.steps.Lines.{Shows}
 use Rattle.hose_words.specs.declared.lines.Line.{Line}
@@ -23,7 +23,7 @@ use Rattle.hose_law.proofs.Lines.{steps_many, steps_push}
 use Rattle.hose_law.proofs.Scripts.{decided_end, decided_push, disks_push}
 use Rattle.hose_law.specs.Script.{ReadLine, IsLineStep, IsScript, one_if_disk, IsFixedReply, ScriptState, script_state}
 use Rattle.hose_law.specs.Script.ReadLine.{Asks, IsBad, IsLong, Unread}
-use Rattle.hose_offline.specs.ScriptLine.{IsAsking, WantsMemory, script_grammar}
+use Rattle.hose_offline.specs.ScriptLine.{IsAsking, WantsMemory, script_shape}
 use Rattle.hose_io.specs.Frame.{Frame, Rose, Stays}
 use Rattle.hose_io.proofs.Frames.{Stays-next, Stays-none, Stays-same}
 use Rattle.hose_book.specs.steps.Commit.{IsMet, history_after}
@@ -40,7 +40,7 @@ use Rattle.hose_offline.specs.steps.Talking.{AnswersLine, HasAnsweredLines, Says
 pub says_shown : (network : Network) (shown : Line) (bytes : List ℕ) (said : ReadLine) → Shows shown bytes → SaysRead network shown said → Says network bytes said
 says_shown network (line.Text text) bytes (Asks customer command) shows says = (shows.0, subst (λ (b : List ℕ). IsAsking network b customer command) shows.1 says)
 says_shown network (line.Text text) bytes (IsBad word) shows says =
-    (shows.0, subst (λ (b : List ℕ). IsFirstNotAllowed (script_grammar network) [] (words_of b) word) shows.1 says)
+    (shows.0, subst (λ (b : List ℕ). IsFirstWrong (script_shape network) (words_of b) word) shows.1 says)
 says_shown network (line.Text text) bytes IsLong shows says = absurd says
 says_shown network (line.Text text) bytes Unread shows says = (shows.0, subst (λ (b : List ℕ). WantsMemory (words_of b)) shows.1 says)
 says_shown network line.Long bytes (Asks customer command) shows says = absurd says

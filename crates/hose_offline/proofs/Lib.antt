@@ -6,6 +6,7 @@ mod Borrowed
 mod CutRuns
 mod CutWhole
 mod EndsFound
+pub mod Failing
 pub mod Exchanges
 mod FollowEnds
 mod Followed
@@ -15,6 +16,7 @@ pub mod JsonLemmas
 mod Judging
 pub mod Leaving
 pub mod Lending
+mod LineShapes
 mod MoveComplete
 mod MoveEnds
 mod MoveLines

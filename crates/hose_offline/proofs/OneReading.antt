@@ -1,50 +1,50 @@
 -- A text is read in one way.
-use Rattle.std.proofs.Common.{◌≡◌, ◌≢◌, ◌∙◌, ◌++◌, Bor, ℕ, suc, List, [], ◌∷◌, inl, inr, refl, sym, ap, subst, arith, append_assoc, append-nil}
+use Rattle.std.proofs.Common.{◌≡◌, ◌≢◌, ◌∙◌, ◌++◌, Bor, ℕ, suc, List, [], ◌∷◌, drop, refl, sym, ap, subst, arith, append_assoc, append-nil}
 use Rattle.std.specs.List.{All, before_first, after_first}
-use Rattle.hose_words.specs.Words.{words_of}
+use Rattle.hose_words.specs.Words.{words_of, IsFirst}
+use Rattle.hose_words.specs.Shapes.{IsFirstWrong, Values, words_told}
 use Rattle.hose_words.specs.Lines.{is_line_feed}
 use Rattle.hose_words.specs.steps.Lines.{Shows}
 use Rattle.hose_words.specs.declared.lines.Line.{Line}
 use Rattle.hose_words.specs.declared.lines.Line.TheVariants as line
-use Rattle.hose_words.specs.Grammar.{IsFirst, IsFirstNotAllowed}
-use Rattle.hose_words.proofs.Forms.{after_place, front_wrong}
-use Rattle.hose_words.proofs.Judging.{place_unique}
+use Rattle.hose_words.proofs.Shapes.{first_word}
+use Rattle.hose_words.proofs.ToldShapes.{told_not_wrong, wrong_unique}
 use Rattle.hose_graph.specs.Name.{IsName}
 use Rattle.hose_graph.specs.declared.command.Command.{Command}
 use Rattle.hose_graph.specs.Network.{Network}
 use Rattle.hose_law.specs.Script.{ReadLine}
 use Rattle.hose_law.specs.Script.ReadLine.{Asks, IsBad, IsLong, Unread}
-use Rattle.hose_proto.specs.Command.{IsCommand, command_form, command_grammar}
-use Rattle.hose_offline.specs.ScriptLine.{IsAsking, script_grammar}
+use Rattle.hose_proto.specs.Command.{IsCommand, command_shape}
+use Rattle.hose_offline.specs.ScriptLine.{IsAsking, script_shape}
+use Rattle.hose_offline.proofs.LineShapes.{firm_script}
 use Rattle.hose_words.specs.Saying.{SayLines, no_line, one_more as one_line}
 use Rattle.hose_offline.specs.Talking.{Says}
 use Rattle.hose_offline.specs.steps.Talking.{SaysAlone, IsRead, SaysOneThing}
 
 -- ---- one line
 
--- words ask for one command at most, and then none of them is wrong
+-- words ask for one command at most
 pub record AskForOne (network : Network) (words : List (List ℕ)) : Type 0 where
   pub alone : (command other : Command) → IsCommand network words command → IsCommand network words other → command ≡ other
-  pub never_wrong : (command : Command) (word : ℕ) → IsCommand network words command → IsFirstNotAllowed (command_grammar network) [] words word → ⊥
+
+-- the words after the customer's name of a line that asks for something
+abbrev behind : (network : Network) → Values (command_shape network) → List (List ℕ)
+behind network told = words_told (command_shape network) told
 
 -- where the words after a customer's name ask for one command at most
 module _ (network : Network) (line : List ℕ) (one : (customer : List ℕ) (words : List (List ℕ)) → words_of line ≡ customer ∷ words → IsName customer → AskForOne network words) where
   -- a line asks for one thing at most, for one customer
   asking_same : (customer other : List ℕ) (command more : Command) → IsAsking network line customer command → IsAsking network line other more → (customer ≡ other) × (command ≡ more)
-  asking_same customer other command more first second =
-      let cuts = sym first.spelled ∙ second.spelled in
-      let words : first.words ≡ second.words = cc in
-      (cc, (one other second.words second.spelled second.is_name).alone command more (subst (λ w. IsCommand network w command) words first.asks) second.asks)
+  asking_same customer other command more (told, tells, is) (told', tells', is') =
+      let cuts : customer ∷ behind network told ≡ other ∷ behind network told' = sym tells.are ∙ tells'.are in
+      let words : behind network told ≡ behind network told' = ap (drop 1) cuts in
+      let asks : IsCommand network (behind network told) command = (told, record { are = refl; may = tells.may.1 }, is) in
+      let asks' : IsCommand network (behind network told') more = (told', record { are = refl; may = tells'.may.1 }, is') in
+      (ap first_word cuts, (one other (behind network told') tells'.are tells'.may.0).alone command more (subst (λ w. IsCommand network w command) words asks) asks')
 
-  -- a line that asks for something has no word that is not allowed
-  asking_not_wrong : (customer : List ℕ) (command : Command) (word : ℕ) → IsAsking network line customer command → IsFirstNotAllowed (script_grammar network) [] (words_of line) word → ⊥
-  asking_not_wrong customer command word asks wrong = at (subst (λ w. IsFirstNotAllowed (script_grammar network) [] w word) asks.spelled wrong)
-    where
-      at : IsFirstNotAllowed (script_grammar network) [] (customer ∷ asks.words) word → ⊥
-      at (inl after) =
-          let place = front_wrong (script_grammar network) (command_grammar network) (customer ∷ []) [] asks.words word (after_place IsName (command_form network) customer) after.1 in
-          (one customer asks.words asks.spelled asks.is_name).never_wrong command place.0 asks.asks place.2
-      at (inr wrong) = wrong.0 asks.is_name
+  -- a line that asks for something has no word that is wrong
+  asking_not_wrong : (customer : List ℕ) (command : Command) (word : ℕ) → IsAsking network line customer command → IsFirstWrong (script_shape network) (words_of line) word → ⊥
+  asking_not_wrong customer command word asks wrong = told_not_wrong (script_shape network) (firm_script network) (words_of line) (customer, asks.0) word asks.1 wrong
 
   -- a line that is read says one thing
   says_one_thing : (one other : ReadLine) → Says network line one → Says network line other → IsRead one → IsRead other → one ≡ other
@@ -54,7 +54,7 @@ module _ (network : Network) (line : List ℕ) (one : (customer : List ℕ) (wor
   says_one_thing (Asks customer command) (IsBad word) says says' read read' = absurd (asking_not_wrong customer command word says.1 says'.1)
   says_one_thing (Asks customer command) IsLong says says' read read' = absurd (omega (arith, says.0, says'))
   says_one_thing (IsBad word) (Asks customer command) says says' read read' = absurd (asking_not_wrong customer command word says'.1 says.1)
-  says_one_thing (IsBad word) (IsBad place) says says' read read' = ap IsBad (place_unique (script_grammar network) [] (words_of line) word place says.1 says'.1)
+  says_one_thing (IsBad word) (IsBad place) says says' read read' = ap IsBad (wrong_unique (script_shape network) (firm_script network) (words_of line) word place says.1 says'.1)
   says_one_thing (IsBad word) IsLong says says' read read' = absurd (omega (arith, says.0, says'))
   says_one_thing IsLong (Asks customer command) says says' read read' = absurd (omega (arith, says, says'.0))
   says_one_thing IsLong (IsBad word) says says' read read' = absurd (omega (arith, says, says'.0))

@@ -1,15 +1,14 @@
 -- Lines of a sheet: what one says and is answered, and how prices are written.
 use Rattle.std.proofs.Common.{◌≡◌, ◌∙◌, ℕ, ◌≤◌, List, [], ◌∷◌, ◌++◌, sym, ap, subst, arith, length, drop, get_or, map, take, ◌-◌}
 use Rattle.std.proofs.lemmas.List.{take_rest}
-use Rattle.hose_words.specs.Form.{grammar_of}
-use Rattle.hose_words.specs.Grammar.{IsFirstNotAllowed}
+use Rattle.hose_words.specs.Shapes.{IsFirstWrong}
 use Rattle.hose_words.specs.Words.{words_of}
 use Rattle.hose_words.specs.declared.lines.TheConstants.{LINE_LIMIT}
 use Rattle.hose_graph.specs.Hose.{Endpoint}
 use Rattle.hose_graph.specs.Network.{Network}
 use Rattle.hose_price.specs.Sheet.{Sheet}
 use Rattle.hose_price.specs.declared.priced.Price.{Price}
-use Rattle.hose_offline.specs.SheetLine.{AnswersSheet, IsPricing, price_words, prices_words, sheet_form}
+use Rattle.hose_offline.specs.SheetLine.{AnswersSheet, IsPricing, price_words, prices_words, sheet_shape}
 use Rattle.hose_offline.specs.steps.SheetLine.{PricesHose}
 use Rattle.hose_offline.specs.declared.sheet_answer.SheetAnswer.{SheetAnswer}
 use Rattle.hose_offline.specs.declared.sheet_answer.SheetAnswer.TheVariants.{Priced, NoPlan, Bad, Long, Memory}
@@ -18,7 +17,7 @@ use Rattle.hose_offline.specs.declared.sheet_answer.SheetAnswer.TheVariants.{Pri
 
 -- the first word that is not allowed is this one, and so the line asks for nothing
 abbrev IsBadLine : Network → List ℕ → ℕ → Type 0
-IsBadLine network bytes word = IsFirstNotAllowed (grammar_of (sheet_form network)) [] (words_of bytes) word
+IsBadLine network bytes word = IsFirstWrong (sheet_shape network) (words_of bytes) word
     × ((customer : List ℕ) (hose : List Endpoint) → IsPricing network bytes customer hose → ⊥)
 
 pub bad_shown : (network other : Network) (text bytes : List ℕ) (word : ℕ) → other ≡ network → text ≡ bytes → IsBadLine other text word → IsBadLine network bytes word

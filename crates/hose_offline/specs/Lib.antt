@@ -4,6 +4,7 @@ pub mod CabinetText
 pub mod CheckOutcome
 pub mod CutOutcome
 pub mod Ending
+pub mod Failing
 pub mod Fault
 pub mod FollowOutcome
 pub mod Following

@@ -1,32 +1,31 @@
 -- A line of a sheet of hoses that are to be priced, and what is answered to it.
-use Rattle.std.specs.Prelude.{◌≡◌, ℕ, ◌<◌, ◌≤◌, List, [], ◌∷◌, ◌++◌, codes, decimal, get_or, length}
-use Rattle.hose_words.specs.Form.{Form, grammar_of, place}
-use Rattle.hose_words.specs.Grammar.{IsFirstNotAllowed}
+use Rattle.std.specs.Prelude.{ℕ, ◌<◌, ◌≤◌, List, [], ◌∷◌, ◌++◌, codes, decimal, get_or, length, IsPermutation}
+use Rattle.hose_words.specs.Shapes.{IsFirstWrong, Shape, Tells}
 use Rattle.hose_words.specs.Words.{words_of}
 use Rattle.hose_words.specs.Limits.{line_limit}
 use Rattle.hose_graph.specs.Hose.{Endpoint}
-use Rattle.hose_graph.specs.Name.{IsName}
 use Rattle.hose_graph.specs.Network.{Network}
 use Rattle.hose_price.specs.Pricing.{HasNoPricedPlan, IsPriceLine}
 use Rattle.hose_price.specs.Sheet.{Sheet}
 use Rattle.hose_price.specs.declared.priced.Price.{Price}
-use Rattle.hose_proto.specs.Command.{AreEndsOf, ends_form}
+use Rattle.hose_proto.specs.Command.{ends_shape}
+use Rattle.hose_proto.specs.Places.{IsHoseOf}
+use Rattle.hose_offline.specs.ScriptLine.{customer_and}
 use Rattle.hose_offline.specs.declared.sheet_answer.SheetAnswer.{SheetAnswer}
 use Rattle.hose_offline.specs.declared.sheet_answer.SheetAnswer.TheVariants.{Priced, NoPlan, Bad, Long, Memory}
 
 -- ---- what a line asks
 
--- The line's first word is the customer's name, and the words after it are the endpoints of a hose.
-pub record IsPricing (network : Network) (line customer : List ℕ) (hose : List Endpoint) :
-    Type 0 where
-  pub words : List (List ℕ)
-  pub spelled : words_of line ≡ customer ∷ words
-  pub is_name : IsName customer
-  pub ends : AreEndsOf network words hose
-
 -- a customer's name, and the endpoints of a hose
-abbrev pub sheet_form : Network → Form
-sheet_form network = place IsName (ends_form network)
+abbrev pub sheet_shape : Network → Shape
+sheet_shape network = customer_and (ends_shape network)
+
+-- The line's first word is the customer's name, and the words after it are the endpoints of a hose,
+-- in any order.
+abbrev pub IsPricing : Network → List ℕ → List ℕ → List Endpoint → Type 0
+IsPricing network line customer hose = (ends : List Endpoint)
+    × Tells (sheet_shape network) (words_of line) (customer, ends)
+    × IsPermutation ends hose × IsHoseOf network hose
 
 -- What is answered to a line of bytes: the prices of the hose that it asks for, or that there is no
 -- plan of it; the first word that is not allowed, where it asks for none; that it is too long; or
@@ -39,7 +38,7 @@ AnswersSheet sheet bytes (NoPlan customer) = (hose : List Endpoint)
     × (length bytes ≤ line_limit) × IsPricing sheet.network bytes customer hose
     × HasNoPricedPlan sheet.network hose
 AnswersSheet sheet bytes (Bad word) = (length bytes ≤ line_limit)
-    × IsFirstNotAllowed (grammar_of (sheet_form sheet.network)) [] (words_of bytes) word
+    × IsFirstWrong (sheet_shape sheet.network) (words_of bytes) word
     × ((customer : List ℕ) (hose : List Endpoint) → ¬ IsPricing sheet.network bytes customer hose)
 AnswersSheet sheet bytes Long = line_limit < length bytes
 AnswersSheet sheet bytes Memory = length bytes ≤ line_limit

@@ -1,6 +1,6 @@
 -- What the lines after a topology say, and what is answered to them.
-use Rattle.std.specs.Prelude.{◌≡◌, ◌⊎◌, ℕ, ◌+◌, ◌-◌, ◌^◌, ◌<◌, ◌≤◌, List, [], length, slice_get, take, Some}
-use Rattle.hose_words.specs.Grammar.{IsFirstNotAllowed}
+use Rattle.std.specs.Prelude.{◌≡◌, ◌⊎◌, ℕ, ◌+◌, ◌-◌, ◌^◌, ◌<◌, ◌≤◌, List, length, slice_get, take, Some}
+use Rattle.hose_words.specs.Shapes.{IsFirstWrong}
 use Rattle.hose_words.specs.Words.{words_of}
 use Rattle.hose_words.specs.Limits.{line_limit}
 use Rattle.hose_graph.specs.declared.entry.Entry.{Entry}
@@ -13,7 +13,7 @@ use Rattle.hose_law.specs.History.{IsDecidedAt, book_of}
 use Rattle.hose_law.specs.Quotes.{Holding, Holdings, nothing_held}
 use Rattle.hose_law.specs.Script.{IsScript, ReadLine, disks_in, script_state}
 use Rattle.hose_law.specs.Script.ReadLine.{Asks, IsBad, IsLong, Unread}
-use Rattle.hose_offline.specs.ScriptLine.{IsAsking, WantsMemory, script_grammar}
+use Rattle.hose_offline.specs.ScriptLine.{IsAsking, WantsMemory, script_shape}
 
 -- What a line of bytes says: a customer's command, a first word that is not allowed, or too much;
 -- or it is left unread for want of memory, which its command may take.
@@ -21,7 +21,7 @@ abbrev pub Says : Network → List ℕ → ReadLine → Type 0
 Says network bytes (Asks customer command) =
     (length bytes ≤ line_limit) × IsAsking network bytes customer command
 Says network bytes (IsBad word) = (length bytes ≤ line_limit)
-    × IsFirstNotAllowed (script_grammar network) [] (words_of bytes) word
+    × IsFirstWrong (script_shape network) (words_of bytes) word
 Says network bytes IsLong = line_limit < length bytes
 Says network bytes Unread = (length bytes ≤ line_limit) × WantsMemory (words_of bytes)
 

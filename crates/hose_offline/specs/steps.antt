@@ -2,6 +2,7 @@
 pub mod AuditOutcome
 pub mod CabinetText
 pub mod Ending
+pub mod Failing
 pub mod Fault
 pub mod Following
 pub mod GenOutcome

@@ -5,7 +5,9 @@ ghost use Rattle.hose_offline.specs.AuditOutcome.{AuditOutcome};
 ghost use Rattle.hose_offline.specs.Ending.{EndsTold};
 ghost use Rattle.hose_offline.specs.steps.AuditOutcome.{AuditsJournal};
 ghost use Rattle.hose_offline.specs.Auditing.{ReadsText, ReadsTopology, priced_names};
-ghost use Rattle.hose_offline.specs.steps.Ending.{WroteEnd};
+ghost use Rattle.hose_offline.specs.Failing.{FailsNamed};
+ghost use Rattle.hose_offline.specs.steps.Ending.{IsWhyAfter, WroteWhy};
+ghost use Rattle.hose_offline.specs.steps.Failing.{FailsOpened};
 ghost use Rattle.hose_offline.specs.Why.{IsTold, why_status};
 ghost use Rattle.hose_offline.specs.Parts.{tellings};
 ghost use Rattle.hose_offline.specs.steps.Journal.{TouchesOnly};
@@ -47,6 +49,8 @@ pub fn audit<P: Prices, I: Source, O: Sink, C: Cabinet>(
     requires { (C.frame (held outside.old).cabinet).out ≡ None }
     ensures { ComesTo (tellings I.Source O.Sink C.Cabinet C.Disk.Disk) (λ tells. AuditOutcome tells
         (priced_names (P.prices costs.now) names.entry.topology.now names.entry.journal.now))
+        (λ tells. FailsNamed tells
+        (priced_names (P.prices costs.now) names.entry.topology.now names.entry.journal.now))
         outside.old outside.new result }
 {
     match read_topology(alloc, costs, names.topology, outside.cabinet) {
@@ -67,6 +71,8 @@ fn audit_journal<I: Source, O: Sink, C: Cabinet>(
     ensures audits { AuditsJournal (tellings I.Source O.Sink C.Cabinet C.Disk.Disk) name.now
         (held outside.old) (held outside.new) (why_status result) topology }
     ensures told { IsTold O.Sink (held outside.new).output result }
+    ensures fails { FailsOpened C.Cabinet (held outside.old).cabinet (held outside.new).cabinet
+        result }
     ensures input { (held outside.new).input ≡ (held outside.old).input }
     ensures alone { TouchesOnly C.Cabinet name.now (held outside.old).cabinet
         (held outside.new).cabinet }
@@ -86,8 +92,9 @@ fn audit_journal<I: Source, O: Sink, C: Cabinet>(
 /// Writes what a book holds, and the last line of a fault that was met before, if one was; says why
 /// that ended.
 pub fn tell<O: Sink>(book: &Book, done: Result<(), Fault>, output: &mut O) -> Why
-    ensures { WroteEnd O.Sink output.old output.new result (EndsTold O.Sink output.old output.new
-        (why_status result) done (audit_text book.now.network book.now.book)) }
+    ensures { WroteWhy O.Sink output.old output.new result (EndsTold O.Sink output.old output.new
+        (why_status result) done (audit_text book.now.network book.now.book))
+        (IsWhyAfter done result) }
 {
     let told = hose_audit::audit(book, output);
     match done {

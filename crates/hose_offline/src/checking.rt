@@ -1,5 +1,5 @@
 // A check: the certificate of an input, judged by the topology of a text.
-ghost use Rattle.std.specs.Prelude.{◌≡◌, ◌≢◌, ◌↔◌, ◌+◌, ◌<◌, ◌≤◌, [], Err, IfOk, None, Ok};
+ghost use Rattle.std.specs.Prelude.{◌≡◌, ◌≢◌, ◌↔◌, ◌+◌, ◌<◌, ◌≤◌, [], Err, IfOk, None, Ok, ⊤};
 ghost use Rattle.hose_io.specs.Frame.{Rose};
 ghost use Rattle.hose_cert.specs.Verdict.{AreCheapestFound, IsVerdict};
 ghost use Rattle.hose_words.specs.Reading.{WhereTold};
@@ -31,7 +31,7 @@ pub fn check<P: Prices, I: Source, O: Sink, C: Cabinet>(
     outside: &mut Outside<'_, I, O, C>,
 ) -> Why
     ensures { ComesTo (tellings I.Source O.Sink C.Cabinet C.Disk.Disk) (λ tells. CheckOutcome tells
-        (P.prices costs.now) topology.now) outside.old outside.new result }
+        (P.prices costs.now) topology.now) (λ _ _ _ _. ⊤) outside.old outside.new result }
 {
     match judge_named(alloc, costs, topology, outside) {
         Ok(verdict) => tell_verdict(&verdict, outside.output),

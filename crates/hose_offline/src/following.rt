@@ -1,6 +1,7 @@
 // Following: packets of an input, answered by the book of a journal.
 ghost use Rattle.std.specs.Prelude.{◌≡◌, None};
 ghost use Rattle.hose_offline.specs.Auditing.{priced_names};
+ghost use Rattle.hose_offline.specs.Failing.{FailsNamed};
 ghost use Rattle.hose_offline.specs.FollowOutcome.{FollowOutcome};
 ghost use Rattle.hose_offline.specs.Following.{following_done};
 ghost use Rattle.hose_offline.specs.steps.Following.{FollowsJournal};
@@ -30,6 +31,8 @@ pub fn follow<P: Prices, I: Source, O: Sink, C: Cabinet>(
 ) -> Why
     requires { (C.frame (held outside.old).cabinet).out ≡ None }
     ensures { ComesTo (tellings I.Source O.Sink C.Cabinet C.Disk.Disk) (λ tells. FollowOutcome tells
+        (priced_names (P.prices costs.now) names.entry.topology.now names.entry.journal.now))
+        (λ tells. FailsNamed tells
         (priced_names (P.prices costs.now) names.entry.topology.now names.entry.journal.now))
         outside.old outside.new result }
 {

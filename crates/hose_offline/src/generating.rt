@@ -1,5 +1,5 @@
 // A generated network and its script, answered in memory and summed up.
-ghost use Rattle.std.specs.Prelude.{◌≡◌, ◌↔◌, ◌+◌, ◌<◌, ◌^◌, ℕ, [], IfErr, IfOk, IsTrue, OnOk};
+ghost use Rattle.std.specs.Prelude.{◌≡◌, ◌↔◌, ◌+◌, ◌<◌, ◌^◌, ℕ, [], IfErr, IfOk, IsTrue, OnOk, ⊤};
 ghost use Rattle.std.specs.List.{All};
 ghost use Rattle.hose_graph.specs.steps.Naming.{AsksOf};
 ghost use Rattle.hose_law.specs.Quotes.{nothing_held};
@@ -46,7 +46,7 @@ pub fn run_generated<I: Source, O: Sink, C: Cabinet>(
 ) -> Why
     requires { AreSizes sizes.nodes sizes.links sizes.hoses }
     ensures { ComesTo (tellings I.Source O.Sink C.Cabinet C.Disk.Disk) (λ tells. GenOutcome tells
-        sizes) outside.old outside.new result }
+        sizes) (λ _ _ _ _. ⊤) outside.old outside.new result }
 {
     let done = sum_up(alloc, sizes, outside.output);
     end(done, outside.output)

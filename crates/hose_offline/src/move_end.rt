@@ -2,7 +2,7 @@
 ghost use Rattle.std.specs.Prelude.{◌≡◌, ◌++◌, ◌<◌, Ok, codes, length};
 ghost use Rattle.hose_io.specs.steps.Gather.{IsAdded};
 ghost use Rattle.hose_io.specs.steps.Writing.{IsPut};
-ghost use Rattle.hose_offline.specs.steps.Ending.{WroteEnd};
+ghost use Rattle.hose_offline.specs.steps.Ending.{IsWhyOfMove, WroteWhy};
 ghost use Rattle.hose_offline.specs.Why.{why_status};
 ghost use Rattle.hose_offline.specs.Fault.{last_line};
 ghost use Rattle.hose_offline.specs.MoveEnd.{EndsMoved, change_line, moved_done, moved_line, number_line, number_lines, stop_line, stop_status};
@@ -144,8 +144,9 @@ fn add_number_line<O: Sink>(gather: &mut Gather, output: &mut O, numbers: &[u64]
 
 /// Why a move ended, after its last line.
 pub fn end_move<O: Sink>(moved: Result<Moved, MoveStop>, output: &mut O) -> Why
-    ensures { WroteEnd O.Sink output.old output.new result
-        (EndsMoved O.Sink output.old output.new (why_status result) moved) }
+    ensures { WroteWhy O.Sink output.old output.new result
+        (EndsMoved O.Sink output.old output.new (why_status result) moved)
+        (IsWhyOfMove moved result) }
 {
     match moved {
         Ok(moved) => end_whole(moved, output),
@@ -159,8 +160,9 @@ pub fn end_move<O: Sink>(moved: Result<Moved, MoveStop>, output: &mut O) -> Why
 
 // Why a move ended that came to its end, after its last line.
 fn end_whole<O: Sink>(moved: Moved, output: &mut O) -> Why
-    ensures { WroteEnd O.Sink output.old output.new result
-        (EndsMoved O.Sink output.old output.new (why_status result) (Ok moved)) }
+    ensures { WroteWhy O.Sink output.old output.new result
+        (EndsMoved O.Sink output.old output.new (why_status result) (Ok moved))
+        (IsWhyOfMove (Ok moved) result) }
 {
     match put_moved(output, moved) {
         Ok(()) => Why::Done,

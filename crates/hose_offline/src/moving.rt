@@ -4,6 +4,7 @@ ghost use Rattle.std.specs.Prelude.{◌≡◌, ◌↔◌, All, IfOk, IsTrue, Non
 ghost use Rattle.hose_graph.specs.steps.Ranges.{IsInRanges};
 ghost use Rattle.hose_move.specs.Stating.{Suffice};
 ghost use Rattle.hose_offline.specs.CutOutcome.{CutOutcome};
+ghost use Rattle.hose_offline.specs.Failing.{FailsCut, FailsMoved};
 ghost use Rattle.hose_offline.specs.steps.Journal.{IsBack};
 ghost use Rattle.hose_offline.specs.MoveOutcome.{MoveOutcome};
 ghost use Rattle.hose_offline.specs.Moving.{EntersEnough, EntersStated, LendsDisk, LendsOld, MovesApart, MovesFrom, MovesBetween, MovesStated, read_done, scope_of, to_move, to_read};
@@ -61,7 +62,9 @@ pub fn move_journal<P: Prices, I: Source, O: Sink, C: Cabinet>(
 ) -> Why
     requires none_out { (C.frame (held outside.old).cabinet).out ≡ None }
     ensures { ComesTo (tellings I.Source O.Sink C.Cabinet C.Disk.Disk) (λ tells. MoveOutcome tells
-        (names_of (P.prices costs.now) of.entry)) outside.old outside.new result }
+        (names_of (P.prices costs.now) of.entry))
+        (λ tells. FailsMoved tells (names_of (P.prices costs.now) of.entry))
+        outside.old outside.new result }
 {
     match read_topology(alloc, costs, of.from.topology, outside.cabinet) {
         Ok(old) => {
@@ -82,7 +85,9 @@ pub fn cut_journal<P: Prices, I: Source, O: Sink, C: Cabinet>(
 ) -> Why
     requires none_out { (C.frame (held outside.old).cabinet).out ≡ None }
     ensures { ComesTo (tellings I.Source O.Sink C.Cabinet C.Disk.Disk) (λ tells. CutOutcome tells
-        (cut_of (P.prices costs.now) of.entry)) outside.old outside.new result }
+        (cut_of (P.prices costs.now) of.entry))
+        (λ tells. FailsCut tells (cut_of (P.prices costs.now) of.entry))
+        outside.old outside.new result }
 {
     match read_topology(alloc, costs, of.from.topology, outside.cabinet) {
         Ok(network) => {

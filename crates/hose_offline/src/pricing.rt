@@ -1,5 +1,5 @@
 // Prices: the lines of a sheet of hoses, each priced under every tariff.
-ghost use Rattle.std.specs.Prelude.{◌≡◌, ◌≤◌, ℕ, List, length};
+ghost use Rattle.std.specs.Prelude.{◌≡◌, ◌≤◌, ℕ, List, length, ⊤};
 ghost use Rattle.hose_words.specs.steps.Lines.{Shows};
 ghost use Rattle.hose_law.specs.steps.Plan.{AreNodes};
 ghost use Rattle.hose_offline.specs.Parts.{tellings};
@@ -37,7 +37,8 @@ pub fn price<I: Source, O: Sink, C: Cabinet>(
     requires few { length tariffs.now ≤ MOST_TARIFFS }
     ensures { ComesTo (tellings I.Source O.Sink C.Cabinet C.Disk.Disk) (λ tells. PriceOutcome tells
         (pricing_of ⟦<Tariff as Prices>⟧.prices (λ tariff. tariff.name) (λ tariff. tariff.base)
-        (λ tariff. tariff.per) tariffs.now) topology.now) outside.old outside.new result }
+        (λ tariff. tariff.per) tariffs.now) topology.now) (λ _ _ _ _. ⊤)
+        outside.old outside.new result }
 {
     match read_topology(alloc, &OwnCosts, topology, outside.cabinet) {
         Ok(top) => {

@@ -1,6 +1,7 @@
 // Shipping: the entries of a journal, written as packets for one that follows it.
 ghost use Rattle.std.specs.Prelude.{◌≡◌, None};
 ghost use Rattle.hose_offline.specs.Auditing.{priced_names};
+ghost use Rattle.hose_offline.specs.Failing.{FailsNamed};
 ghost use Rattle.hose_offline.specs.OnDisk.{IsUnopened};
 ghost use Rattle.hose_offline.specs.Parts.{tellings};
 ghost use Rattle.hose_offline.specs.steps.Journal.{TouchesOnly};
@@ -32,6 +33,8 @@ pub fn ship<P: Prices, I: Source, O: Sink, C: Cabinet>(
     requires { (C.frame (held outside.old).cabinet).out ≡ None }
     ensures { ComesTo (tellings I.Source O.Sink C.Cabinet C.Disk.Disk) (λ tells. ShipOutcome tells
         (priced_names (P.prices costs.now) names.entry.topology.now names.entry.journal.now) from)
+        (λ tells. FailsNamed tells
+        (priced_names (P.prices costs.now) names.entry.topology.now names.entry.journal.now))
         outside.old outside.new result }
 {
     match read_topology(alloc, costs, names.topology, outside.cabinet) {

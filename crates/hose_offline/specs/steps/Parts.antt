@@ -26,13 +26,16 @@ pub record LeavesBeside {I O C E : Type 0} (tells : Tellings I O C E)
   pub keeps : KeepsAll tells before after
 
 -- What a command comes to: its outcome, by what is beside it before and after and by its status,
--- which is not that of wrong words, and the line that tells why it ended. The disk that is out of
--- the cabinet is the one that was, and each part is the object that it was.
+-- which is not that of wrong words, the line that tells why it ended, and which file failed where
+-- that is why, if it names several. The disk that is out of the cabinet is the one that was, and
+-- each part is the object that it was.
 pub record ComesTo {I O C E : Type 0} (tells : Tellings I O C E)
     (Outcome : Tellings I O C E → Parts I O C → Parts I O C → ℕ → Type 0)
+    (Fails : Tellings I O C E → Parts I O C → Parts I O C → Why → Type 0)
     (before after : Outside I O C E) (why : Why) : Type 0 where
   pub outcome : Outcome tells (held before) (held after) (why_status why)
   pub told : IsTold tells.sink after.output.now why
+  pub fails : Fails tells (held before) (held after) why
   pub not_words : why_status why ≢ 1
   pub out : (tells.cabinet.frame after.cabinet.now).out
       ≡ (tells.cabinet.frame before.cabinet.now).out

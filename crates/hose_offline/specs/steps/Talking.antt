@@ -4,7 +4,7 @@ use mathlib.Core.List.{IsPrefix}
 use Rattle.hose_io.specs.Frame.{Stays}
 use Rattle.hose_io.specs.declared.sink.Sink.{Ghosts as SinkGhosts}
 use Rattle.hose_io.specs.declared.source.Source.{Ghosts}
-use Rattle.hose_words.specs.Grammar.{IsFirstNotAllowed}
+use Rattle.hose_words.specs.Shapes.{IsFirstWrong}
 use Rattle.hose_words.specs.Words.{words_of}
 use Rattle.hose_words.specs.steps.Lines.{Reader}
 use Rattle.hose_words.specs.steps.Saying.{SaysUpTo}
@@ -18,7 +18,7 @@ use Rattle.hose_law.specs.Quotes.{Holdings, nothing_held}
 use Rattle.hose_law.specs.Script.{ReadLine, IsFixedReply, IsScript, script_state}
 use Rattle.hose_law.specs.Script.ReadLine.{Asks, IsBad, IsLong, Unread}
 use Rattle.hose_offline.specs.Fault.{done_of_talk}
-use Rattle.hose_offline.specs.ScriptLine.{IsAsking, WantsMemory, script_grammar}
+use Rattle.hose_offline.specs.ScriptLine.{IsAsking, WantsMemory, script_shape}
 use Rattle.hose_proto.specs.ReplyText.{line_of, reply_text}
 use Rattle.hose_talk.specs.Talk.{TalksTo, Terms}
 use Rattle.hose_talk.specs.steps.Talk.{IsCutByReader, KeepsFault}
@@ -40,7 +40,7 @@ abbrev pub SaysRead : Network → Line → ReadLine → Type 0
 SaysRead network (line.Text bytes) (Asks customer command) =
     IsAsking network bytes.now customer command
 SaysRead network (line.Text bytes) (IsBad word) =
-    IsFirstNotAllowed (script_grammar network) [] (words_of bytes.now) word
+    IsFirstWrong (script_shape network) (words_of bytes.now) word
 SaysRead network (line.Text bytes) Unread = WantsMemory (words_of bytes.now)
 SaysRead network line.Long IsLong = ⊤
 SaysRead network _ _ = ⊥

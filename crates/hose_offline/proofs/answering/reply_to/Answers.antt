@@ -1,11 +1,11 @@
 use Rattle.std.proofs.Common.{Err, refl, sym, ◌∙◌, ap, subst, rules}
-use Rattle.hose_words.specs.Grammar.{IsFirstNotAllowed}
+use Rattle.hose_words.specs.Shapes.{IsFirstWrong}
 use Rattle.hose_words.specs.Words.{words_of}
 use Rattle.hose_words.specs.declared.lines.Line.{Line}
 use Rattle.hose_graph.specs.Network.{Network}
 use Rattle.hose_law.specs.Script.{ReadLine}
 use Rattle.hose_law.specs.Script.ReadLine.{Asks, IsBad}
-use Rattle.hose_offline.specs.ScriptLine.{IsAsking, script_grammar}
+use Rattle.hose_offline.specs.ScriptLine.{IsAsking, script_shape}
 use Rattle.hose_offline.specs.steps.Talking.{SaysRead}
 use Rattle.hose_offline.proofs.OneReading.{text_alone}
 use Rattle.hose_offline.proofs.answering.reply_to.Goals as goal
@@ -22,8 +22,8 @@ pub returns-in-Err-Bad-clause-answers : goal.returns-in-Err-Bad-clause-answers
 returns-in-Err-Bad-clause-answers g c =
     let network = (g.K.Books.ledger c.args.core.now.books).network in
     let word = c.in-Err-Bad.word in
-    let wrong : IsFirstNotAllowed (script_grammar network) _ (words_of c.in-Text.text.now) word =
-    subst (λ (n : Network). IsFirstNotAllowed (script_grammar n) _ (words_of c.in-Text.text.now) word) c.topology_of.ensures (c.read_line.ensures.bad word (c.in-Err-Bad.is ∙ ap Err c.in-Err-Bad.field-0-is)) in
+    let wrong : IsFirstWrong (script_shape network) (words_of c.in-Text.text.now) word =
+    subst (λ (n : Network). IsFirstWrong (script_shape n) (words_of c.in-Text.text.now) word) c.topology_of.ensures (c.read_line.ensures.bad word (c.in-Err-Bad.is ∙ ap Err c.in-Err-Bad.field-0-is)) in
     (IsBad word, subst (λ (l : Line). SaysRead network l (IsBad word)) (sym c.in-Text.is) wrong, (search rules, refl {a = c.args.core.now}))
 
 pub returns-in-Ok-clause-alone : goal.returns-in-Ok-clause-alone

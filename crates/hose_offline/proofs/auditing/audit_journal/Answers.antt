@@ -4,6 +4,8 @@ use Rattle.hose_offline.specs.Parts.{parts, tellings}
 use Rattle.hose_offline.specs.steps.Parts.{held}
 use Rattle.hose_offline.specs.Why.{why_status}
 use Rattle.hose_offline.proofs.Audited.{book_told}
+use Rattle.hose_offline.proofs.Failing.{closing_fails, unopened_fails}
+use Rattle.hose_offline.proofs.Journals.{audits_in}
 use Rattle.hose_offline.proofs.Lending.{others_then}
 use Rattle.hose_offline.proofs.auditing.audit_journal.Goals as goal
 
@@ -27,3 +29,15 @@ returns-in-Ok-clause-alone g c =
       absent = closed.ensures.closes.absent ∙ opened.call.absent;
       others = others_then g.C.Cabinet c.args.name.now before c.open_journal.new.cabinet closed.new.cabinet opened.call.out c.open_journal.ensures.others closed.ensures.others;
     }
+
+pub returns-in-Ok-clause-fails : goal.returns-in-Ok-clause-fails
+returns-in-Ok-clause-fails g c =
+    let tells = tellings g.I.Source g.O.Sink g.C.Cabinet g.C.Disk.Disk in
+    let before = held c.args.outside.now in
+    let closed = c.close_journal-closing in
+    let after = parts before.input c.tell.new.output closed.new.cabinet in
+    let has = audits_in tells c.args.name.now before after c.open_journal.new.cabinet c.args.topology c.in-Ok.store IsDecidedAt closed.result.0 c.in-Ok.ensures.opens closed.ensures.closes in
+    closing_fails g.C.Cabinet before.cabinet closed.new.cabinet closed.result.0 has.met c.tell.result (rw c.first_fault.ensures at c.tell.ensures.is)
+
+pub returns-in-Err-clause-fails : goal.returns-in-Err-clause-fails
+returns-in-Err-clause-fails g c = rw c.end.ensures.is (unopened_fails g.C.Cabinet g.C.Disk.Disk c.args.name.now (held c.args.outside.now).cabinet c.open_journal.new.cabinet c.args.topology c.in-Err.why c.in-Err.ensures.refused)

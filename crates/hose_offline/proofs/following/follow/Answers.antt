@@ -4,6 +4,7 @@ use Rattle.hose_offline.specs.Parts.{parts, tellings}
 use Rattle.hose_offline.specs.steps.Parts.{held}
 use Rattle.hose_offline.specs.Why.{why_status}
 use Rattle.hose_offline.proofs.Audited.{no_topology}
+use Rattle.hose_offline.proofs.Failing.{fails_reading, fails_then, follows_fail}
 use Rattle.hose_offline.proofs.FollowEnds.{follow_not_1, is_followed, not_followed}
 use Rattle.hose_offline.proofs.following.follow.Goals as goal
 
@@ -17,7 +18,8 @@ returns-in-Ok g c =
     let after = parts followed.input c.end.new.output followed.cabinet in
     let reads = subst (ReadsTopology g.C.Cabinet before.cabinet c.read_topology.new.cabinet names.prices names.topology) c.in-Ok.is c.read_topology.ensures.reads in
     let outcome = is_followed tells names before after followed.output (why_status c.end.result) c.in-Ok.top c.end.ensures.output c.read_topology.new.cabinet reads done.ensures.alone done.result done.ensures.follows c.end.ensures.status c.end.ensures.last_line in
-    record { outcome = outcome; told = c.end.ensures.told; not_words = follow_not_1 _ _ _ _ _ outcome; out = done.ensures.beside.back ∙ sym c.requires; keeps = search rules }
+    let fails = fails_then tells names before after c.read_topology.new.cabinet c.in-Ok.top reads done.ensures.alone.others c.end.result (rw c.end.ensures.is (follows_fail tells names.journal (record before { cabinet = c.read_topology.new.cabinet }) followed c.in-Ok.top done.result done.ensures.follows)) in
+    record { outcome = outcome; told = c.end.ensures.told; fails = fails; not_words = follow_not_1 _ _ _ _ _ outcome; out = done.ensures.beside.back ∙ sym c.requires; keeps = search rules }
 
 pub returns-in-Err : goal.returns-in-Err
 returns-in-Err g c =
@@ -28,4 +30,5 @@ returns-in-Err g c =
     let after = parts before.input ended.new.output c.read_topology.new.cabinet in
     let reads = subst (ReadsTopology g.C.Cabinet before.cabinet after.cabinet names.prices names.topology) c.in-Err.is c.read_topology.ensures.reads in
     let outcome = not_followed tells names before after c.in-Err.why (why_status ended.result) (no_topology tells names before after c.in-Err.why reads) ended.ensures.status ended.ensures.last_line refl in
-    record { outcome = outcome; told = ended.ensures.told; not_words = follow_not_1 _ _ _ _ _ outcome; out = search rules; keeps = search rules }
+    let fails = fails_reading tells names before after c.in-Err.why reads ended.result ended.ensures.is in
+    record { outcome = outcome; told = ended.ensures.told; fails = fails; not_words = follow_not_1 _ _ _ _ _ outcome; out = search rules; keeps = search rules }

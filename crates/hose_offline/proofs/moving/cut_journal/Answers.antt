@@ -9,6 +9,7 @@ use Rattle.hose_offline.specs.steps.Moving.{cut_of}
 use Rattle.hose_offline.specs.steps.Parts.{held}
 use Rattle.hose_offline.specs.declared.move_end.MoveStop.TheVariants.{Old}
 use Rattle.hose_offline.proofs.CutWhole.{cut_complete, cut_kept, cut_less, cut_not_1, cut_others, cut_whole}
+use Rattle.hose_offline.proofs.Failing.{cut_fails}
 use Rattle.hose_offline.proofs.MoveComplete.{old_refused}
 use Rattle.hose_offline.proofs.MoveEnds.{ends_not_1}
 use Rattle.hose_offline.proofs.moving.cut_journal.Goals as goal
@@ -35,7 +36,8 @@ returns-in-Ok g c =
       complete = λ cuttable none. cut_complete tells names before left _ c.in-Ok.network c.read_topology.new.cabinet _ _ (recovered_once c.in-Ok.network) reads moved.ensures.moves ended cuttable none.writing none.keeping_it;
       input = moved.ensures.input;
     } in
-    record { outcome = outcome; told = c.end_move.ensures.told; not_words = ends_not_1 tells.sink left.output c.end_move.new.output (why_status c.end_move.result) moved.result ended (cut_not_1 tells names before left moved.result cuts); out = moved.ensures.back ∙ sym c.requires.none_out; keeps = search rules }
+    let fails = cut_fails tells names before (parts left.input c.end_move.new.output left.cabinet) left.output moved.result cuts c.end_move.result c.end_move.ensures.is in
+    record { outcome = outcome; told = c.end_move.ensures.told; fails = fails; not_words = ends_not_1 tells.sink left.output c.end_move.new.output (why_status c.end_move.result) moved.result ended (cut_not_1 tells names before left moved.result cuts); out = moved.ensures.back ∙ sym c.requires.none_out; keeps = search rules }
 
 pub returns-in-Err : goal.returns-in-Err
 returns-in-Err g c =
@@ -59,4 +61,5 @@ returns-in-Err g c =
       complete = λ cuttable none. inr (ended.0 ∙ old_refused tells.cabinet before.cabinet c.read_topology.new.cabinet names.of.prices names.of.topology c.in-Err.why reads cuttable.servable none.keeping_it);
       input = refl;
     } in
-    record { outcome = outcome; told = c.end_move-in-Err.ensures.told; not_words = ends_not_1 tells.sink before.output c.end_move-in-Err.new.output (why_status c.end_move-in-Err.result) done ended (cut_not_1 tells names before left done cuts); out = search rules; keeps = search rules }
+    let fails = cut_fails tells names before (parts before.input c.end_move-in-Err.new.output left.cabinet) before.output done cuts c.end_move-in-Err.result c.end_move-in-Err.ensures.is in
+    record { outcome = outcome; told = c.end_move-in-Err.ensures.told; fails = fails; not_words = ends_not_1 tells.sink before.output c.end_move-in-Err.new.output (why_status c.end_move-in-Err.result) done ended (cut_not_1 tells names before left done cuts); out = search rules; keeps = search rules }

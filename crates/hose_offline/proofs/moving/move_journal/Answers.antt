@@ -9,6 +9,7 @@ use Rattle.hose_offline.specs.Parts.{parts, tellings}
 use Rattle.hose_offline.specs.steps.Parts.{held}
 use Rattle.hose_offline.specs.declared.move_end.MoveStop.TheVariants.{Old}
 use Rattle.std.specs.Prelude.{Err}
+use Rattle.hose_offline.proofs.Failing.{move_fails}
 use Rattle.hose_offline.proofs.MoveComplete.{completes, old_refused}
 use Rattle.hose_offline.proofs.MoveEnds.{move_not_1}
 use Rattle.hose_offline.proofs.MoveWhole.{kept_named, others_named, whole_of}
@@ -35,7 +36,8 @@ returns-in-Ok g c =
       complete = λ movable none. completes tells before left _ names c.in-Ok.old c.read_topology.new.cabinet _ _ (recovered_once c.in-Ok.old) reads moved.ensures.moves ended movable none.writing none.keeping_it;
       input = moved.ensures.input;
     } in
-    record { outcome = outcome; told = c.end_move.ensures.told; not_words = move_not_1 _ _ _ _ _ outcome; out = moved.ensures.back ∙ sym c.requires.none_out; keeps = search rules }
+    let fails = move_fails tells names before (parts left.input c.end_move.new.output left.cabinet) left.output moved.result moves c.end_move.result c.end_move.ensures.is in
+    record { outcome = outcome; told = c.end_move.ensures.told; fails = fails; not_words = move_not_1 _ _ _ _ _ outcome; out = moved.ensures.back ∙ sym c.requires.none_out; keeps = search rules }
 
 pub returns-in-Err : goal.returns-in-Err
 returns-in-Err g c =
@@ -58,4 +60,5 @@ returns-in-Err g c =
       complete = λ movable none. inr (ended.0 ∙ old_refused tells.cabinet before.cabinet c.read_topology.new.cabinet names.prices names.topology c.in-Err.why reads movable.servable none.keeping_it);
       input = refl;
     } in
-    record { outcome = outcome; told = c.end_move-in-Err.ensures.told; not_words = move_not_1 _ _ _ _ _ outcome; out = search rules; keeps = search rules }
+    let fails = move_fails tells names before (parts before.input c.end_move-in-Err.new.output left.cabinet) before.output done moves c.end_move-in-Err.result c.end_move-in-Err.ensures.is in
+    record { outcome = outcome; told = c.end_move-in-Err.ensures.told; fails = fails; not_words = move_not_1 _ _ _ _ _ outcome; out = search rules; keeps = search rules }
