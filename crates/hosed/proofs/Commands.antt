@@ -8,8 +8,10 @@ use Rattle.std.proofs.lemmas.List.{drop-map, drop_more, get_or-map, length-drop,
 use Rattle.std.proofs.lemmas.Slice.Eq.{bytes_eq-Decides}
 use mathlib.Core.List.{map-id}
 use Rattle.hose_words.specs.steps.Cursor.{IsWrong, Misses, Position, Took}
-use Rattle.hose_words.specs.Form.{Form, IsChoice, IsWithin, TellsNumber, finish, grammar_of, maybe, place}
-use Rattle.hose_words.specs.Grammar.{IsFirst, IsFirstNotAllowed}
+use Rattle.hose_words.specs.steps.Form.{Form, TellsNumber, finish, grammar_of, maybe, place}
+use Rattle.hose_words.specs.Words.{IsChoice, IsFirst}
+use Rattle.hose_words.specs.Numbers.{IsWithin}
+use Rattle.hose_words.specs.steps.Grammar.{IsFirstNotAllowed}
 use Rattle.hose_words.proofs.Keywords.{choice_of}
 use Rattle.hose_words.proofs.Forms.{AreApart, Misses-stronger, after_branch, front_wrong, wrong_at_start, wrong_choice, wrong_chosen, wrong_later, wrong_maybe, wrong_place}
 use Rattle.hose_words.proofs.Passing.{Passes, pass_branch, pass_finish, pass_list, pass_maybe, pass_nothing, pass_place}

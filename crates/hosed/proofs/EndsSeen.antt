@@ -5,8 +5,9 @@ use Rattle.std.specs.Prelude.{◌↔◌}
 use Rattle.std.specs.List.{Any}
 use Rattle.std.proofs.lemmas.List.{drop_more, get_or-map, get_or_default, length-drop, length-map, length-take, take_more}
 use Rattle.hose_words.specs.steps.Cursor.{IsWrong, MissesItem, Took}
-use Rattle.hose_words.specs.Form.{Follows, grammar_of}
-use Rattle.hose_words.specs.Grammar.{IsFirst, IsFirstNotAllowed}
+use Rattle.hose_words.specs.steps.Form.{Follows, grammar_of}
+use Rattle.hose_words.specs.Words.{IsFirst}
+use Rattle.hose_words.specs.steps.Grammar.{IsFirstNotAllowed}
 use Rattle.hose_words.proofs.Listing.{Listing, listing_more, wrong_item}
 use Rattle.hose_graph.specs.Limit.{IsUpTo}
 use Rattle.hose_graph.specs.Name.{IsName}

@@ -7,8 +7,8 @@ use Rattle.std.specs.Prelude.{decimal}
 use Rattle.std.proofs.lemmas.Fmt.{decimal_injective}
 use Rattle.hose_doors.specs.Doors.{IsSocketPath}
 use Rattle.hose_words.specs.steps.Cursor.{IsWrong, Misses, Took}
-use Rattle.hose_words.specs.Form.{Form, TellsNumber, place}
-use Rattle.hose_words.specs.Grammar.{IsFirst}
+use Rattle.hose_words.specs.steps.Form.{Form, TellsNumber, place}
+use Rattle.hose_words.specs.Words.{IsFirst}
 use Rattle.hose_words.proofs.Forms.{Misses-stronger, wrong_at_start, wrong_choice, wrong_chosen, wrong_later, wrong_place}
 use Rattle.hose_words.proofs.Passing.{Passes, pass_branch, pass_place}
 use Rattle.hosed.specs.HostWords.{AsksToHost, HostAsked, IsPatience, StandbyAsked, host_word, operator_option, quiet_option, seconds_option, standby_option, stop_option}

@@ -8,8 +8,8 @@ use Rattle.hose_doors.specs.Doors.{NamesDoor}
 use Rattle.hose_doors.specs.steps.Doors.{AreDoorsUpTo}
 use Rattle.hose_doors.specs.Limits.{most_doors}
 use Rattle.hose_words.specs.steps.Cursor.{IsWrong}
-use Rattle.hose_words.specs.Form.{Follows, grammar_of}
-use Rattle.hose_words.specs.Grammar.{IsFirstNotAllowed}
+use Rattle.hose_words.specs.steps.Form.{Follows, grammar_of}
+use Rattle.hose_words.specs.steps.Grammar.{IsFirstNotAllowed}
 use Rattle.hose_words.proofs.Passing.{All-front, IsClosed, Passes, pass_list}
 use Rattle.hosed.specs.HostWords.{AreDoorWords}
 use Rattle.hosed.specs.steps.HostForms.{doors_form}

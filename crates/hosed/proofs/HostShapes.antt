@@ -5,7 +5,7 @@ use Rattle.std.proofs.Common.{◌≡◌, ◌∙◌, ℕ, ◌+◌, ◌≤◌, Lis
 use Rattle.std.proofs.lemmas.List.Elements.{All-nil}
 use mathlib.Core.List.{map-id}
 use Rattle.hose_doors.specs.Doors.{IsSocketPath, NamesDoor}
-use Rattle.hose_words.specs.Form.{TellsNumber, grammar_of, place}
+use Rattle.hose_words.specs.steps.Form.{TellsNumber, grammar_of, place}
 use Rattle.hose_words.specs.Shapes.{Shape, Values, choice, flag, line_end, option, words_told}
 use Rattle.hose_words.specs.Shapes as shape
 use Rattle.hose_words.proofs.Shapes.{Agrees, agrees_choice, agrees_flag, agrees_items, agrees_option, agrees_place, agrees_value, form_of_wrong, wrong_of_form}

@@ -1,6 +1,9 @@
 -- What words name, from what their task names.
-use Rattle.std.specs.Prelude.{◌≡◌, ℕ, List}
-use Rattle.hosed.specs.Naming.{AreNamed, named_bytes, task_names}
+use Rattle.std.proofs.Common.{◌≡◌, ◌≢◌, ℕ, List, None, refl}
+use Rattle.hose_offline.specs.declared.fault.Fault.{Fault}
+use Rattle.hose_offline.specs.declared.fault.Fault.TheVariants.{Cabinet, Text}
+use Rattle.hosed.specs.Naming.{AreNamed, TaskNames, named_bytes, task_names}
+use Rattle.hosed.specs.steps.Naming.{failed_file}
 use Rattle.hosed.specs.steps.Arguments.{AreArgumentWords, ArgumentTask}
 use Rattle.hosed.proofs.ProgramShapes.{are_told, task_told}
 use Rattle.hosed.specs.declared.verb.ProgramVerb.{ProgramVerb}
@@ -8,3 +11,9 @@ use Rattle.hosed.specs.declared.naming.NamedByWords.{NamedByWords}
 
 pub are_named : (names words : List (List ℕ)) (verb : ProgramVerb) (task : ArgumentTask verb) (named : NamedByWords) → AreArgumentWords names words verb task → named_bytes named ≡ task_names names verb (task_told names verb task) → AreNamed names words named
 are_named names words verb task named are same = record { verb = verb; task = task_told names verb task; are = are_told names words verb task are; same = same }
+
+-- no file is meant by another fault
+pub none_failed : (named : TaskNames) (fault : Fault) → fault ≢ Text → fault ≢ Cabinet → None ≡ failed_file named fault
+none_failed named Text no_text no_cabinet = absurd (no_text refl)
+none_failed named Cabinet no_text no_cabinet = absurd (no_cabinet refl)
+none_failed named another no_text no_cabinet = refl

@@ -4,7 +4,9 @@ use Rattle.hose_offline.specs.Ending.{IsOut}
 use Rattle.hose_offline.specs.Fault.{last_line}
 use Rattle.hose_offline.specs.declared.fault.Fault.TheVariants.{Words}
 use Rattle.hose_offline.specs.Parts.{Parts, Tellings, parts}
+use Rattle.hose_offline.specs.declared.why.Why.{Why}
 use Rattle.hose_offline.specs.Auditing.{PricedNames}
+use Rattle.hosed.specs.Failing.{FailsTask, FailsWords}
 use Rattle.hosed.specs.Offline.{Does, Offer, OfflineOutcome}
 use Rattle.hosed.specs.ServeOutcome.{ServeOutcome}
 use Rattle.hosed.specs.ServerDoor.{DoorSeen, DoorTask}
@@ -44,11 +46,24 @@ module _ {I O C E : Type 0} (tells : Tellings I O C E) (offer : Offer) (before a
     does = λ verb task are. absurd (no_task offer.pricing.names words verb task number are wrong);
   }
 
+-- what is told of the files of a command is of those that its words name
+pub fails_words : {I O C E : Type 0} (tells : Tellings I O C E) (offer : Offer) (before after : Parts I O C) (why : Why) (words : List (List ℕ)) (verb : ProgramVerb) (task : ArgumentTask verb) → AreArgumentWords offer.pricing.names words verb task → FailsTask tells offer before after why verb (task_told offer.pricing.names verb task) → FailsWords tells offer before after why words
+fails_words tells offer before after why words verb task are fails = record { of = each_task offer.pricing.names words (FailsTask tells offer before after why) verb task are fails }
+
+-- wrong words name none
+pub fails_none : {I O C E : Type 0} (tells : Tellings I O C E) (offer : Offer) (before after : Parts I O C) (why : Why) (words : List (List ℕ)) (number : ℕ) → IsFirstUnfit offer.pricing.names words number → FailsWords tells offer before after why words
+fails_none tells offer before after why words number wrong = record { of = λ verb task are. absurd (no_task offer.pricing.names words verb task number are wrong) }
+
 -- what is beside a command, told part by part as it was lent and as it comes back
 pub told_of : {I O C E : Type 0} {tells : Tellings I O C E} {offer : Offer} {before was : Parts I O C} {status : ℕ} {words : List (List ℕ)} (after : Parts I O C) {input : I} {output : O} {cabinet : C} → before ≡ was → after.input ≡ input → after.output ≡ output → after.cabinet ≡ cabinet
     → OfflineOutcome tells offer before after status words → OfflineOutcome tells offer was (parts input output cabinet) status words
 told_of {tells = tells} {offer = offer} {was = was} {status = status} {words = words} after lent input output cabinet outcome =
     subst (λ (now : Parts _ _ _). OfflineOutcome tells offer was now status words) (λ i. parts (input i) (output i) (cabinet i)) (subst (λ (old : Parts _ _ _). OfflineOutcome tells offer old after status words) lent outcome)
+
+pub fails_of : {I O C E : Type 0} {tells : Tellings I O C E} {offer : Offer} {before was : Parts I O C} {why : Why} {words : List (List ℕ)} (after : Parts I O C) {input : I} {output : O} {cabinet : C} → before ≡ was → after.input ≡ input → after.output ≡ output → after.cabinet ≡ cabinet
+    → FailsWords tells offer before after why words → FailsWords tells offer was (parts input output cabinet) why words
+fails_of {tells = tells} {offer = offer} {was = was} {why = why} {words = words} after lent input output cabinet fails =
+    subst (λ (now : Parts _ _ _). FailsWords tells offer was now why words) (λ i. parts (input i) (output i) (cabinet i)) (subst (λ (old : Parts _ _ _). FailsWords tells offer old after why words) lent fails)
 
 -- what is beside a server, so told
 pub served_of : {I O C E : Type 0} {tells : Tellings I O C E} {names : PricedNames} {task : DoorTask} {before was : Parts I O C} {door door' : DoorSeen} {status : ℕ} (after : Parts I O C) {input : I} {output : O} {cabinet : C} → before ≡ was → after.input ≡ input → after.output ≡ output → after.cabinet ≡ cabinet

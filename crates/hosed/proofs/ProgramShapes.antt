@@ -3,8 +3,9 @@ use Rattle.std.specs.Str.{bytes_eq}
 use Rattle.std.proofs.Common.{◌≡◌, ◌≢◌, ◌∙◌, ◌⊎◌, ℕ, ◌<◌, ◌-◌, ◌^◌, List, [], ◌∷◌, Bool, true, false, None, Some, inl, inr, suc, zero, get_or, refl, sym, ap, subst, arith}
 use Rattle.std.proofs.lemmas.Slice.Eq.{bytes_eq-Decides}
 use mathlib.Core.List.{map-id}
-use Rattle.hose_words.specs.Form.{Form, Follows, IsChoice, IsWhole, finish, grammar_of, maybe, place}
-use Rattle.hose_words.specs.Grammar.{Grammar}
+use Rattle.hose_words.specs.steps.Form.{Form, Follows, IsWhole, finish, grammar_of, maybe, place}
+use Rattle.hose_words.specs.Words.{IsChoice}
+use Rattle.hose_words.specs.steps.Grammar.{Grammar}
 use Rattle.hose_words.specs.Shapes.{Begin, IsFirstWrong, MayBeTold, Shape, last, line_end, words_told}
 use Rattle.hose_words.specs.Shapes as shape
 use Rattle.hose_words.proofs.Shapes.{AddsOption, Agrees, agrees_end, agrees_flag, agrees_items, agrees_last, agrees_option, agrees_place, agrees_value, form_of_wrong, wrong_of_form}

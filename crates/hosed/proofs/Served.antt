@@ -16,12 +16,17 @@ use Rattle.hose_offline.specs.steps.Journal.{TouchesOnly}
 use Rattle.hose_offline.specs.OnDisk.{CabinetFailed, JournalIsTold}
 use Rattle.hose_offline.specs.Parts.{Tellings}
 use Rattle.hose_offline.specs.ServingOnDisk.{IsNotServed}
+use Rattle.hose_offline.specs.steps.Ending.{IsWhyAfter}
+use Rattle.hose_offline.specs.steps.Failing.{FailsOpened}
+use Rattle.hose_offline.specs.declared.why.Why.{Why}
+use Rattle.hose_turn.specs.Known.{Known}
 use Rattle.hose_offline.specs.declared.fault.Fault.{Fault}
 use Rattle.hose_offline.specs.declared.fault.Fault.TheVariants.{Cabinet, Door, Memory, Write}
 use Rattle.hose_offline.proofs.Audited.{named_not_1, named_not_read, named_read, no_store, no_topology, told_status}
 use Rattle.hose_offline.proofs.Outcomes.{clash}
 use Rattle.hosed.specs.ServeOutcome.{EndsServed, IsServed, ServeOutcome, first_failed}
 use Rattle.hosed.specs.ServerDoor.{DoorTask, AreServedAlongPass, OutputDoor, OutsideDoor, ServesByJournal, Speaks, spoken}
+use Rattle.hosed.specs.steps.ServerDoor.{IsWhyServed}
 use Rattle.hosed.specs.declared.server.ServerEnd.{ServerEnd}
 use Rattle.hosed.proofs.Connections.{served_before}
 
@@ -53,6 +58,21 @@ served_status sink port before after left status (Ok end) speaks ends other no_0
     by : (why : Fault) → (why ≡ Door) ⊎ (why ≡ Cabinet) → status_of why ≢ other
     by why (inl door) same = no_9 (sym same ∙ ap status_of door)
     by why (inr cabinet) same = no_6 (sym same ∙ ap status_of cabinet)
+
+-- of the journal it is told that it failed where closing did
+pub serving_fails : {I O C E : Type 0} (tells : Tellings I O C E) (name : List ℕ) (old new : C) (network : Network) (Along : Known → Result ⊤ Failed → Type 0) (port : ℕ) (before after : OutputDoor O) (came : Result ServerEnd Fault) → ServesByJournal tells name old new network Along came → Speaks tells.sink port before after came
+    → (why : Why) → IsWhyServed came why → FailsOpened tells.cabinet old new why
+serving_fails tells name old new network Along port before after (Ok end) serves speaks why is = by end.accepting end.closing serves.kept.met.failed is
+  where
+    by : (accepting closing : Result ⊤ Failed) → (IsErr closing → CabinetFailed tells.cabinet old new) → IsWhyAfter (first_failed accepting closing) why → FailsOpened tells.cabinet old new why
+    by (Err failed) closing met is' = subst (FailsOpened tells.cabinet old new) (sym is') tt
+    by (Ok done) (Err failed) met is' = subst (FailsOpened tells.cabinet old new) (sym is') (met refl)
+    by (Ok done) (Ok closed) met (inl is') = subst (FailsOpened tells.cabinet old new) (sym is') tt
+    by (Ok done) (Ok closed) met (inr is') = subst (FailsOpened tells.cabinet old new) (sym is') tt
+serving_fails tells name old new network Along port before after (Err Memory) serves speaks why is = subst (FailsOpened tells.cabinet old new) (sym is) tt
+serving_fails tells name old new network Along port before after (Err Door) serves speaks why is = subst (FailsOpened tells.cabinet old new) (sym is) tt
+serving_fails tells name old new network Along port before after (Err Write) serves speaks why is = subst (FailsOpened tells.cabinet old new) (sym is) tt
+serving_fails tells name old new network Along port before after (Err another) serves speaks why is = absurd speaks
 
 module _ {I O C E : Type 0} (tells : Tellings I O C E) (names : PricedNames) (task : DoorTask) (before after : OutsideDoor I O C) where
   abbrev purpose : Purpose

@@ -1,27 +1,31 @@
 -- A store that was shared, from its opening to its closing.
-use Rattle.std.proofs.Common.{◌≡◌, ◌∙◌, ◌⊎◌, inl, inr, ⊎_elim, ℕ, ◌≤◌, ◌<◌, List, [], ◌∷◌, length, Bool, Option, is_some, ◌↔◌, Result, Ok, nat_lt, refl, sym, ap, subst, arith, append-nil, length-append, Err}
+use Rattle.std.proofs.Common.{◌≡◌, ◌∙◌, ◌⊎◌, inl, inr, ⊎_elim, ℕ, zero, suc, ◌≤◌, ◌<◌, List, [], ◌∷◌, length, Bool, IfSome, None, Option, Some, is_some, Result, Ok, nat_lt, refl, sym, ap, subst, arith, append-nil, length-append, Err}
 use Rattle.std.specs.Prelude.{⊤}
 use mathlib.Core.List.{IsPrefix}
 use Rattle.hose_io.specs.declared.Failed.{Failed}
 use Rattle.hose_io.specs.declared.sink.Sink.{Ghosts as SinkGhosts}
 use Rattle.hose_graph.specs.Network.{Network}
 use Rattle.hose_graph.specs.declared.entry.Entry.{Entry}
-use Rattle.hose_law.specs.History.{IsDecidedAt, IsSound}
+use Rattle.hose_law.specs.Book.{Book}
+use Rattle.hose_law.specs.History.{AreFrom, EntryKind, IsDecidedAt, IsSound, book_of, next_book, opening_book}
 use Rattle.hose_book.specs.Ledger.{IsLedgerOf, Ledger}
 use Rattle.hose_disk.specs.declared.disk.Disk.{Ghosts as DiskGhosts}
 use Rattle.hose_shared.specs.steps.Closing.{HasShared}
-use Rattle.hose_store.specs.Beginning.{Beginning}
+use Rattle.hose_store.specs.Beginning.{Beginning, IsOrOneMore}
 use Rattle.hose_store.specs.steps.Beginning.{StandsFor}
 use Rattle.hose_store.specs.steps.Store.{KeptStore}
 use Rattle.hose_turn.specs.Faults.{end_of_count}
+use Rattle.hose_turn.specs.declared.view.Tried.{Tried}
 use Rattle.hose_turn.specs.Known.{Known}
+use Rattle.hose_shared.specs.Trying.{IsTried}
 use Rattle.hose_turn.specs.Places.{HasPlaces}
 use Rattle.hose_offline.specs.OnDisk.{opening_of}
 use Rattle.hose_offline.specs.steps.Journal.{IsJustOpened}
 use Rattle.hose_offline.specs.declared.fault.Fault.{Fault}
 use Rattle.hose_offline.specs.declared.fault.Fault.TheVariants.{Memory}
 use Rattle.hosed.specs.ServerDoor.{IsAnnounced, OutputDoor, ServerProgress, ServesBook, Speaks, StaysAsRead, from_to}
-use Rattle.hosed.specs.steps.ServerDoor.{IsClosedOn, IsKeptOn, IsOpening, OpensAt}
+use Rattle.hosed.specs.steps.ServerDoor.{IsClosedOn, IsKeptOn, IsNoEntry, IsOpenedAs, IsOpening, Opened, OpensAt}
+use Rattle.hose_store.proofs.Standing.{opened_stands}
 use Rattle.hosed.specs.declared.server.ServerEnd.{ServerEnd}
 
 -- a history without a place after its beginning is that beginning
@@ -37,7 +41,12 @@ no_more since history (entry ∷ more, same) none = absurd (at (nat_lt (length s
 
 -- a store that was just opened stands for the history for which its disk stood
 pub just_opened : {E : Type 0} (disk : DiskGhosts E) (was : E) (network : Network) (store : KeptStore E) (opens : IsJustOpened disk IsDecidedAt was network store) → IsOpening disk was network opens.opened.history store
-just_opened disk was network store opens = record { read = opens.opened.read; stands = opens.stands }
+just_opened disk was network store opens =
+    let laws = opens.lawful in
+    record {
+      read = opens.opened.read;
+      stands = opened_stands disk IsNoEntry (disk.may_leave was) (opening_of disk network opens.opened.history was) was store opens.opened refl opens.images opens.stands.tells refl (laws.counts_now was) (laws.untold store.journal.disk) (omega arith) (laws.only_now was);
+    }
 
 -- what a server that gave up comes to: the journal stays as it was read
 pub given_up : (network : Network) (IsKept : ServerProgress → Result ⊤ Failed → Type 0) (faults : ℕ) (Along : Known → Result ⊤ Failed → Type 0) (came : Result ServerEnd Fault) (why : Fault) → came ≡ Err why → StaysAsRead network IsKept → ServesBook network IsKept faults Along came
@@ -54,8 +63,8 @@ gave_up {O} sink port before mid after came why is same announced =
     subst (Speaks sink port before after) (sym is) (subst (λ (now : OutputDoor O). Speaks sink port before now (Err why)) (sym same) (not_announced sink port before mid why announced))
 
 -- a store stands for a history since any images that are no fewer
-stands_had : {E : Type 0} (disk : DiskGhosts E) (Had Has : List ℕ → Type 0) (beginning : Beginning) (history : List Entry) (store : KeptStore E) → ((image : List ℕ) → Had image → Has image) → StandsFor disk IsDecidedAt Had beginning history store
-    → StandsFor disk IsDecidedAt Has beginning history store
+stands_had : {E : Type 0} (disk : DiskGhosts E) (Had Has : List ℕ → Type 0) (beginning : Beginning) (history : List Entry) (store : KeptStore E) → ((image : List ℕ) → Had image → Has image) → StandsFor disk IsNoEntry Had beginning history store
+    → StandsFor disk IsNoEntry Has beginning history store
 stands_had disk Had Has beginning history store more stands = record {
   doubt = stands.doubt;
   network = stands.network;
@@ -68,43 +77,74 @@ stands_had disk Had Has beginning history store more stands = record {
   tells = stands.tells;
 }
 
--- a disk that is named by its images, its content and its moment
-module _ {E : Type 0} (disk : DiskGhosts E) (was : E) (Had : List ℕ → Type 0) (content : Option (List ℕ)) (moment : ℕ) (named network : Network) (had : (image : List ℕ) → Had image ↔ disk.may_leave was image) (is_content : content ≡ disk.content was)
-    (is_moment : moment ≡ disk.moment was) (is_network : named ≡ network) (since : List Entry) (store : KeptStore E) where
+-- entries of one kind are of any kind that holds wherever it does
+from_weaker : (One Other : EntryKind) (network : Network) → ((book : Book) (entry : Entry) → One network book entry → Other network book entry) → (book : Book) (since : ℕ) (entries : List Entry) → AreFrom One network book since entries → AreFrom Other network book since entries
+from_weaker One Other network weaker book since [] are = tt
+from_weaker One Other network weaker book zero (entry ∷ entries) are = (weaker book entry are.0, from_weaker One Other network weaker (next_book book entry) zero entries are.1)
+from_weaker One Other network weaker book (suc since) (entry ∷ entries) are = from_weaker One Other network weaker (next_book book entry) since entries are
+
+if_weaker : (P Q : Entry → Type 0) → ((entry : Entry) → P entry → Q entry) → (one : Option Entry) → IfSome one P → IfSome one Q
+if_weaker P Q weaker None is = tt
+if_weaker P Q weaker (Some entry) is = weaker entry is
+
+-- a store stands for a history by entries of such a kind
+stands_weaker : {E : Type 0} (disk : DiskGhosts E) (One Other : EntryKind) (Had : List ℕ → Type 0) (beginning : Beginning) (history : List Entry) (store : KeptStore E) → ((book : Book) (entry : Entry) → One beginning.network book entry → Other beginning.network book entry)
+    → StandsFor disk One Had beginning history store → StandsFor disk Other Had beginning history store
+stands_weaker disk One Other Had beginning history store weaker stands = record {
+  doubt = stands.doubt;
+  network = stands.network;
+  has = stands.has;
+  since = stands.since;
+  added = from_weaker One Other beginning.network weaker (opening_book 0) (length beginning.since) history stands.added;
+  doubtful = if_weaker (One beginning.network (book_of 0 history)) (Other beginning.network (book_of 0 history)) (weaker (book_of 0 history)) stands.doubt stands.doubtful;
+  later = stands.later;
+  moments = λ image left. ⊎_elim (λ part. inl (part.0, part.1, part.2, more part.0 image part.3)) (λ had. inr had) (stands.moments image left);
+  tells = stands.tells;
+}
+  where
+    more : (part : List Entry) (image : List ℕ) → IsOrOneMore One beginning.network part image → IsOrOneMore Other beginning.network part image
+    more part image (inl is) = inl is
+    more part image (inr one) = inr (one.0, weaker (book_of 0 part) one.0 one.1, one.2)
+
+-- an opening that is named
+module _ {E : Type 0} (disk : DiskGhosts E) (opened : Opened) (was : E) (first : KeptStore E) (named : IsOpenedAs disk opened was first) (since : List Entry) (store : KeptStore E) where
+  abbrev network : Network
+  network = first.ledger.network
+
   abbrev beginning : Beginning
-  beginning = record { since = since; network = named; moment = moment; tells = is_some content }
+  beginning = record { since = since; network = opened.network; moment = opened.moment; tells = is_some opened.content }
 
   same_beginning : beginning ≡ opening_of disk network since was
-  same_beginning = rw (is_content, is_moment, is_network) refl
+  same_beginning = rw (named.content, named.moment, named.network) refl
 
-  pub opens_at : IsOpening disk was network since store → OpensAt disk Had content moment named since store
+  pub opens_at : IsOpening disk was network since store → OpensAt disk opened since store
   opens_at opening = record {
-    read = rw (is_content, is_network) opening.read;
-    stands = subst (λ (b : Beginning). StandsFor disk IsDecidedAt Had b since store) (sym same_beginning)
-        (stands_had disk (disk.may_leave was) Had (opening_of disk network since was) since store (λ image one. (had image).1 one) opening.stands);
+    read = rw (named.content, named.network) opening.read;
+    stands = subst (λ (b : Beginning). StandsFor disk IsNoEntry opened.had b since store) (sym same_beginning)
+        (stands_had disk (disk.may_leave was) opened.had (opening_of disk network since was) since store (λ image one. (named.had image).1 one) opening.stands);
   }
 
-  pub is_opening : OpensAt disk Had content moment named since store → IsOpening disk was network since store
+  pub is_opening : OpensAt disk opened since store → IsOpening disk was network since store
   is_opening opens = record {
-    read = rw (sym is_content, sym is_network) opens.read;
-    stands = subst (λ (b : Beginning). StandsFor disk IsDecidedAt (disk.may_leave was) b since store) same_beginning
-        (stands_had disk Had (disk.may_leave was) beginning since store (λ image one. (had image).0 one) opens.stands);
+    read = rw (sym named.content, sym named.network) opens.read;
+    stands = subst (λ (b : Beginning). StandsFor disk IsNoEntry (disk.may_leave was) b since store) same_beginning
+        (stands_had disk opened.had (disk.may_leave was) beginning since store (λ image one. (named.had image).0 one) opens.stands);
   }
 
 module _ {E : Type 0} (disk : DiskGhosts E) (was left : E) (network : Network) (closing : Result ⊤ Failed) where
-  kept_from : (since history : List Entry) (first store : KeptStore E) → IsOpening disk was network since first → StandsFor disk IsDecidedAt (disk.may_leave was) (opening_of disk network since was) history store → IsClosedOn disk store left closing
-      → IsKeptOn disk was left (from_to network since history) closing
-  kept_from since history first store opening stands closed = record {
+  kept_from : (since history : List Entry) (tries : List Tried) (first store : KeptStore E) → IsOpening disk was network since first → StandsFor disk (IsTried history tries) (disk.may_leave was) (opening_of disk network since was) history store → IsClosedOn disk store left closing
+      → IsKeptOn disk was left (from_to network since history tries) closing
+  kept_from since history tries first store opening stands closed = record {
     read = opening.read;
     begins = stands.since;
-    decided = record { sound = subst (λ (n : Network). IsSound n 0 history) stands.network stands.has.sound; decided = stands.added };
+    decided = record { sound = subst (λ (n : Network). IsSound n 0 history) stands.network stands.has.sound; decided = from_weaker (IsTried history tries) IsDecidedAt network (λ book entry is. is.decided) (opening_book 0) (length since) history stands.added };
     told = closed.call.told;
-    leaves = closed.leaves was (opening_of disk network since was) history stands;
+    leaves = closed.leaves was (opening_of disk network since was) history tries stands;
   }
 
   -- a store that was opened and closed
   pub closed_at_once : (since : List Entry) (store : KeptStore E) → IsOpening disk was network since store → IsClosedOn disk store left closing → StaysAsRead network (IsKeptOn disk was left)
-  closed_at_once since store opening closed = record { since = since; closing = closing; kept = kept_from since since store store opening opening.stands closed }
+  closed_at_once since store opening closed = record { since = since; closing = closing; kept = kept_from since since [] store store opening (stands_weaker disk IsNoEntry (IsTried since []) (disk.may_leave was) (opening_of disk network since was) since store (λ book entry none. absurd none) opening.stands) closed }
 
   -- a store that was shared between
   module _ (Begins : List Entry → KeptStore E → Type 0) (named : (since : List Entry) (store : KeptStore E) → Begins since store → IsOpening disk was network since store) (pass : Known) (first store : KeptStore E)
@@ -114,17 +154,33 @@ module _ {E : Type 0} (disk : DiskGhosts E) (was left : E) (network : Network) (
     abbrev since : List Entry
     since = pass.origin.since
 
-    kept : IsKeptOn disk was left (from_to network since shared.history) closing
-    kept = kept_from since shared.history first store (named since first began)
-        (shared.stands (opening_of disk network since was) was refl (sym of) (λ one begins. (named since one begins).stands)) closed
+    abbrev IsMine : EntryKind
+    IsMine = IsTried shared.history pass.tried
+
+    -- what was tried is the pass's
+    mine : (book : Book) (entry : Entry) → IsTried shared.history shared.tries network book entry → IsMine network book entry
+    mine book entry is = record {
+      decided = is.decided;
+      before = is.before;
+      begins = is.begins;
+      is_book = is.is_book;
+      is_tried = ⊎_elim (λ next. inl next) (λ tried. inr (tried.0, shared.whole.tried tried.0 tried.1, tried.2, tried.3)) is.is_tried;
+    }
+
+    kept : IsKeptOn disk was left (from_to network since shared.history pass.tried) closing
+    kept = kept_from since shared.history pass.tried first store (named since first began)
+        (stands_weaker disk (IsTried shared.history shared.tries) IsMine (disk.may_leave was) (opening_of disk network since was) shared.history store mine
+        (shared.stands (opening_of disk network since was) was refl (sym of) (λ one begins.
+        stands_weaker disk IsNoEntry (IsTried shared.history shared.tries) (disk.may_leave was) (opening_of disk network since was) since one (λ book entry none. absurd none) (named since one begins).stands))) closed
 
     -- nothing was made along the pass
-    pub stays_shared : pass.own ≡ [] → StaysAsRead network (IsKeptOn disk was left)
-    stays_shared none = record {
+    pub stays_shared : pass.own ≡ [] → pass.tried ≡ [] → StaysAsRead network (IsKeptOn disk was left)
+    stays_shared none untried = record {
       since = since;
       closing = closing;
-      kept = subst (λ (history : List Entry). IsKeptOn disk was left (from_to network since history) closing)
-          (no_more since shared.history kept.begins (subst (HasPlaces (length since) (length shared.history)) none shared.whole.own)) kept;
+      kept = subst (λ (history : List Entry). IsKeptOn disk was left (from_to network since history []) closing)
+          (no_more since shared.history kept.begins (subst (HasPlaces (length since) (length shared.history)) none shared.whole.own))
+          (subst (λ (tries : List Tried). IsKeptOn disk was left (from_to network since shared.history tries) closing) untried kept);
     }
 
     -- connections were served along it
@@ -140,6 +196,7 @@ module _ {E : Type 0} (disk : DiskGhosts E) (was left : E) (network : Network) (
         began = refl;
         seen = shared.whole.seen;
         own = shared.whole.own;
+        tried = refl;
         met = ⊎_elim (λ few. inl (omega (arith, few, closed.call.met.stays.never_falls))) (λ most. inr (omega (arith, most, closed.call.met.stays.never_falls))) met;
       };
       served = served;

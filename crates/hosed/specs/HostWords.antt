@@ -3,8 +3,8 @@ use Rattle.std.specs.Prelude.{◌≡◌, ℕ, ◌+◌, ◌-◌, ◌≤◌, List,
 use mathlib.Core.Logic.{◌⊎◌, inl, inr}
 use Rattle.hose_doors.specs.Doors.{IsSocketPath, NamesDoor}
 use Rattle.hose_doors.specs.Limits.{most_doors}
-use Rattle.hose_words.specs.Form.{IsWithin}
-use Rattle.hose_words.specs.Grammar.{IsFirst}
+use Rattle.hose_words.specs.Numbers.{IsWithin}
+use Rattle.hose_words.specs.Words.{IsFirst}
 use Rattle.hose_words.specs.Shapes.{IsFirstWrong, Shape, Tells, Values, choice, flag, items, line_end, option, value, words_told}
 use Rattle.hosed.specs.ProgramWords.{file_and, with_tariff}
 

@@ -1,3 +1,4 @@
+pub mod Failing
 pub mod Hosed
 pub mod HostNaming
 pub mod HostWords

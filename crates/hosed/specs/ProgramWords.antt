@@ -1,7 +1,7 @@
 -- The words that the program is run with.
 use Rattle.std.specs.Prelude.{◌≡◌, ◌≢◌, ℕ, ◌-◌, ◌^◌, ◌<◌, ◌≤◌, List, [], ◌∷◌, codes, decimal, get_or, length, Option, None, Some, suc, zero, ⊤}
-use Rattle.hose_words.specs.Form.{Fits64, IsWithin}
-use Rattle.hose_words.specs.Grammar.{IsFirst}
+use Rattle.hose_words.specs.Numbers.{Fits64, IsWithin}
+use Rattle.hose_words.specs.Words.{IsFirst}
 use Rattle.hose_words.specs.Shapes.{Shape, Tells, Values, flag, items, last, line_end, option, value}
 use Rattle.hose_gen.specs.Limits.{least_nodes, most_hoses}
 use Rattle.hose_graph.specs.Network.{Network}

@@ -11,7 +11,7 @@ use Rattle.hose_graph.specs.Network.{Network}
 use Rattle.hose_graph.specs.declared.entry.Entry.{Entry}
 use Rattle.hose_law.specs.Book.{IsOversold}
 use Rattle.hose_law.specs.Cheapest.{AreCheapest}
-use Rattle.hose_law.specs.History.{IsDecided, IsDecidedAt, book_of}
+use Rattle.hose_law.specs.History.{IsDecided, book_of}
 use Rattle.hose_law.specs.Live.{AreLiveUnreleased, StaysLive}
 use Rattle.hose_book.specs.Ledger.{IsLedgerOf}
 use Rattle.hose_crew.specs.Crew.{AreServed}
@@ -19,9 +19,11 @@ use Rattle.hose_disk.specs.Cabinet.{object_of}
 use Rattle.hose_proto.specs.ReplyText.{line_of}
 use Rattle.hose_store.specs.Beginning.{HasLeft}
 use Rattle.hose_store.specs.Recovery.{IsHistoryOf}
+use Rattle.hose_shared.specs.Trying.{IsTried}
 use Rattle.hose_turn.specs.Faults.{end_of_count}
 use Rattle.hose_turn.specs.Known.{Known}
 use Rattle.hose_turn.specs.Places.{HasPlaces}
+use Rattle.hose_turn.specs.declared.view.Tried.{Tried}
 use Rattle.hose_offline.specs.OnDisk.{HadContent, OfHeld, opening_of}
 use Rattle.hose_offline.specs.Parts.{Parts, Tellings, parts}
 use Rattle.hose_offline.specs.declared.fault.Fault.{Fault}
@@ -108,23 +110,29 @@ AreServedAlongPass count was now pass accepting = AreServed was.told now.told co
 
 -- ---- the book that is kept
 
--- how the history of a network went on: the one with which it begins, and what it is now
+-- how the history of a network went on: the one with which it begins, what it is now, and what was
+-- tried beside and not entered
 pub record ServerProgress : Type 0 where
   pub network : Network
   pub since : List Entry
   pub history : List Entry
+  pub tries : List Tried
 
--- how the history of a network went on, of the network, the history at first and the history now
-abbrev pub from_to : Network → List Entry → List Entry → ServerProgress
-from_to network since history = record { network = network; since = since; history = history }
+-- how the history of a network went on, of the network, the history at first, the history now and
+-- what was tried
+abbrev pub from_to : Network → List Entry → List Entry → List Tried → ServerProgress
+from_to network since history tries =
+    record { network = network; since = since; history = history; tries = tries }
 
 -- The history was made along one pass: it begins with what the pass has seen, and each of its
--- entries since the first history is the pass's own. The disk has met as many faults as the pass.
+-- entries since the first history is the pass's own, as is what was tried. The disk has met as many
+-- faults as the pass.
 pub record IsMadeAlong (made : ServerProgress) (pass : Known) (faults : ℕ) : Type 0 where
   pub of : pass.origin.network ≡ made.network
   pub began : pass.origin.since ≡ made.since
   pub seen : IsPrefix pass.seen made.history
   pub own : HasPlaces (length made.since) (length made.history) pass.own
+  pub tried : pass.tried ≡ made.tries
   pub met : (pass.faults ≤ faults) ⊎ (end_of_count ≤ faults)
 
 module _ (network : Network) (IsKept : ServerProgress → Result ⊤ Failed → Type 0) where
@@ -134,8 +142,8 @@ module _ (network : Network) (IsKept : ServerProgress → Result ⊤ Failed → 
     pub since : List Entry
     pub history : List Entry
     pub pass : Known
-    pub kept : IsKept (from_to network since history) end.closing
-    pub along : IsMadeAlong (from_to network since history) pass faults
+    pub kept : IsKept (from_to network since history pass.tried) end.closing
+    pub along : IsMadeAlong (from_to network since history pass.tried) pass faults
     pub served : Along pass
     pub is : IsLedgerOf network 0 history end.book
 
@@ -143,7 +151,7 @@ module _ (network : Network) (IsKept : ServerProgress → Result ⊤ Failed → 
   pub record StaysAsRead : Type 0 where
     pub since : List Entry
     pub closing : Result ⊤ Failed
-    pub kept : IsKept (from_to network since since) closing
+    pub kept : IsKept (from_to network since since []) closing
 
   -- what serving by a store that was opened comes to: connections were served, or nothing was
   -- entered
@@ -155,10 +163,12 @@ module _ (network : Network) (IsKept : ServerProgress → Result ⊤ Failed → 
 
 module _ {I O C E : Type 0} (tells : Tellings I O C E) (name : List ℕ) (old new : C) where
   -- The journal of a name was kept from its opening, when it stood for the first history, to its
-  -- closing. The cabinet failed exactly where closing did. At each place of the history since no
-  -- link is oversold, and exactly those VPNs are live that were admitted before it and not released
-  -- since; what each later admission reserves carries every matrix within the rates of its hose,
-  -- and no tree over the links allowed at the book before it carries them at less cost.
+  -- closing. Where an image of the disk has one entry more than a part of the history, that is the
+  -- next one of it or was tried there. The cabinet failed exactly where closing did. At each place
+  -- of the history since no link is oversold, and exactly those VPNs are live that were admitted
+  -- before it and not released since; what each later admission reserves carries every matrix
+  -- within the rates of its hose, and no tree over the links allowed at the book before it carries
+  -- them at less cost.
   pub record IsKeptIn (made : ServerProgress) (closing : Result ⊤ Failed) : Type 0 where
     pub begun : HadContent tells.cabinet tells.disk old name
         (IsHistoryOf made.network made.since)
@@ -166,9 +176,9 @@ module _ {I O C E : Type 0} (tells : Tellings I O C E) (name : List ℕ) (old ne
     pub decided : IsDecided made.network 0 (length made.since) made.history
     pub met : Met (object_of (tells.cabinet.frame old)) (object_of (tells.cabinet.frame new))
         closing
-    pub left : OfHeld tells.cabinet name old new (λ was left. HasLeft tells.disk IsDecidedAt
-        (tells.disk.may_leave was) (opening_of tells.disk made.network made.since was)
-        made.history left closing)
+    pub left : OfHeld tells.cabinet name old new (λ was left. HasLeft tells.disk
+        (IsTried made.history made.tries) (tells.disk.may_leave was)
+        (opening_of tells.disk made.network made.since was) made.history left closing)
     pub none_oversold : (place l : ℕ)
         → ¬ IsOversold made.network (book_of 0 (take place made.history)) l
     pub held : (place : ℕ) → place ≤ length made.history

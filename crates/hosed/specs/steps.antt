@@ -2,6 +2,7 @@
 pub mod Arguments
 pub mod HostForms
 pub mod HostReading
+pub mod Naming
 pub mod ProgramWords
 pub mod Reading
 pub mod ServerDoor

@@ -3,6 +3,7 @@ ghost use Rattle.std.specs.Prelude.{◌≡◌, ℕ, List, None, map};
 ghost use Rattle.hose_offline.specs.Parts.{tellings};
 ghost use Rattle.hose_offline.specs.Why.{IsTold, why_status};
 ghost use Rattle.hose_offline.specs.steps.Parts.{KeepsAll, held};
+ghost use Rattle.hosed.specs.Failing.{FailsWords};
 ghost use Rattle.hosed.specs.Offline.{OfflineOutcome, offer_of};
 ghost use Rattle.hosed.specs.steps.ProgramWords.{AreWordsOf, tariff_in};
 
@@ -34,6 +35,11 @@ pub fn do_request<I: Source, O: Sink, C: Cabinet>(
         (λ tariff. tariff.per) tariffs.now)
         (held outside.old) (held outside.new) (why_status result) words }
     ensures told { IsTold O.Sink outside.new.output.now result }
+    ensures fails { (words : List (List ℕ))
+        → AreWordsOf (map (λ tariff. tariff.name) tariffs.now) words request.entry
+        → FailsWords (tellings I.Source O.Sink C.Cabinet C.Disk.Disk)
+        (offer_of ⟦<Tariff as Prices>⟧.prices (λ tariff. tariff.name) (λ tariff. tariff.base)
+        (λ tariff. tariff.per) tariffs.now) (held outside.old) (held outside.new) result words }
     ensures out { (C.frame outside.new.cabinet.now).out ≡ (C.frame outside.old.cabinet.now).out }
     ensures keeps { KeepsAll (tellings I.Source O.Sink C.Cabinet C.Disk.Disk)
         outside.old outside.new }

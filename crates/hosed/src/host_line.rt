@@ -3,7 +3,7 @@ ghost use Rattle.std.specs.Prelude.{◌≡◌, ◌↔◌, ◌+◌, ◌≤◌, If
 ghost use Rattle.std.specs.String.{string_bytes};
 ghost use Rattle.hose_doors.specs.Doors.{IsSocketPath};
 ghost use Rattle.hose_doors.specs.Limits.{most_doors};
-ghost use Rattle.hose_words.specs.Grammar.{IsFirst};
+ghost use Rattle.hose_words.specs.Words.{IsFirst};
 ghost use Rattle.hose_words.specs.steps.Cursor.{IsWrong, Took};
 ghost use Rattle.hosed.specs.HostWords.{AreDoorWords, AsksToHost, IsFirstWrongOfHost};
 ghost use Rattle.hosed.specs.steps.HostForms.{doors_form, files_first};

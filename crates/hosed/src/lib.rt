@@ -32,6 +32,7 @@ ghost use Rattle.std.specs.String.{string_bytes};
 ghost use Rattle.hose_io.specs.Frame.{Stays};
 ghost use Rattle.hose_offline.specs.Parts.{AllStay, parts, tellings};
 ghost use Rattle.hose_offline.specs.Why.{IsTold, why_status};
+ghost use Rattle.hosed.specs.Failing.{FailsWords};
 ghost use Rattle.hosed.specs.Hosed.{HosedOutcome};
 ghost use Rattle.hosed.specs.Naming.{NamesOf};
 ghost use Rattle.hosed.specs.Offline.{OfflineOutcome, offer_of};
@@ -92,10 +93,10 @@ pub struct Ended<'w> {
 /// or `topology` and the first fault of one in JSON; 3 `read`; 4 a failed output, which has no last
 /// line; 5 `journal other KEPT GIVEN`, a journal of another network, by both digests, or
 /// `journal damaged at P`, at this byte; 6 `cabinet`, a text that could not be read, or a journal
-/// that could not be opened or closed; 7 `no memory`; 8 `too long`, an input or a topology of more
-/// than 1 GiB, or JSON of more than 16 MiB; 9 `door`, a port that could not be opened, or a
-/// connection that could not be accepted; 10 `no K`, a certificate whose rule K fails; 11
-/// `packet P`, an input in which no whole packet begins at byte P; 12 `network node K` or
+/// that could not be opened, read, written or closed; 7 `no memory`; 8 `too long`, an input or a
+/// topology of more than 1 GiB, or JSON of more than 16 MiB; 9 `door`, a port that could not be
+/// opened, or a connection that could not be accepted; 10 `no K`, a certificate whose rule K fails;
+/// 11 `packet P`, an input in which no whole packet begins at byte P; 12 `network node K` or
 /// `network link K`, the first change by which a new network does not go on from the old one; 13
 /// `unsound N`, the epoch of an entry that is not sound on a new network; 14 `differs at N`, that
 /// of an entry that a new journal has and should not have; 15 `less M`, how many entries an old
@@ -178,6 +179,11 @@ pub fn hosed_ended<
         (seen_of (L.frame door.new) (L.told door.new) (L.opened_at door.new)))
         (why_status result.why) (map string_bytes words.now) }
     ensures told { IsTold O.Sink output.new result.why }
+    ensures fails { FailsWords (tellings I.Source O.Sink C.Cabinet C.Disk.Disk)
+        (offer_of ⟦<Tariff as Prices>⟧.prices (λ tariff. tariff.name) (λ tariff. tariff.base)
+        (λ tariff. tariff.per) tariffs.now)
+        (parts input.old output.old cabinet.old) (parts input.new output.new cabinet.new)
+        result.why (map string_bytes words.now) }
     ensures names { NamesOf (map (λ tariff. tariff.name) tariffs.now) (map string_bytes words.now)
         result.named }
     ensures back { (C.frame cabinet.new).out ≡ None }
@@ -249,6 +255,11 @@ pub fn offline_ended<'w, I: Source, O: Sink, C: Cabinet>(
         (parts input.old output.old cabinet.old) (parts input.new output.new cabinet.new)
         (why_status result.why) (map string_bytes words.now) }
     ensures told { IsTold O.Sink output.new result.why }
+    ensures fails { FailsWords (tellings I.Source O.Sink C.Cabinet C.Disk.Disk)
+        (offer_of ⟦<Tariff as Prices>⟧.prices (λ tariff. tariff.name) (λ tariff. tariff.base)
+        (λ tariff. tariff.per) tariffs.now)
+        (parts input.old output.old cabinet.old) (parts input.new output.new cabinet.new)
+        result.why (map string_bytes words.now) }
     ensures names { NamesOf (map (λ tariff. tariff.name) tariffs.now) (map string_bytes words.now)
         result.named }
     ensures back { (C.frame cabinet.new).out ≡ None }

@@ -1,10 +1,11 @@
 // What the program's words name, for whoever tells why it ended.
-ghost use Rattle.std.specs.Prelude.{◌≡◌, ℕ, List, None, Some};
-ghost use Rattle.hosed.specs.Naming.{AreNamed};
+ghost use Rattle.std.specs.Prelude.{◌≡◌, ℕ, List, None, Some, option_map};
+ghost use Rattle.hosed.specs.Naming.{AreNamed, named_bytes};
+ghost use Rattle.hosed.specs.steps.Naming.{failed_file};
 ghost use Rattle.hosed.specs.steps.ProgramWords.{AreServeWords, AreWordsOf};
 
 use crate::words::{Request, ServeRequest};
-use hose_offline::{Move, Names};
+use hose_offline::{Fault, Move, Names};
 
 /// The files and the port that words name, where they name one.
 #[derive(Clone, Copy)]
@@ -25,6 +26,18 @@ impl<'w> NamedByWords<'w> {
     /// What words name that are wrong.
     pub fn nothing() -> NamedByWords<'w> {
         files(None, None)
+    }
+
+    /// The file that is meant where a fault tells of one at which the cabinet failed.
+    pub fn failed(self, fault: Fault) -> Option<&'w str>
+        ensures { option_map (λ name. name.now) result
+            ≡ failed_file (named_bytes self.entry) fault }
+    {
+        match fault {
+            Fault::Text => self.topology,
+            Fault::Cabinet => self.journal,
+            _ => None,
+        }
     }
 
     /// The new topology and journal of a move or a cut, by which new and old are exchanged.

@@ -1,19 +1,17 @@
 // Connections that are served: a door, a crew, and the book of a journal that they share.
-ghost use Rattle.std.specs.Prelude.{◌≡◌, ◌≢◌, ◌↔◌, ◌≤◌, ℕ, Err, IfOk, List, [], None, Option, Result, Some, ⊤};
+ghost use Rattle.std.specs.Prelude.{◌≡◌, ◌≢◌, ◌≤◌, Err, IfOk, None, Result, Some, ⊤};
 ghost use Rattle.hose_io.specs.declared.Failed.{Failed};
 ghost use Rattle.hose_io.specs.steps.Connections.{AreAccounted};
 ghost use Rattle.hose_io.specs.Frame.{Stays};
-ghost use Rattle.hose_graph.specs.Network.{Network};
-ghost use Rattle.hose_law.specs.History.{IsDecidedAt};
 ghost use Rattle.hose_offline.specs.Auditing.{priced_names};
-ghost use Rattle.hose_offline.specs.steps.Ending.{WroteEnd};
+ghost use Rattle.hose_offline.specs.Failing.{FailsNamed};
+ghost use Rattle.hose_offline.specs.steps.Ending.{WroteWhy};
 ghost use Rattle.hose_offline.specs.Why.{IsTold, why_status};
-ghost use Rattle.hose_offline.specs.steps.Journal.{IsJustOpened};
 ghost use Rattle.hose_offline.specs.Parts.{tellings};
-ghost use Rattle.hose_offline.specs.steps.Parts.{KeepsAll};
+ghost use Rattle.hose_offline.specs.steps.Parts.{KeepsAll, held};
 ghost use Rattle.hosed.specs.ServeOutcome.{EndsServed, ServeOutcome, first_failed};
 ghost use Rattle.hosed.specs.ServerDoor.{IsAnnounced, AreServedAlongPass, Speaks, output_door, seen_of};
-ghost use Rattle.hosed.specs.steps.ServerDoor.{BothStay, IsClosedOn, ServesByStore, door_beside, door_task};
+ghost use Rattle.hosed.specs.steps.ServerDoor.{BothStay, IsClosedOn, IsOpenedAs, IsWhyServed, Opened, ServesByStore, door_beside, door_task};
 
 use crate::words::ServeRequest;
 use hose_book::{Book, Books};
@@ -50,31 +48,17 @@ pub struct ServedDoor<D, L> {
     pub door: L,
 }
 
-/// On which disk a store was opened, as it was then, and of which network. A caller names them
-/// here, since a lock has no other way to tell for what its store stood.
+/// How a store was opened. A caller names it here, since a lock has no other way to tell for what
+/// its store stood.
 pub trait AtOpening: DoorStart {
-    /// The images that a stop might have left of the disk.
-    ghost had: { List ℕ → Type 0 };
-
-    /// What was read of it, where it told, and its moment.
-    ghost content: { Option (List ℕ) };
-
-    ghost moment: { ℕ };
-
-    ghost network: { Network };
+    ghost opened: { Opened };
 }
 
-// A caller's proof names them.
+// No opening, in whose place a caller's proof puts the one that it knows.
 impl AtOpening for Brand {
-    ghost use Rattle.std.specs.Prelude.{None, [], ⊤};
+    ghost use Rattle.hosed.specs.steps.ServerDoor.{unopened};
 
-    ghost had = { λ image. ⊤ };
-
-    ghost content = { None };
-
-    ghost moment = { 0 };
-
-    ghost network = { record { nodes = []; links = [] } };
+    ghost opened = { unopened };
 }
 
 /// The store that is shared was just opened so.
@@ -85,7 +69,7 @@ struct JustOpened<N> {
 impl<D: Disk, N: AtOpening> Begun<D> for JustOpened<N> {
     ghost use Rattle.hosed.specs.steps.ServerDoor.{OpensAt};
 
-    ghost begins = { OpensAt D.Disk N.had N.content N.moment N.network };
+    ghost begins = { OpensAt D.Disk N.opened };
 }
 
 /// A store that was just opened, what its disk was then, and what is to become the ledger of the
@@ -174,12 +158,7 @@ fn serve_store<
       port = Some request.port;
       connections = request.connections;
     } }
-    requires had { (image : List ℕ) → N.had image ↔ D.may_leave opening.was.value image }
-    requires content { N.content ≡ D.content opening.was.value }
-    requires moment { N.moment ≡ D.moment opening.was.value }
-    requires network { N.network ≡ opening.store.ledger.network }
-    requires opened { IsJustOpened D.Disk IsDecidedAt opening.was.value
-        opening.store.ledger.network opening.store }
+    requires opened { IsOpenedAs D.Disk N.opened opening.was.value opening.store }
     ensures serves { ServesByStore D.Disk opening.was.value result.disk
         opening.store.ledger.network (AreServedAlongPass request.entry.connections
         (seen_of (L.frame door) (L.told door) (L.opened_at door))
@@ -278,6 +257,9 @@ pub fn serve<
         (seen_of (L.frame door.new) (L.told door.new) (L.opened_at door.new)))
         (why_status result) }
     ensures told { IsTold O.Sink outside.new.output.now result }
+    ensures fails { FailsNamed (tellings I.Source O.Sink C.Cabinet C.Disk.Disk)
+        (priced_names (P.prices costs.now) request.entry.topology.now request.entry.journal.now)
+        (held outside.old) (held outside.new) result }
     ensures not_words { why_status result ≢ 1 }
     ensures back { (C.frame outside.new.cabinet.now).out ≡ None }
     ensures keeps { KeepsAll (tellings I.Source O.Sink C.Cabinet C.Disk.Disk)
@@ -318,8 +300,9 @@ pub fn serve<
 
 // Writes what is left to write once connections were served, or not, and says why that ended.
 fn tell_served<O: Sink>(came: Result<ServerEnd, Fault>, output: &mut O) -> Why
-    ensures { WroteEnd O.Sink output.old output.new result
-        (EndsServed O.Sink output.old output.new (why_status result) came) }
+    ensures { WroteWhy O.Sink output.old output.new result
+        (EndsServed O.Sink output.old output.new (why_status result) came)
+        (IsWhyServed came result) }
 {
     match came {
         Ok(
@@ -336,8 +319,9 @@ fn tell_served<O: Sink>(came: Result<ServerEnd, Fault>, output: &mut O) -> Why
 // Writes why no connection was served, but after a failed write nothing more, and says why that
 // ended.
 fn tell_unserved<O: Sink>(why: Fault, output: &mut O) -> Why
-    ensures { WroteEnd O.Sink output.old output.new result
-        (EndsServed O.Sink output.old output.new (why_status result) (Err why)) }
+    ensures { WroteWhy O.Sink output.old output.new result
+        (EndsServed O.Sink output.old output.new (why_status result) (Err why))
+        (IsWhyServed (Err why) result) }
 {
     match why {
         Fault::Write => Why::Stopped(Fault::Write),

@@ -2,8 +2,9 @@
 ghost use Rattle.std.specs.Prelude.{◌≡◌, ◌↔◌, ℕ, ◌+◌, ◌<◌, ◌≤◌, List, [], IfErr, IfNone, IfOk, IfSome, IsTrue, OnOk, decimal, get_or, map};
 ghost use Rattle.std.specs.String.{string_bytes};
 ghost use Rattle.hose_words.specs.steps.Cursor.{IsWrong, Misses, Took};
-ghost use Rattle.hose_words.specs.Form.{IsWithin, TellsNumber, finish};
-ghost use Rattle.hose_words.specs.Grammar.{IsFirst};
+ghost use Rattle.hose_words.specs.Numbers.{IsWithin};
+ghost use Rattle.hose_words.specs.steps.Form.{TellsNumber, finish};
+ghost use Rattle.hose_words.specs.Words.{IsFirst};
 ghost use Rattle.hosed.specs.ProgramWords.{ArePriceable, AsksFor, AsksToServe, IsFileName, IsFirstNamed};
 ghost use Rattle.hosed.specs.steps.Arguments.{IsFirstUnfit, IsOtherFile, IsTariffName, file_first, first_form, moved_names, program_form};
 ghost use Rattle.hosed.specs.steps.ProgramWords.{AreServeWords, at_word};

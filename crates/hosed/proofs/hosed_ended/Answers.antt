@@ -3,7 +3,7 @@ use Rattle.std.specs.String.{string_bytes}
 use Rattle.hose_offline.specs.steps.Parts.{held}
 use Rattle.hosed.specs.steps.ProgramWords.{task_of}
 use Rattle.hosed.specs.declared.verb.ProgramVerb.TheVariants as command
-use Rattle.hosed.proofs.Outcomes.{are_wrong, served_of}
+use Rattle.hosed.proofs.Outcomes.{are_wrong, fails_none, fails_of, fails_words, served_of}
 use Rattle.hosed.proofs.ProgramShapes.{are_told, no_task, same_server, unfit_wrong}
 use Rattle.hosed.proofs.hosed_ended.Goals as goal
 
@@ -18,6 +18,14 @@ returns-in-Ok-clause-outcome g c =
       wrong_words = λ asks one. absurd (right one);
       serves = same_server (map (λ tariff. tariff.name) c.args.tariffs.now) (map string_bytes c.args.words.now) _ (task_of c.in-Ok.request) are told;
     }
+
+pub returns-in-Ok-clause-fails : goal.returns-in-Ok-clause-fails
+returns-in-Ok-clause-fails g c =
+    fails_of (held c.serve.new.outside) (ap held c.of-outside.ensures) (search rules) (search rules) (search rules)
+    (fails_words _ _ _ _ c.serve.result _ command.Serve (task_of c.in-Ok.request) c.in-Ok.ensures.ok (rw c.costs_of-costs.ensures at c.serve.ensures.fails))
+
+pub returns-in-Err-clause-fails : goal.returns-in-Err-clause-fails
+returns-in-Err-clause-fails g c = fails_none _ _ _ _ _ _ _ c.in-Err.ensures.wrong
 
 pub returns-in-Ok-clause-names : goal.returns-in-Ok-clause-names
 returns-in-Ok-clause-names g c = c.server_named.ensures _ _ c.in-Ok.ensures.ok

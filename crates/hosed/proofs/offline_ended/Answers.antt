@@ -1,11 +1,17 @@
 use Rattle.std.proofs.Common.{ap, refl, rules}
 use Rattle.hose_offline.specs.Parts.{parts}
 use Rattle.hose_offline.specs.steps.Parts.{held}
-use Rattle.hosed.proofs.Outcomes.{are_wrong, told_of, wrong_words}
+use Rattle.hosed.proofs.Outcomes.{are_wrong, fails_none, fails_of, told_of, wrong_words}
 use Rattle.hosed.proofs.offline_ended.Goals as goal
 
 pub returns-in-Ok-clause-outcome : goal.returns-in-Ok-clause-outcome
 returns-in-Ok-clause-outcome g c = told_of (held c.do_request.new.outside) (ap held c.of-outside.ensures) (search rules) (search rules) (search rules) (c.do_request.ensures.outcome _ c.in-Ok.ensures)
+
+pub returns-in-Ok-clause-fails : goal.returns-in-Ok-clause-fails
+returns-in-Ok-clause-fails g c = fails_of (held c.do_request.new.outside) (ap held c.of-outside.ensures) (search rules) (search rules) (search rules) (c.do_request.ensures.fails _ c.in-Ok.ensures)
+
+pub returns-in-Err-clause-fails : goal.returns-in-Err-clause-fails
+returns-in-Err-clause-fails g c = fails_none _ _ _ _ _ _ _ c.in-Err.ensures
 
 pub returns-in-Ok-clause-names : goal.returns-in-Ok-clause-names
 returns-in-Ok-clause-names g c = c.named_of.ensures _ _ c.in-Ok.ensures

@@ -1,8 +1,9 @@
 -- The words that the program is run with, by forms: steps of proofs.
 use Rattle.std.specs.Prelude.{◌≡◌, ◌≢◌, ◌⊎◌, ℕ, ◌-◌, ◌^◌, ◌<◌, List, [], ◌∷◌, ◌++◌, decimal, get_or, length, Bool, true, false, Option, MatchOption, None, Some, ⊤}
 use Rattle.std.specs.Str.{bytes_eq}
-use Rattle.hose_words.specs.Form.{Fits64, Form, IsWithin, branch, finish, grammar_of, maybe, place}
-use Rattle.hose_words.specs.Grammar.{IsFirstNotAllowed}
+use Rattle.hose_words.specs.Numbers.{Fits64, IsWithin}
+use Rattle.hose_words.specs.steps.Form.{Form, branch, finish, grammar_of, maybe, place}
+use Rattle.hose_words.specs.steps.Grammar.{IsFirstNotAllowed}
 use Rattle.hose_gen.specs.Limits.{least_nodes, most_hoses}
 use Rattle.hose_graph.specs.Limits.{most_epoch, most_links, most_nodes}
 use Rattle.hose_proto.specs.steps.EndWords.{AreEndWords, end_words_form}

@@ -1,8 +1,8 @@
 -- The words that a host is run with, by forms: steps of proofs.
 use Rattle.std.specs.Prelude.{◌≡◌, ℕ, ◌+◌, ◌≤◌, List, [], ◌∷◌, ◌++◌, Bool, true, false, decimal, length, MatchOption, Option, None, Some, ⊤}
 use Rattle.hose_doors.specs.Doors.{IsSocketPath}
-use Rattle.hose_words.specs.Form.{Form, TellsNumber, grammar_of, list, place, this}
-use Rattle.hose_words.specs.Grammar.{IsFirstNotAllowed}
+use Rattle.hose_words.specs.steps.Form.{Form, TellsNumber, grammar_of, list, place, this}
+use Rattle.hose_words.specs.steps.Grammar.{IsFirstNotAllowed}
 use Rattle.hosed.specs.HostNaming.{asked_of}
 use Rattle.hosed.specs.HostWords.{AreDoorWords, HostAsked, IsPatience, StandbyAsked, host_word, operator_option, quiet_option, seconds_option, standby_option, stop_option}
 use Rattle.hosed.specs.ProgramWords.{IsFileName}

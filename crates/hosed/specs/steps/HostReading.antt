@@ -2,8 +2,8 @@
 use Rattle.std.specs.Prelude.{◌≡◌, ◌⊎◌, ℕ, ◌+◌, ◌≤◌, List, Bool, true, false, Option, None, Some, decimal, length}
 use Rattle.std.specs.Borrow.{Bor}
 use Rattle.hose_doors.specs.Doors.{IsSocketPath}
-use Rattle.hose_words.specs.Form.{TellsNumber}
-use Rattle.hose_words.specs.Grammar.{IsFirst}
+use Rattle.hose_words.specs.steps.Form.{TellsNumber}
+use Rattle.hose_words.specs.Words.{IsFirst}
 use Rattle.hose_words.specs.steps.Cursor.{Misses, Took}
 use Rattle.hosed.specs.HostWords.{AreDoorWords, IsPatience, operator_option, seconds_option, standby_option, stop_option}
 use Rattle.hosed.specs.declared.host_line.StandbyWords.{StandbyWords}

@@ -1,7 +1,7 @@
 -- What is read of the program's words.
 use Rattle.std.specs.Prelude.{◌≡◌, ◌⊎◌, ℕ, ◌+◌, List, [], ◌∷◌, get_or, Bool, true, false, Option, None, Some, MatchResult, Result}
 use Rattle.hose_words.specs.steps.Cursor.{Misses, Took}
-use Rattle.hose_words.specs.Grammar.{IsFirst}
+use Rattle.hose_words.specs.Words.{IsFirst}
 use Rattle.hosed.specs.ProgramWords.{AsksFor, IsFileName, IsFirstNamed, live_option, program_word, tariff_option}
 use Rattle.hosed.specs.steps.Arguments.{IsFirstUnfit, IsTariffName, IsOtherFile, MayBeAsked, argument_words, verb_arguments}
 use Rattle.hosed.specs.steps.ProgramWords.{AreWordsOf, at_word, journal_task}

@@ -2,7 +2,7 @@ use Rattle.std.proofs.Common.{arith}
 use Rattle.std.proofs.lemmas.List.{length-map}
 use Rattle.hosed.specs.declared.verb.ProgramVerb.TheVariants as command
 use Rattle.hosed.proofs.Commands.{first_small}
-use Rattle.hosed.proofs.Outcomes.{proof_words, right_words}
+use Rattle.hosed.proofs.Outcomes.{fails_words, proof_words, right_words}
 use Rattle.hosed.proofs.doing.do_request.Goals as goal
 
 pub returns-in-Run-clause-outcome : goal.returns-in-Run-clause-outcome
@@ -36,6 +36,36 @@ pub returns-in-Prove-clause-outcome : goal.returns-in-Prove-clause-outcome
 returns-in-Prove-clause-outcome g c = λ words are.
     let prove = rw c.in-Prove.is at are in
     proof_words _ _ _ _ _ _ _ prove.0 (rw (c.costs_of-by.ensures, c.tariff_of.ensures, c.in-Prove.is, prove.1) at c.prove.ensures.outcome)
+
+pub returns-in-Run-clause-fails : goal.returns-in-Run-clause-fails
+returns-in-Run-clause-fails g c = λ words are. fails_words _ _ _ _ _ _ command.Run _ (rw c.in-Run.is at are) tt
+
+pub returns-in-Audit-clause-fails : goal.returns-in-Audit-clause-fails
+returns-in-Audit-clause-fails g c = λ words are. fails_words _ _ _ _ _ _ command.Audit _ (rw c.in-Audit.is at are) (rw (c.costs_of-by.ensures, c.tariff_of.ensures, c.in-Audit.is) at c.audit.ensures.fails)
+
+pub returns-in-Check-clause-fails : goal.returns-in-Check-clause-fails
+returns-in-Check-clause-fails g c = λ words are. fails_words _ _ _ _ _ _ command.Check _ (rw c.in-Check.is at are) tt
+
+pub returns-in-Ship-clause-fails : goal.returns-in-Ship-clause-fails
+returns-in-Ship-clause-fails g c = λ words are. fails_words _ _ _ _ _ _ command.Ship _ (rw c.in-Ship.is at are) (rw (c.costs_of-by.ensures, c.tariff_of.ensures, c.in-Ship.is) at c.ship.ensures.fails)
+
+pub returns-in-Follow-clause-fails : goal.returns-in-Follow-clause-fails
+returns-in-Follow-clause-fails g c = λ words are. fails_words _ _ _ _ _ _ command.Follow _ (rw c.in-Follow.is at are) (rw (c.costs_of-by.ensures, c.tariff_of.ensures, c.in-Follow.is) at c.follow.ensures.fails)
+
+pub returns-in-Cut-clause-fails : goal.returns-in-Cut-clause-fails
+returns-in-Cut-clause-fails g c = λ words are. fails_words _ _ _ _ _ _ command.Cut _ (rw c.in-Cut.is at are) (rw (c.costs_of-by.ensures, c.tariff_of.ensures, c.in-Cut.is) at c.cut_journal.ensures.fails)
+
+pub returns-in-Move-clause-fails : goal.returns-in-Move-clause-fails
+returns-in-Move-clause-fails g c = λ words are. fails_words _ _ _ _ _ _ command.Move _ (rw c.in-Move.is at are) (rw (c.costs_of-by.ensures, c.tariff_of.ensures, c.in-Move.is) at c.move_journal.ensures.fails)
+
+pub returns-in-Generate-clause-fails : goal.returns-in-Generate-clause-fails
+returns-in-Generate-clause-fails g c = λ words are. fails_words _ _ _ _ _ _ command.Generate _ (rw c.in-Generate.is at are) tt
+
+pub returns-in-Price-clause-fails : goal.returns-in-Price-clause-fails
+returns-in-Price-clause-fails g c = λ words are. fails_words _ _ _ _ _ _ command.Price _ (rw c.in-Price.is at are) tt
+
+pub returns-in-Prove-clause-fails : goal.returns-in-Prove-clause-fails
+returns-in-Prove-clause-fails g c = λ words are. fails_words _ _ _ _ _ _ command.Prove _ (rw c.in-Prove.is at are).0 tt
 
 pub run_generated-requires : goal.run_generated-requires
 run_generated-requires g c =

@@ -1,4 +1,5 @@
 use Rattle.std.proofs.Common.{◌∷◌, Some}
+use Rattle.hosed.specs.steps.ServerDoor.{opened_on}
 use Rattle.hosed.proofs.server.serve.Given as goal
 
 abbrev pub ghosts-serve_store-N-DoorStart : goal.ghosts-serve_store-N-DoorStart
@@ -16,8 +17,5 @@ ghosts-serve_store-N-Ledger g a = record { name = a.opening.blank.name; parts = 
 
 abbrev pub ghosts-serve_store-N-AtOpening : goal.ghosts-serve_store-N-AtOpening
 ghosts-serve_store-N-AtOpening g a = record {
-  had = g.C.Disk.Disk.may_leave a.opening.was.value;
-  content = g.C.Disk.Disk.content a.opening.was.value;
-  moment = g.C.Disk.Disk.moment a.opening.was.value;
-  network = a.opening.store.ledger.network;
+  opened = opened_on g.C.Disk.Disk a.opening.was.value a.opening.store.ledger.network;
 }

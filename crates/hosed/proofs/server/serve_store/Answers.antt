@@ -12,7 +12,7 @@ returns-in_default-clause-serves g c =
     let was = c.args.opening.was.value in
     let up = c.give_up.ensures in
     given_up network _ _ _ c.give_up.result.came _ up.came
-    (closed_at_once g.D.Disk was c.give_up.result.disk network up.closed.0 asked.opened.history c.args.opening.store (just_opened g.D.Disk was network c.args.opening.store asked) up.closed.1)
+    (closed_at_once g.D.Disk was c.give_up.result.disk network up.closed.0 asked.just.opened.history c.args.opening.store (just_opened g.D.Disk was network c.args.opening.store asked.just) up.closed.1)
 
 pub returns-in_default-clause-speaks : goal.returns-in_default-clause-speaks
 returns-in_default-clause-speaks g c = rw (c.give_up.ensures.came, c.give_up.ensures.door) refl
@@ -24,7 +24,7 @@ returns-in-Err-clause-serves g c =
     let was = c.args.opening.was.value in
     let up = c.give_up-in-Err.ensures in
     given_up network _ _ _ c.give_up-in-Err.result.came _ up.came
-    (closed_at_once g.D.Disk was c.give_up-in-Err.result.disk network up.closed.0 asked.opened.history c.in-Err.store (rw c.in-Err.ensures.back (just_opened g.D.Disk was network c.args.opening.store asked)) up.closed.1)
+    (closed_at_once g.D.Disk was c.give_up-in-Err.result.disk network up.closed.0 asked.just.opened.history c.in-Err.store (rw c.in-Err.ensures.back (just_opened g.D.Disk was network c.args.opening.store asked.just)) up.closed.1)
 
 pub returns-in-Err-clause-speaks : goal.returns-in-Err-clause-speaks
 returns-in-Err-clause-speaks g c = rw (c.give_up-in-Err.ensures.came, c.give_up-in-Err.ensures.door) refl
@@ -36,8 +36,8 @@ returns-in-Err-announce-clause-serves g c =
     let up = c.give_up-in-Err-announce.ensures in
     let made = c.in-Ok-share.ensures in
     given_up network _ _ _ c.give_up-in-Err-announce.result.came _ up.came (stays_shared g.D.Disk was c.give_up-in-Err-announce.result.disk network up.closed.0
-    _ (λ since store opens. is_opening g.D.Disk was _ _ _ _ network c.requires.had c.requires.content c.requires.moment c.requires.network since store opens) c.in-Ok-share.made.1 made.stands.first c.close.result (search rules)
-    made.stands.begins c.close.ensures.history c.close.ensures.faults up.closed.1 (search rules))
+    _ (λ since store opens. is_opening g.D.Disk g.N.AtOpening.opened was c.args.opening.store c.requires.opened since store opens) c.in-Ok-share.made.1 made.stands.first c.close.result (search rules)
+    made.stands.begins c.close.ensures.history c.close.ensures.faults up.closed.1 (search rules) (search rules))
 
 pub returns-in-Err-announce-clause-speaks : goal.returns-in-Err-announce-clause-speaks
 returns-in-Err-announce-clause-speaks g c =
@@ -54,19 +54,19 @@ returns-clause-serves g c =
     let made = c.in-Ok-share.ensures in
     let served = c.serve-accepting in
     serves_shared g.D.Disk was closed.result.1 network closed.result.0
-    _ (λ since store opens. is_opening g.D.Disk was _ _ _ _ network c.requires.had c.requires.content c.requires.moment c.requires.network since store opens) served.result.pass made.stands.first c.close-2.result (search rules)
-    (subst (λ (origin : Origin). OpensAt g.D.Disk g.N.AtOpening.had g.N.AtOpening.content g.N.AtOpening.moment g.N.AtOpening.network origin.since made.stands.first) (sym served.ensures.same.origin) made.stands.begins) c.close-2.ensures.history c.close-2.ensures.faults closed.ensures.closed
+    _ (λ since store opens. is_opening g.D.Disk g.N.AtOpening.opened was c.args.opening.store c.requires.opened since store opens) served.result.pass made.stands.first c.close-2.result (search rules)
+    (subst (λ (origin : Origin). OpensAt g.D.Disk g.N.AtOpening.opened origin.since made.stands.first) (sym served.ensures.same.origin) made.stands.begins) c.close-2.ensures.history c.close-2.ensures.faults closed.ensures.closed
     (AreServedAlongPass c.args.request.connections (seen_of (g.L.Door.frame c.args.door) (g.L.Door.told c.args.door) (g.L.Door.opened_at c.args.door)) (seen_of (g.L.Door.frame served.result.door) (g.L.Door.told served.result.door) (g.L.Door.opened_at served.result.door))) closed.result.2 served.result.accepting (search rules)
     (rw c.in-Ok.ensures.crew at (rw c.announce.ensures.told at served.ensures.served))
 
 pub share-requires-clause-stands : goal.share-requires-clause-stands
 share-requires-clause-stands g c =
-    let asked = c.requires in
+    let asked = c.requires.opened in
     let was = c.args.opening.was.value in
     let store = c.args.opening.store in
-    let since = asked.opened.opened.history in (
+    let since = asked.just.opened.history in (
       since,
-      opens_at g.D.Disk was _ _ _ _ store.ledger.network asked.had asked.content asked.moment asked.network since store (just_opened g.D.Disk was store.ledger.network store asked.opened),
-      asked.opened.stands.has.book,
-      asked.opened.stands.has.tracks,
+      opens_at g.D.Disk g.N.AtOpening.opened was store asked since store (just_opened g.D.Disk was store.ledger.network store asked.just),
+      asked.just.stands.has.book,
+      asked.just.stands.has.tracks,
     )

@@ -1,4 +1,5 @@
-use Rattle.std.proofs.Common.{rules}
+use Rattle.std.proofs.Common.{ap, rules, sym}
+use Rattle.hose_offline.specs.declared.why.Why.TheVariants.{Stopped}
 use Rattle.hose_offline.proofs.Told.{told_failed}
 use Rattle.hosed.proofs.Served.{ends_unserved, ends_unwritten}
 use Rattle.hosed.proofs.server.tell_unserved.Goals as goal
@@ -8,6 +9,7 @@ returns-in-Write g c = record {
   came = ends_unwritten g.O.Sink c.args.output.now c.args.why c.in-Write.is;
   told = told_failed g.O.Sink c.args.output.now;
   stays = search rules;
+  is = ap Stopped (sym c.in-Write.is);
 }
 
 pub returns-in_default : goal.returns-in_default
@@ -15,4 +17,5 @@ returns-in_default g c = record {
   came = ends_unserved g.O.Sink c.args.output.now c.end.new.output _ c.args.why c.in_default.not-Write c.end.ensures.status c.end.ensures.last_line;
   told = c.end.ensures.told;
   stays = c.end.ensures.output;
+  is = c.end.ensures.is;
 }
