@@ -9,22 +9,28 @@ use Rattle.hose_graph.specs.Network.{Network}
 use Rattle.hose_graph.specs.declared.entry.Entry.{Entry}
 use Rattle.hose_audit.specs.Audit.{audit_text}
 use Rattle.hose_disk.specs.Cabinet.{object_of}
+use Rattle.hose_disk.specs.declared.cabinet.Cabinet.{Ghosts as CabinetGhosts}
 use Rattle.hose_store.specs.Recovery.{IsHistoryOf}
 use Rattle.hose_offline.specs.Auditing.{PricedNames, ReadsTopology}
 use Rattle.hose_offline.specs.CabinetText.{OnlyTextsRead}
 use Rattle.hose_offline.specs.Ending.{EndsTold, IsOut, NoneFailed}
 use Rattle.hose_offline.specs.Fault.{last_line, status_of}
 use Rattle.hose_offline.specs.steps.Journal.{TouchesOnly}
-use Rattle.hose_offline.specs.OnDisk.{CabinetFailed, CabinetWorked, JournalIsTold}
-use Rattle.hose_offline.specs.Parts.{Tellings}
+use Rattle.hose_offline.specs.OnDisk.{CabinetFailed, CabinetWorked, JournalIsTold, OthersStay}
+use Rattle.hose_offline.specs.Parts.{Parts, Tellings}
 use Rattle.hose_offline.specs.declared.fault.Fault.{Fault}
+use Rattle.hose_offline.specs.declared.fault.Fault.TheVariants as fault
+use Rattle.hose_offline.specs.declared.why.Why.{Why}
+use Rattle.hose_offline.specs.declared.why.Why.TheVariants.{Stopped}
+use Rattle.hose_offline.specs.steps.Ending.{IsWhyAfter}
 use Rattle.hose_offline.proofs.Audited.{named_not_1, named_not_read, named_read, no_store, no_topology}
 use Rattle.hose_offline.proofs.Audits.{has_before, held_before}
+use Rattle.hose_offline.proofs.Failing.{fails_then}
 use Rattle.hose_offline.proofs.Outcomes.{clash}
 use Rattle.hosed_host.specs.HostBook.{Announces, DoorTellings, EndsBy, EndsHosted, HostProgress, HostsByJournal, KeepsHosted, LeavesDoors, TellsDoor, host_progress}
-use Rattle.hosed_host.specs.HostDoors.{DoorsAsked}
-use Rattle.hosed_host.specs.HostOutcome.{HostOutcome, OutsideDoors, to_host}
-use Rattle.hosed_host.specs.steps.HostOutcome.{HostsJournal, IsWhyOf, closed_as}
+use Rattle.hosed_host.specs.HostDoors.{DoorsAsked, is_required}
+use Rattle.hosed_host.specs.HostOutcome.{FailsHost, HostOutcome, OutsideDoors, to_host}
+use Rattle.hosed_host.specs.steps.HostOutcome.{FailsHosting, HostsJournal, IsWhyOf, MayEnd, closed_as}
 use Rattle.hosed_host.specs.declared.why.HostWhy.{HostWhy}
 use Rattle.hosed_host.specs.declared.why.HostWhy.TheVariants as reason
 use Rattle.hose_net.specs.declared.doors.Doors.{Ghosts as DoorsGhosts}
@@ -58,6 +64,35 @@ told_door doors asked was now came (reason.Ended other) is left = tt
 told_door doors asked was now came (reason.Door word trouble) is left = subst (λ (one : Result HostEnd NotHosted). IfErr one (LeavesDoors doors asked was now)) is left
 told_door doors asked was now came reason.StandbyGone is left = tt
 told_door doors asked was now came (reason.StandbyAhead count) is left = tt
+
+-- ---- the file that is told
+
+module _ (end : HostEnd) where
+  -- a host that was asked to end tells of the journal that it failed where closing did
+  pub asked_may : (closing : Result ⊤ Failed) (done : Result ⊤ Fault) → closing ≡ end.closing → done ≡ closed_as closing → (why : Why) → IsWhyAfter done why → MayEnd (Ok end) why
+  asked_may (Ok closed) done same is why told = by why (subst (λ (d : Result ⊤ Fault). IsWhyAfter d why) is told)
+    where
+      by : (one : Why) → IsWhyAfter {T = ⊤} (Ok tt) one → MayEnd (Ok end) one
+      by one (inl done') = subst (MayEnd (Ok end)) (sym done') tt
+      by one (inr failed) = subst (MayEnd (Ok end)) (sym failed) tt
+  asked_may (Err failed) done same is why told =
+      subst (MayEnd (Ok end)) (sym (subst (λ (d : Result ⊤ Fault). IsWhyAfter d why) is told)) (end, refl, subst (λ (r : Result ⊤ Failed). IsErr r) same refl)
+
+-- so what is told of it is so
+pub hosting_fails : {C E : Type 0} (cabinet : CabinetGhosts C E) (old new : C) (came : Result HostEnd NotHosted) → ((end : HostEnd) → came ≡ Ok end → IsErr end.closing → CabinetFailed cabinet old new) → (result : HostWhy) → IsWhyOf came result → FailsHosting cabinet old new result
+hosting_fails cabinet old new came closes (reason.Ended (Stopped fault.Text)) is = absurd is
+hosting_fails cabinet old new came closes (reason.Ended (Stopped fault.Cabinet)) (end, same, failed) = closes end same failed
+hosting_fails cabinet old new came closes (reason.Ended (Stopped other)) is = tt
+hosting_fails cabinet old new came closes (reason.Ended other) is = tt
+hosting_fails cabinet old new came closes another is = tt
+
+-- and of its text, where no topology was read of it
+pub host_fails : {I O C E : Type 0} (tells : Tellings I O C E) (names : PricedNames) (before after : Parts I O C) (read : C) (network : Network) → ReadsTopology tells.cabinet before.cabinet read names.prices names.topology (Ok network) → OthersStay tells.cabinet names.journal read after.cabinet → (result : HostWhy)
+    → FailsHosting tells.cabinet read after.cabinet result → FailsHost tells names before after result
+host_fails tells names before after read network reads others (reason.Ended other) fails = fails_then tells names before after read network reads others other fails
+host_fails tells names before after read network reads others (reason.Door word trouble) fails = tt
+host_fails tells names before after read network reads others reason.StandbyGone fails = tt
+host_fails tells names before after read network reads others (reason.StandbyAhead count) fails = tt
 
 -- ---- the last line
 
@@ -104,13 +139,13 @@ module _ {I O C E D N : Type 0} (tells : Tellings I O C E) (by : DoorTellings D 
     hosted = record {
       story = hosts.hosted.story;
       hosts = hosts.hosted.hosts;
-      comes_to = keeps_before (host_progress network hosts.since hosts.history (exchanges hosts.hosted.story) hosts.ended) end.closing hosts.hosted.comes_to;
+      comes_to = keeps_before (host_progress network (is_required asked.standby) hosts.since hosts.history (exchanges hosts.hosted.story) hosts.ended) end.closing hosts.hosted.comes_to;
       settled = hosts.hosted.settled;
       parts = hosts.hosted.parts;
     };
     is = hosts.is;
   }
-  hosts_before was now (Err why) (stays, left) = (record { since = stays.since; closing = stays.closing; kept = keeps_before (host_progress network stays.since stays.since _ false) stays.closing stays.kept }, left)
+  hosts_before was now (Err why) (stays, left) = (record { since = stays.since; closing = stays.closing; kept = keeps_before (host_progress network false stays.since stays.since _ false) stays.closing stays.kept }, left)
 
 module _ {I O C E D N : Type 0} (tells : Tellings I O C E) (by : DoorTellings D N E) (names : PricedNames) (asked : DoorsAsked) (before after : OutsideDoors I O C D) where
   -- the words are not what is wrong

@@ -1,6 +1,6 @@
 -- What hosting by a journal comes to, once its store was opened.
 use Rattle.std.proofs.Common.{◌≡◌, ◌∙◌, inl, inr, ℕ, ◌≤◌, List, [], length, None, Some, Option, Bool, true, false, Result, Err, refl, sym, ap, subst, arith, append-nil, le_refl}
-use Rattle.std.specs.Prelude.{option_map, ⊤}
+use Rattle.std.specs.Prelude.{not, option_map, ⊤}
 use mathlib.Core.List.{IsPrefix}
 use Rattle.hose_io.specs.declared.Failed.{Failed}
 use Rattle.hose_net.specs.Story.{Exchange, IsHosted, Link, Terms, exchanges, no_link}
@@ -26,7 +26,7 @@ use Rattle.hose_clerk.specs.declared.tally.Tally.{Tally}
 use Rattle.hose_clerk.specs.declared.linking.StandbyAt.{StandbyAt}
 use Rattle.hose_clerk.specs.steps.Answering.{GrowsWith, HasHosted}
 use Rattle.hose_clerk.specs.steps.Hosting.{AreHosted}
-use Rattle.hose_clerk.specs.steps.Linking.{goes_alone, path_at}
+use Rattle.hose_clerk.specs.steps.Linking.{LinkState, goes_alone, path_at}
 use Rattle.hose_net.proofs.Laws.{hosted_on}
 use Rattle.hose_disk.specs.Cabinet.{CabinetFrame}
 use Rattle.hose_disk.specs.declared.disk.Disk.{Ghosts as DiskGhosts}
@@ -36,7 +36,6 @@ use Rattle.hose_store.specs.Beginning.{IsOrInDoubt}
 use Rattle.hose_store.specs.steps.Store.{IsAmid, KeptStore}
 use Rattle.hose_lead.specs.LedStore.{LedState}
 use Rattle.hose_lead.specs.steps.LedStore.{IsLedOf, led_books}
-use Rattle.hose_lead.specs.steps.Standby.{StandbyState}
 use Rattle.hose_lead.proofs.Led.{led_goes_on}
 use Rattle.hose_store.proofs.Standing.{opened_stands, run_stands}
 use Rattle.hose_offline.specs.OnDisk.{opening_of}
@@ -45,7 +44,7 @@ use Rattle.hose_offline.specs.steps.Journal.{ClosesJournal, OpensJournal}
 use Rattle.hose_offline.proofs.Journals.{leaves_for, put_back}
 use Rattle.hose_offline.proofs.PutBack.{IsPutBack, counts, held_as, left_as_kind}
 use Rattle.hosed_host.specs.HostBook.{DoorTellings, HostsByJournal, HostsDoors, IsEndedFor, KeepsHosted, LeavesDoors, StandOnDisk, StaysUnhosted, host_progress}
-use Rattle.hosed_host.specs.HostDoors.{AreOpenedAt, DoorsAsked, StandbyPlace, may_be_alone}
+use Rattle.hosed_host.specs.HostDoors.{AreOpenedAt, DoorsAsked, StandbyPlace, is_required, may_be_alone}
 use Rattle.hosed_host.specs.declared.hosting.HostEnd.{HostEnd}
 use Rattle.hosed_host.specs.declared.hosting.NotHosted.{NotHosted}
 use Rattle.hose_net.specs.declared.doors.Address.{Address}
@@ -67,9 +66,9 @@ module _ {I O C E : Type 0} (tells : Tellings I O C E) (name : List ℕ) (before
   told_back was now xs more (inr most) = inr (omega (arith, most, more, returned))
 
   -- lines were answered by the store that was opened, and it was closed
-  pub keeps_made : (state : HostState) (xs : List (Exchange HostLine HostReply)) (ended : Bool) → state.ended ≡ ended → AreHostSteps network xs (host_from since) state → IsDecided network 0 (length since) state.history → IsPrefix since state.history
-      → GoesOn (store_books tells.disk) (IsAskedOf since xs) network since store state.history last → (was now : ℕ) → now ≤ (tells.disk.frame closes.left).faults → TellsDisks was xs now → KeepsHosted tells name before after (host_progress network since state.history xs ended) closing
-  keeps_made state xs ended ends steps decided begins goes was now more told = record {
+  pub keeps_made : (required : Bool) (state : HostState) (xs : List (Exchange HostLine HostReply)) (ended : Bool) → state.ended ≡ ended → AreHostSteps network required xs (host_from since) state → IsDecided network 0 (length since) state.history → IsPrefix since state.history
+      → GoesOn (store_books tells.disk) (IsAskedOf required since xs) network since store state.history last → (was now : ℕ) → now ≤ (tells.disk.frame closes.left).faults → TellsDisks was xs now → KeepsHosted tells name before after (host_progress network required since state.history xs ended) closing
+  keeps_made required state xs ended ends steps decided begins goes was now more told = record {
     begun = held_as tells.cabinet tells.disk name before mid after network opens.was closes.left back (IsHistoryOf network since) opens.opens.opened.read;
     begins = begins;
     state = state;
@@ -81,8 +80,8 @@ module _ {I O C E : Type 0} (tells : Tellings I O C E) (name : List ℕ) (before
     met = counts tells.cabinet tells.disk name before mid after network opens.was closes.left back closing closes.call.told;
     left =
         let laws = opens.opens.lawful in
-        left_as_kind tells.cabinet tells.disk name before mid after network opens.was closes.left back (IsAskedOf since xs) since state.history closing
-        (leaves_for tells.disk laws.counts_now laws.untold laws.only_now IsDecidedAt (IsAskedOf since xs) network opens.was store opens.opens state.history last closes.left closing goes closes.closes);
+        left_as_kind tells.cabinet tells.disk name before mid after network opens.was closes.left back (IsAskedOf required since xs) since state.history closing
+        (leaves_for tells.disk laws.counts_now laws.untold laws.only_now IsDecidedAt (IsAskedOf required since xs) network opens.was store opens.opens state.history last closes.left closing goes closes.closes);
     none_oversold = λ place l. sold network 0 state.history place l decided.sound;
     held = live_held 0 state.history;
     kept = stays_live 0 state.history;
@@ -90,15 +89,15 @@ module _ {I O C E : Type 0} (tells : Tellings I O C E) (name : List ℕ) (before
   }
 
   -- lines were answered by a clerk
-  pub keeps_hosted : (led after_all : LedState E) → led.store ≡ store → after_all.store ≡ last → (sessions : List Session) (ended : Bool) (tally : Tally) (standby : StandbyState) (xs : List (Exchange HostLine HostReply)) (link : Link) (hosted : HasHosted (led_books tells.disk) (IsLedOf tells.disk) since led after_all sessions ended tally standby xs link) → KeepsHosted tells name before after (host_progress network since hosted.hosted.state.history xs ended) closing
-  keeps_hosted led after_all is_store is_last sessions ended tally standby xs link hosted =
+  pub keeps_hosted : (required : Bool) (led after_all : LedState E) → led.store ≡ store → after_all.store ≡ last → (sessions : List Session) (ended : Bool) (tally : Tally) (by : LinkState) (xs : List (Exchange HostLine HostReply)) (link : Link) (hosted : HasHosted (led_books tells.disk) (IsLedOf tells.disk) required since led after_all sessions ended tally by xs link) → KeepsHosted tells name before after (host_progress network required since hosted.hosted.state.history xs ended) closing
+  keeps_hosted required led after_all is_store is_last sessions ended tally by xs link hosted =
       let all = hosted.hosted in
       let same = ap (λ (kept : KeptStore E). kept.ledger.network) is_store ∙ opens.opens.opened.network in
-      let run = led_goes_on tells.disk (IsAskedOf since xs) led.store.ledger.network since led after_all all.state.history all.goes_on in
-      let goes = subst (λ (kept : KeptStore E). GoesOn (store_books tells.disk) (IsAskedOf since xs) network since kept all.state.history last) is_store
-      (subst (λ (kept : KeptStore E). GoesOn (store_books tells.disk) (IsAskedOf since xs) network since led.store all.state.history kept) is_last
-      (subst (λ (n : Network). GoesOn (store_books tells.disk) (IsAskedOf since xs) n since led.store all.state.history after_all.store) same run)) in
-      keeps_made all.state xs ended hosted.ends (subst (λ (n : Network). AreHostSteps n xs (host_from since) all.state) same all.steps) (subst (λ (n : Network). IsDecided n 0 (length since) all.state.history) same all.decided) all.begins goes _ _ closes.call.met.stays.never_falls
+      let run = led_goes_on tells.disk (IsAskedOf required since xs) led.store.ledger.network since led after_all all.state.history all.goes_on in
+      let goes = subst (λ (kept : KeptStore E). GoesOn (store_books tells.disk) (IsAskedOf required since xs) network since kept all.state.history last) is_store
+      (subst (λ (kept : KeptStore E). GoesOn (store_books tells.disk) (IsAskedOf required since xs) network since led.store all.state.history kept) is_last
+      (subst (λ (n : Network). GoesOn (store_books tells.disk) (IsAskedOf required since xs) n since led.store all.state.history after_all.store) same run)) in
+      keeps_made required all.state xs ended hosted.ends (subst (λ (n : Network). AreHostSteps n required xs (host_from since) all.state) same all.steps) (subst (λ (n : Network). IsDecided n 0 (length since) all.state.history) same all.decided) all.begins goes _ _ closes.call.met.stays.never_falls
       (subst (λ (kept : KeptStore E). TellsDisks (tells.disk.frame led.store.journal.disk).faults xs (tells.disk.frame kept.journal.disk).faults) is_last all.disks)
 
 -- the journal was opened and closed, and no line was answered
@@ -109,7 +108,7 @@ stays_unhosted tells name before mid after network is store opens closing closes
     let sound = subst (λ (n : Network). IsSound n 0 since) opens.opens.opened.network opens.opens.opened.has.sound in record {
       since = since;
       closing = closing;
-      kept = keeps_made tells name before mid after network is store store opens closing closes (host_from since) [] false refl refl (decided_end network 0 since sound) ([], append-nil since) none_yet 0 0 (omega arith) (inl (omega arith));
+      kept = keeps_made tells name before mid after network is store store opens closing closes false (host_from since) [] false refl refl (decided_end network 0 since sound) ([], append-nil since) none_yet 0 0 (omega arith) (inl (omega arith));
     }
 
 -- no connection was let in
@@ -133,34 +132,35 @@ module _ {I O C E D N : Type 0} (tells : Tellings I O C E) (by : DoorTellings D 
   same_network led is_store = ap (λ (kept : KeptStore E). kept.ledger.network) is_store ∙ opens.opens.opened.network
 
   -- a clerk that was made of a core over the store has answered nothing
-  pub begun : (led : LedState E) → led.store ≡ store → IsLedOf tells.disk led network beginning
-      → (first : LedState E) → first ≡ led → (clerk : LedState E) → clerk ≡ first → (sessions : List Session) (ended : Bool) (tally : Tally) (standby : StandbyState) → ended ≡ false → tally ≡ no_tally
+  pub begun : (at_link : Bool → LinkState) (required given : Bool) → required ≡ given → (led : LedState E) → led.store ≡ store → IsLedOf tells.disk led network beginning
+      → (first : LedState E) → first ≡ led → (clerk : LedState E) → clerk ≡ first → (sessions : List Session) (ended : Bool) (tally : Tally) → ended ≡ false → tally ≡ no_tally
       → ((since : List Entry) → IsSound first.store.ledger.network 0 since → HasBookOf 0 since first.store.ledger → IsLedOf tells.disk first first.store.ledger.network since
-      → HasHosted (led_books tells.disk) (IsLedOf tells.disk) since first first sessions false no_tally standby [] no_link)
-      → HasHosted (led_books tells.disk) (IsLedOf tells.disk) beginning clerk clerk sessions ended tally standby [] no_link
-  begun led is_store is_led first same clerk is_clerk sessions ended tally standby is_ended none_counted none =
+      → HasHosted (led_books tells.disk) (IsLedOf tells.disk) given since first first sessions false no_tally (at_link given) [] no_link)
+      → HasHosted (led_books tells.disk) (IsLedOf tells.disk) required beginning clerk clerk sessions ended tally (at_link required) [] no_link
+  begun at_link required given is_so led is_store is_led first same clerk is_clerk sessions ended tally is_ended none_counted none =
       let at : first.store ≡ store = ap (λ (one : LedState E). one.store) same ∙ is_store in
       let sound = subst (λ (kept : KeptStore E). IsSound kept.ledger.network 0 beginning) (sym at) opens.opens.opened.has.sound in
       let book = subst (λ (kept : KeptStore E). HasBookOf 0 beginning kept.ledger) (sym at) opens.opens.opened.has.book in
       let is_of = subst (λ (one : LedState E). IsLedOf tells.disk one first.store.ledger.network beginning) (sym same)
       (subst (λ (n : Network). IsLedOf tells.disk led n beginning) (sym (same_network first at)) is_led) in
-      subst (λ (one : LedState E). HasHosted (led_books tells.disk) (IsLedOf tells.disk) beginning one one sessions ended tally standby [] no_link) (sym is_clerk)
-      (subst (λ (t : Tally). HasHosted (led_books tells.disk) (IsLedOf tells.disk) beginning first first sessions ended t standby [] no_link) (sym none_counted)
-      (subst (λ (e : Bool). HasHosted (led_books tells.disk) (IsLedOf tells.disk) beginning first first sessions e no_tally standby [] no_link) (sym is_ended) (none beginning sound book is_of)))
+      subst (λ (one : LedState E). HasHosted (led_books tells.disk) (IsLedOf tells.disk) required beginning one one sessions ended tally (at_link required) [] no_link) (sym is_clerk)
+      (subst (λ (t : Tally). HasHosted (led_books tells.disk) (IsLedOf tells.disk) required beginning first first sessions ended t (at_link required) [] no_link) (sym none_counted)
+      (subst (λ (e : Bool). HasHosted (led_books tells.disk) (IsLedOf tells.disk) required beginning first first sessions e no_tally (at_link required) [] no_link) (sym is_ended)
+      (subst (λ (b : Bool). HasHosted (led_books tells.disk) (IsLedOf tells.disk) b beginning first first sessions false no_tally (at_link b) [] no_link) (sym is_so) (none beginning sound book is_of))))
 
   -- lines that were answered stand on the disk
-  on_disk : (led : LedState E) → led.store ≡ store → (xs : List (Exchange HostLine HostReply)) (kept : LedState E) → AreHosted (led_books tells.disk) led.store.ledger.network beginning led kept xs → StandOnDisk tells.disk network beginning xs kept
-  on_disk led is_store xs kept all =
+  on_disk : (required : Bool) (led : LedState E) → led.store ≡ store → (xs : List (Exchange HostLine HostReply)) (kept : LedState E) → AreHosted (led_books tells.disk) led.store.ledger.network required beginning led kept xs → StandOnDisk tells.disk network required beginning xs kept
+  on_disk required led is_store xs kept all =
       let same = same_network led is_store in
-      let run = led_goes_on tells.disk (IsAskedOf beginning xs) led.store.ledger.network beginning led kept all.state.history all.goes_on in
-      let goes = subst (λ (first : KeptStore E). GoesOn (store_books tells.disk) (IsAskedOf beginning xs) network beginning first all.state.history kept.store) is_store
-      (subst (λ (n : Network). GoesOn (store_books tells.disk) (IsAskedOf beginning xs) n beginning led.store all.state.history kept.store) same run) in
+      let run = led_goes_on tells.disk (IsAskedOf required beginning xs) led.store.ledger.network beginning led kept all.state.history all.goes_on in
+      let goes = subst (λ (first : KeptStore E). GoesOn (store_books tells.disk) (IsAskedOf required beginning xs) network beginning first all.state.history kept.store) is_store
+      (subst (λ (n : Network). GoesOn (store_books tells.disk) (IsAskedOf required beginning xs) n beginning led.store all.state.history kept.store) same run) in
       let laws = opens.opens.lawful in
-      let stands = opened_stands tells.disk (IsAskedOf beginning xs) (tells.disk.may_leave opens.was) (opening_of tells.disk network beginning opens.was) opens.was store opens.opens.opened refl opens.opens.images opens.opens.stands.tells refl (laws.counts_now opens.was) (laws.untold store.journal.disk) (le_refl _) (laws.only_now opens.was) in
-      let stood = run_stands tells.disk (IsAskedOf beginning xs) (tells.disk.may_leave opens.was) (opening_of tells.disk network beginning opens.was) beginning store all.state.history kept.store stands goes in
+      let stands = opened_stands tells.disk (IsAskedOf required beginning xs) (tells.disk.may_leave opens.was) (opening_of tells.disk network beginning opens.was) opens.was store opens.opens.opened refl opens.opens.images opens.opens.stands.tells refl (laws.counts_now opens.was) (laws.untold store.journal.disk) (le_refl _) (laws.only_now opens.was) in
+      let stood = run_stands tells.disk (IsAskedOf required beginning xs) (tells.disk.may_leave opens.was) (opening_of tells.disk network beginning opens.was) beginning store all.state.history kept.store stands goes in
       record {
         state = all.state;
-        steps = subst (λ (n : Network). AreHostSteps n xs (host_from beginning) all.state) same all.steps;
+        steps = subst (λ (n : Network). AreHostSteps n required xs (host_from beginning) all.state) same all.steps;
         doubt = stood.doubt;
         doubtful = stood.doubtful;
         now = λ image may. in_doubt network all.state.history stood.doubt image (subst (λ (n : Network). IsAmid n all.state.history stood.doubt None image) stood.network (stood.has.images image may));
@@ -171,13 +171,13 @@ module _ {I O C E D N : Type 0} (tells : Tellings I O C E) (by : DoorTellings D 
   Clerks about path alone rules led = record {
     did = by.did;
     saw = by.saw;
-    stands = λ xs kept. AreHosted (led_books tells.disk) led.store.ledger.network beginning led kept xs;
+    stands = λ xs kept. AreHosted (led_books tells.disk) led.store.ledger.network (not alone) beginning led kept xs;
     says = SaysAt about rules;
     text = host_text about;
     standby = path;
     may_be_alone = alone;
-    leads = LeadsBy about beginning;
-    is_ahead = IsAheadBy about beginning;
+    leads = LeadsBy about (not alone) beginning;
+    is_ahead = IsAheadBy about (not alone) beginning;
   }
 
   -- and for the standby that was asked for
@@ -185,17 +185,17 @@ module _ {I O C E D N : Type 0} (tells : Tellings I O C E) (by : DoorTellings D 
   AskedOf rules led = Clerks network (option_map (λ (standby : StandbyPlace). standby.path) asked.standby) (may_be_alone asked.standby) rules led
 
   -- what lines and some link have come to
-  abbrev HasCome : LedState E → LedState E → List Session → Bool → Tally → StandbyState → List (Exchange HostLine HostReply) → Type 0
-  HasCome led left sessions ended tally standby xs = (link : Link) × HasHosted (led_books tells.disk) (IsLedOf tells.disk) beginning led left sessions ended tally standby xs link
+  abbrev HasCome : Bool → LedState E → LedState E → List Session → Bool → Tally → LinkState → List (Exchange HostLine HostReply) → Type 0
+  HasCome required led left sessions ended tally at_link xs = (link : Link) × HasHosted (led_books tells.disk) (IsLedOf tells.disk) required beginning led left sessions ended tally at_link xs link
 
   -- the story of the connections is that of the network of the journal
-  pub hosts_doors : (was between now : D) (one other : N) (end : HostEnd) (addresses : List Address) (rules : List DoorRule) (led left : LedState E) (sessions : List Session) (ended : Bool) (tally : Tally) (standby : StandbyState) (path : Option (List ℕ)) (alone : Bool)
+  pub hosts_doors : (was between now : D) (one other : N) (end : HostEnd) (addresses : List Address) (rules : List DoorRule) (led left : LedState E) (sessions : List Session) (ended : Bool) (tally : Tally) (at_link : LinkState) (path : Option (List ℕ)) (alone : Bool)
       → led.store ≡ store → left.store ≡ last → path ≡ option_map (λ (standby : StandbyPlace). standby.path) asked.standby → alone ≡ may_be_alone asked.standby → AreOpenedAt asked addresses rules → IsEndedFor end.why ended
-      → IsHosted (Clerks led.store.ledger.network path alone rules led) (HasCome led left sessions ended tally standby) end.why one other
+      → IsHosted (Clerks led.store.ledger.network path alone rules led) (HasCome (not alone) led left sessions ended tally at_link) end.why one other
       → by.doors.opens was addresses one between → by.doors.closes between other now → end.closing ≡ closing → end.book ≡ last.ledger → HostsDoors tells by name asked before after network was now end
-  hosts_doors was between now one other end addresses rules led left sessions ended tally standby path alone is_store is_last same_path same_alone as_asked ends hosted opened closed same_closing same_book =
+  hosts_doors was between now one other end addresses rules led left sessions ended tally at_link path alone is_store is_last same_path same_alone as_asked ends hosted opened closed same_closing same_book =
       let come = made.comes_to.1 in
-      let keeps = keeps_hosted tells name before mid after network is store last opens closing closes led left is_store is_last sessions ended tally standby (exchanges made.story) made.comes_to.0 come in
+      let keeps = keeps_hosted tells name before mid after network is store last opens closing closes (is_required asked.standby) led left is_store is_last sessions ended tally at_link (exchanges made.story) made.comes_to.0 come in
       record {
         since = beginning;
         history = come.hosted.state.history;
@@ -212,17 +212,17 @@ module _ {I O C E D N : Type 0} (tells : Tellings I O C E) (by : DoorTellings D 
         hosted = record {
           story = made.story;
           hosts = made.hosts;
-          comes_to = subst (KeepsHosted tells name before after (host_progress network beginning come.hosted.state.history (exchanges made.story) ended)) (sym same_closing) keeps;
+          comes_to = subst (KeepsHosted tells name before after (host_progress network (is_required asked.standby) beginning come.hosted.state.history (exchanges made.story) ended)) (sym same_closing) keeps;
           settled = made.settled;
           parts = made.parts;
         };
         is = subst (IsLedgerOf network 0 come.hosted.state.history) (ap (λ (kept : KeptStore E). kept.ledger) is_last ∙ sym same_book) (record { is_network = come.network ∙ same_network led is_store; is_book = come.book });
       }
     where
-      made : IsHosted (record (AskedOf rules led) { stands = StandOnDisk tells.disk network beginning }) (HasCome led left sessions ended tally standby) end.why one other
-      made = hosted_on (AskedOf rules led) one (StandOnDisk tells.disk network beginning) (HasCome led left sessions ended tally standby) (HasCome led left sessions ended tally standby) end.why (on_disk led is_store) (λ xs come. come) other (subst (λ (a : Bool). IsHosted (Clerks network (option_map (λ (standby : StandbyPlace). standby.path) asked.standby) a rules led) (HasCome led left sessions ended tally standby) end.why one other) same_alone
-          (subst (λ (p : Option (List ℕ)). IsHosted (Clerks network p alone rules led) (HasCome led left sessions ended tally standby) end.why one other) same_path
-          (subst (λ (n : Network). IsHosted (Clerks n path alone rules led) (HasCome led left sessions ended tally standby) end.why one other) (same_network led is_store) hosted)))
+      made : IsHosted (record (AskedOf rules led) { stands = StandOnDisk tells.disk network (is_required asked.standby) beginning }) (HasCome (is_required asked.standby) led left sessions ended tally at_link) end.why one other
+      made = hosted_on (AskedOf rules led) one (StandOnDisk tells.disk network (is_required asked.standby) beginning) (HasCome (is_required asked.standby) led left sessions ended tally at_link) (HasCome (is_required asked.standby) led left sessions ended tally at_link) end.why (on_disk (is_required asked.standby) led is_store) (λ xs come. come) other (subst (λ (a : Bool). IsHosted (Clerks network (option_map (λ (standby : StandbyPlace). standby.path) asked.standby) a rules led) (HasCome (not a) led left sessions ended tally at_link) end.why one other) same_alone
+          (subst (λ (p : Option (List ℕ)). IsHosted (Clerks network p alone rules led) (HasCome (not alone) led left sessions ended tally at_link) end.why one other) same_path
+          (subst (λ (n : Network). IsHosted (Clerks n path alone rules led) (HasCome (not alone) led left sessions ended tally at_link) end.why one other) (same_network led is_store) hosted)))
 
 -- whether the operator had ended a host
 pub ended_for : (why : Parting) (ended : Bool) → (why ≡ parting.Asked → ended ≡ true) → (why ≡ parting.Told → ended ≡ false) → IsEndedFor why ended

@@ -40,7 +40,7 @@ use Rattle.hose_offline.specs.Fault.{last_line, status_of}
 use Rattle.hose_offline.specs.OnDisk.{HadContent, OfHeld, opening_of}
 use Rattle.hose_offline.specs.Parts.{Tellings}
 use Rattle.hose_offline.specs.declared.fault.Fault.TheVariants as fault
-use Rattle.hosed_host.specs.HostDoors.{AreOpenedAt, DoorsAsked, may_be_alone, number_of}
+use Rattle.hosed_host.specs.HostDoors.{AreOpenedAt, DoorsAsked, is_required, may_be_alone, number_of}
 use Rattle.hosed_host.specs.HostWhy.{door_line, host_status, last_of_host}
 use Rattle.hosed_host.specs.declared.why.HostWhy.{HostWhy}
 use Rattle.hosed_host.specs.declared.why.HostWhy.TheVariants.{Door, Ended, StandbyAhead, StandbyGone}
@@ -50,20 +50,22 @@ use Rattle.hosed_host.specs.declared.hosting.NotHosted.TheVariants as none
 
 -- ---- the book that is kept
 
--- lines that were answered by a host on a network, from a history on to another one, and whether
--- the operator ended it
+-- lines that were answered by a host on a network, whose standby is required or not, from a history
+-- on to another one, and whether the operator ended it
 pub record HostProgress : Type 0 where
   pub network : Network
+  pub required : Bool
   pub since : List Entry
   pub history : List Entry
   pub exchanges : List (Exchange HostLine HostReply)
   pub ended : Bool
 
 -- how lines were answered, of its parts
-abbrev pub host_progress : Network → List Entry → List Entry
+abbrev pub host_progress : Network → Bool → List Entry → List Entry
     → List (Exchange HostLine HostReply) → Bool → HostProgress
-host_progress network since history exchanges ended = record {
+host_progress network required since history exchanges ended = record {
   network = network;
+  required = required;
   since = since;
   history = history;
   exchanges = exchanges;
@@ -86,14 +88,14 @@ module _ {I O C E : Type 0} (tells : Tellings I O C E) (name : List ℕ) (old ne
     pub begins : IsPrefix made.since made.history
     pub state : HostState
     pub leads : state.history ≡ made.history
-    pub steps : AreHostSteps made.network made.exchanges (host_from made.since) state
+    pub steps : AreHostSteps made.network made.required made.exchanges (host_from made.since) state
     pub ends : state.ended ≡ made.ended
     pub decided : IsDecided made.network 0 (length made.since) made.history
     pub told : TellsDisks 0 made.exchanges (tells.cabinet.frame new).returned
     pub met : Met (object_of (tells.cabinet.frame old)) (object_of (tells.cabinet.frame new))
         closing
     pub left : OfHeld tells.cabinet name old new (λ was left. HasLeft tells.disk
-        (IsAskedOf made.since made.exchanges) (tells.disk.may_leave was)
+        (IsAskedOf made.required made.since made.exchanges) (tells.disk.may_leave was)
         (opening_of tells.disk made.network made.since was) made.history left closing)
     pub none_oversold : (place l : ℕ)
         → ¬ IsOversold made.network (book_of 0 (take place made.history)) l
@@ -106,17 +108,19 @@ module _ {I O C E : Type 0} (tells : Tellings I O C E) (name : List ℕ) (old ne
   pub record StaysUnhosted (network : Network) : Type 0 where
     pub since : List Entry
     pub closing : Result ⊤ Failed
-    pub kept : KeepsHosted (host_progress network since since [] false) closing
+    pub kept : KeepsHosted (host_progress network false since since [] false) closing
 
 -- Lines that were answered from a history on stand on the disk of a store: each image that a stop
 -- may leave now stands for the history to which they led, or for it and one entry more, for which
 -- one of the lines asked.
-pub record StandOnDisk {E : Type 0} (disk : DiskGhosts E) (network : Network) (since : List Entry)
-    (exchanges : List (Exchange HostLine HostReply)) (led : LedState E) : Type 0 where
+pub record StandOnDisk {E : Type 0} (disk : DiskGhosts E) (network : Network) (required : Bool)
+    (since : List Entry) (exchanges : List (Exchange HostLine HostReply)) (led : LedState E)
+    : Type 0 where
   pub state : HostState
-  pub steps : AreHostSteps network exchanges (host_from since) state
+  pub steps : AreHostSteps network required exchanges (host_from since) state
   pub doubt : Option Entry
-  pub doubtful : IfSome doubt (IsAskedOf since exchanges network (book_of 0 state.history))
+  pub doubtful : IfSome doubt
+      (IsAskedOf required since exchanges network (book_of 0 state.history))
   pub now : Images disk led.store.journal.disk (IsOrInDoubt network state.history doubt)
 
 -- ---- the doors
@@ -181,8 +185,9 @@ module _ {I O C E D N : Type 0} (tells : Tellings I O C E) (by : DoorTellings D 
   -- them and were hosted, until the operator ended that, the network told to stop, or a standby
   -- ended it: by a story whose exchanges are those by which the journal is kept, and in which
   -- nothing was sent before all lines that were answered stood on the disk. The link to the standby
-  -- is sent packets of that history alone, and by its `have` the standby is heard to have as many.
-  -- The book is that of the history.
+  -- is sent packets of that history alone, and by its `have` the standby is heard to have as many;
+  -- where it is required, replies wait besides for its answer to what it was sent behind their
+  -- lines. The book is that of the history.
   pub record HostsDoors (was now : D) (end : HostEnd) : Type 0 where
     pub since : List Entry
     pub history : List Entry
@@ -199,15 +204,16 @@ module _ {I O C E D N : Type 0} (tells : Tellings I O C E) (by : DoorTellings D 
     pub hosted : IsHosted (record {
       did = by.did;
       saw = by.saw;
-      stands = StandOnDisk tells.disk network since;
+      stands = StandOnDisk tells.disk network (is_required asked.standby) since;
       says = SaysAt network rules;
       text = host_text network;
       standby = option_map (λ standby. standby.path) asked.standby;
       may_be_alone = may_be_alone asked.standby;
-      leads = LeadsBy network since;
-      is_ahead = IsAheadBy network since;
+      leads = LeadsBy network (is_required asked.standby) since;
+      is_ahead = IsAheadBy network (is_required asked.standby) since;
     }) (λ exchanges. KeepsHosted tells name old new
-        (host_progress network since history exchanges ended) end.closing) end.why first last
+        (host_progress network (is_required asked.standby) since history exchanges ended)
+        end.closing) end.why first last
     pub is : IsLedgerOf network 0 history end.book
 
   -- what hosting by a journal that was opened comes to: connections were hosted; or nothing was

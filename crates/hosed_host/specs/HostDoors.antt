@@ -26,6 +26,10 @@ abbrev pub may_be_alone : Option StandbyPlace → Bool
 may_be_alone None = true
 may_be_alone (Some standby) = not standby.or_stop
 
+-- no reply is told without the standby
+abbrev pub is_required : Option StandbyPlace → Bool
+is_required standby = not (may_be_alone standby)
+
 -- what a word says of a door: that it is the operator's socket, or one of the others
 pub data DoorName : Type 0 where
   OfOperator : List ℕ → DoorName

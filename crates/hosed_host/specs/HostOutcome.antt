@@ -1,13 +1,16 @@
 -- What stands after `host`, by what ended it.
-use Rattle.std.specs.Prelude.{◌≡◌, ◌≢◌, ℕ, List, Result}
+use Rattle.std.specs.Prelude.{◌≡◌, ◌≢◌, ℕ, List, Result, ⊤}
 use Rattle.hose_graph.specs.Network.{Network}
 use Rattle.hose_offline.specs.AuditOutcome.{NamedOutcome, Purpose}
 use Rattle.hose_offline.specs.Auditing.{PricedNames}
+use Rattle.hose_offline.specs.Failing.{FailsNamed}
 use Rattle.hose_offline.specs.Parts.{Parts, Tellings}
 use Rattle.hosed_host.specs.HostBook.{Announces, DoorTellings, EndsHosted, HostsByJournal}
 use Rattle.hosed_host.specs.HostDoors.{DoorsAsked}
 use Rattle.hosed_host.specs.declared.hosting.HostEnd.{HostEnd}
 use Rattle.hosed_host.specs.declared.hosting.NotHosted.{NotHosted}
+use Rattle.hosed_host.specs.declared.why.HostWhy.{HostWhy}
+use Rattle.hosed_host.specs.declared.why.HostWhy.TheVariants.{Door, Ended, StandbyAhead, StandbyGone}
 
 -- all that is outside of a host: what there is for every command, and doors
 pub record OutsideDoors (I O C D : Type 0) : Type 0 where
@@ -39,3 +42,11 @@ module _ {I O C E D N : Type 0} (tells : Tellings I O C E) (by : DoorTellings D 
   -- A host tells the book of the journal as it was after the last line that was answered.
   abbrev pub HostOutcome : ℕ → Type 0
   HostOutcome status = NamedOutcome tells names before.others after.others (to_host status) status
+
+-- which of its two files a host tells as the one at which the cabinet failed
+abbrev pub FailsHost : {I O C E : Type 0} → Tellings I O C E → PricedNames → Parts I O C
+    → Parts I O C → HostWhy → Type 0
+FailsHost tells names before after (Ended why) = FailsNamed tells names before after why
+FailsHost tells names before after (Door word trouble) = ⊤
+FailsHost tells names before after StandbyGone = ⊤
+FailsHost tells names before after (StandbyAhead count) = ⊤

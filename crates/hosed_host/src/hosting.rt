@@ -21,8 +21,8 @@ ghost use Rattle.hosed_host.specs.HostBook.{Announces, EndsBy, EndsHosted, Hosts
 ghost use Rattle.hosed_host.specs.HostDoors.{AreOpenedAt, door_names, may_be_alone};
 ghost use Rattle.hose_clerk.specs.declared.doors.DoorRule.{DoorRule};
 ghost use Rattle.hosed_host.specs.HostWhy.{TellsWhy, door_line, host_status, last_of_host};
-ghost use Rattle.hosed_host.specs.HostOutcome.{HostOutcome};
-ghost use Rattle.hosed_host.specs.steps.HostOutcome.{AreServable, HostsJournal, IsWhyOf, asked_of, closed_as, doors_beside, plan_at, why_of_standby};
+ghost use Rattle.hosed_host.specs.HostOutcome.{FailsHost, HostOutcome};
+ghost use Rattle.hosed_host.specs.steps.HostOutcome.{AreServable, FailsHosting, HostsJournal, IsWhyOf, asked_of, closed_as, doors_beside, plan_at, why_of_standby};
 
 use crate::opening::{HostDoors, Opened, StandbyPlan, opened_as};
 use crate::reading::open_led;
@@ -94,6 +94,9 @@ pub fn host_by_names<W: Wait, P: Prices, I: Source, O: Sink, C: Cabinet, D: Door
         (asked_of request.entry.doors) (doors_beside outside.old doors.old)
         (doors_beside outside.new doors.new) (host_status result) }
     ensures told { TellsWhy O.Sink outside.new.output.now result }
+    ensures fails { FailsHost (tellings I.Source O.Sink C.Cabinet C.Disk.Disk)
+        (priced_names (P.prices costs.now) request.entry.topology.now request.entry.journal.now)
+        (held outside.old) (held outside.new) result }
     ensures door { TellsDoor D.Doors (asked_of request.entry.doors) doors.old doors.new result }
     ensures not_words { host_status result ≢ 1 }
     ensures back { (C.frame outside.new.cabinet.now).out ≡ None }
@@ -125,6 +128,8 @@ fn host_journal<W: Wait, I: Source, O: Sink, C: Cabinet, D: Doors, L: Log>(
         (asked_of request.entry.doors) (doors_beside outside.old doors.old)
         (doors_beside outside.new doors.new) (host_status result) topology }
     ensures told { TellsWhy O.Sink (held outside.new).output result }
+    ensures fails { FailsHosting C.Cabinet (held outside.old).cabinet (held outside.new).cabinet
+        result }
     ensures door { TellsDoor D.Doors (asked_of request.entry.doors) doors.old doors.new result }
     ensures input { (held outside.new).input ≡ (held outside.old).input }
     ensures alone { TouchesOnly C.Cabinet request.entry.journal.now (held outside.old).cabinet

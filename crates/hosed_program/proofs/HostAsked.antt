@@ -8,7 +8,8 @@ use Rattle.hosed.specs.declared.host_line.StandbyWords.{StandbyWords}
 use Rattle.hosed.proofs.HostShapes.{operator_numbered}
 use Rattle.hosed_host.specs.HostBook.{DoorTellings}
 use Rattle.hosed_host.specs.HostDoors.{DoorsAsked}
-use Rattle.hosed_host.specs.HostOutcome.{HostOutcome}
+use Rattle.hosed_host.specs.HostOutcome.{FailsHost, HostOutcome}
+use Rattle.hosed_host.specs.declared.why.HostWhy.{HostWhy}
 use Rattle.hosed_host.specs.steps.HostOutcome.{asked_of as doors_asked, plan_at}
 use Rattle.hosed_program.specs.HostCommand.{beside_doors, doors_of, place_of}
 use Rattle.hosed_program.specs.steps.HostWords.{doors_said, plan_said}
@@ -33,3 +34,9 @@ pub hosted_of : {I O C E D N : Type 0} {tells : Tellings I O C E} {by : DoorTell
 hosted_of {tells = tells} {by = by} {names = names} {asked = asked} {was = was} {doors = doors} {doors' = doors'} {status = status} after lent input output cabinet outcome =
     subst (λ (now : Parts _ _ _). HostOutcome tells by names asked (beside_doors was doors) (beside_doors now doors') status) (λ i. parts (input i) (output i) (cabinet i))
     (subst (λ (old : Parts _ _ _). HostOutcome tells by names asked (beside_doors old doors) (beside_doors after doors') status) lent outcome)
+
+-- and so is which of its files a host tells as the one that failed
+pub host_fails_of : {I O C E : Type 0} (tells : Tellings I O C E) (names : PricedNames) (why : HostWhy) {before was : Parts I O C} (after : Parts I O C) {input : I} {output : O} {cabinet : C} → before ≡ was → after.input ≡ input → after.output ≡ output → after.cabinet ≡ cabinet → FailsHost tells names before after why
+    → FailsHost tells names was (parts input output cabinet) why
+host_fails_of tells names why {was = was} after lent input output cabinet fails =
+    subst (λ (now : Parts _ _ _). FailsHost tells names was now why) (λ i. parts (input i) (output i) (cabinet i)) (subst (λ (old : Parts _ _ _). FailsHost tells names old after why) lent fails)

@@ -4,6 +4,7 @@ ghost use Rattle.std.specs.String.{string_bytes};
 ghost use Rattle.hose_io.specs.Frame.{Stays};
 ghost use Rattle.hose_offline.specs.Parts.{AllStay, parts, tellings};
 ghost use Rattle.hose_offline.specs.Why.{IsTold, why_status};
+ghost use Rattle.hosed.specs.Failing.{FailsWords};
 ghost use Rattle.hosed.specs.Naming.{NamesOf};
 ghost use Rattle.hosed.specs.Offline.{offer_of};
 ghost use Rattle.hosed.specs.ServerDoor.{seen_of, with_door};
@@ -63,6 +64,13 @@ pub fn program<
         (λ tariff. tariff.per) tariffs.now)
         (why_status result.why) (map string_bytes words.now) }
     ensures told { IsTold O.Sink world.new.output result.why }
+    ensures fails { text_or_command (map string_bytes words.now) ≡ asked.Command
+        → FailsWords (tellings I.Source O.Sink C.Cabinet C.Disk.Disk)
+        (offer_of ⟦<Tariff as Prices>⟧.prices (λ tariff. tariff.name) (λ tariff. tariff.base)
+        (λ tariff. tariff.per) tariffs.now)
+        (parts world.old.input world.old.output world.old.cabinet)
+        (parts world.new.input world.new.output world.new.cabinet)
+        result.why (map string_bytes words.now) }
     ensures names { text_or_command (map string_bytes words.now) ≡ asked.Command
         → NamesOf (map (λ tariff. tariff.name) tariffs.now) (map string_bytes words.now)
         result.named }

@@ -1,12 +1,15 @@
 // A host, as the program's words ask for it.
 ghost use Rattle.std.specs.Prelude.{◌≡◌, None, map, option_map};
 ghost use Rattle.std.specs.String.{string_bytes};
+ghost use Rattle.hose_offline.specs.Auditing.{priced_names};
 ghost use Rattle.hose_offline.specs.Parts.{AllStay, parts, tellings};
 ghost use Rattle.hosed.specs.HostNaming.{HostNamesOf};
 ghost use Rattle.hosed.specs.HostWords.{AreHostWords, AsksToHost, HostAsked};
 ghost use Rattle.hosed.specs.Offline.{offer_of};
+ghost use Rattle.hosed.specs.ProgramWords.{costs_at};
 ghost use Rattle.hose_lead.specs.LedStore.{LedState};
 ghost use Rattle.hosed_host.specs.HostBook.{TellsDoor, door_tellings};
+ghost use Rattle.hosed_host.specs.HostOutcome.{FailsHost};
 ghost use Rattle.hosed_host.specs.HostWhy.{TellsWhy, host_status};
 ghost use Rattle.hosed_program.specs.HostCommand.{HostCommand, doors_of};
 ghost use Rattle.hosed_program.specs.steps.HostWords.{plan_said};
@@ -74,6 +77,13 @@ pub fn host_ended<
         (parts input.old output.old cabinet.old) (parts input.new output.new cabinet.new)
         host.old.doors host.new.doors (host_status result.why) (map string_bytes words.now) }
     ensures told { TellsWhy O.Sink output.new result.why }
+    ensures fails { (asked : HostAsked) → AreHostWords (map (λ tariff. tariff.name) tariffs.now)
+        (map string_bytes words.now) asked
+        → FailsHost (tellings I.Source O.Sink C.Cabinet C.Disk.Disk)
+        (priced_names (costs_at ⟦<Tariff as Prices>⟧.prices tariffs.now asked.tariff)
+        asked.topology asked.journal)
+        (parts input.old output.old cabinet.old) (parts input.new output.new cabinet.new)
+        result.why }
     ensures door { (asked : HostAsked) → AreHostWords (map (λ tariff. tariff.name) tariffs.now)
         (map string_bytes words.now) asked
         → TellsDoor D.Doors (doors_of (map (λ tariff. tariff.name) tariffs.now) asked)

@@ -130,8 +130,8 @@ fn tell_fault<R: Eprint>(
     match fault {
         Fault::Topology(refusal) => tell_refused(rt, refusal, which),
         Fault::Text => {
-            let why = told(trouble);
-            eprintln!(rt; "hosed: the topology {which} could not be read: {why}")
+            let (text, why) = (of.failed(fault).unwrap_or(""), told(trouble));
+            eprintln!(rt; "hosed: the topology {text:?} could not be read: {why}")
         }
         Fault::Other { .. } => eprintln!(rt;
             "hosed: the journal {journal:?} is that of another network, or of other costs, than \
@@ -142,9 +142,11 @@ fn tell_fault<R: Eprint>(
             one that its network does not take"
         ),
         Fault::Cabinet => {
+            let journal = of.failed(fault).unwrap_or("");
             let (why, more) = (told(trouble), none_made(trouble));
             eprintln!(rt;
-                "hosed: the journal {journal:?} could not be opened or closed: {why}{more}"
+                "hosed: the journal {journal:?} could not be opened, read, written or closed: \
+                {why}{more}"
             )
         }
         Fault::TooLong => tell_too_long(rt, of.topology),

@@ -96,8 +96,9 @@ alone may greet, who then may do so at no other door but one of that name.
 STANDBY is --standby PATH [--standby-seconds N] [--standby-or-stop]. Behind the Unix socket PATH is
 a `hosed follow`, and each reply waits until it has all orders that the reply tells of. Where
 nothing was heard of it for N seconds, 1 to 3600, 10 if not told, customers are served without it
-until it has all again; with --standby-or-stop the host ends. A host keeps packets of 64 MiB for it:
-what lacks more is brought up by `ship` first.
+until it has all again; with --standby-or-stop the host ends, and each reply waits besides until it
+has answered what it was sent behind the line. A host keeps packets of 64 MiB for it: what lacks
+more is brought up by `ship` first.
 
 hosed prove reads a topology from the file TOPOLOGY, as audit does, plans a hose of 2 to 64
 endpoints on the whole network, as if nothing were reserved and whatever links can carry, and writes

@@ -1,5 +1,5 @@
 -- What stands after `host`: steps of proofs.
-use Rattle.std.specs.Prelude.{◌≡◌, ◌⊎◌, ℕ, ◌+◌, ◌^◌, ◌<◌, ◌≤◌, All, List, Option, None, Some, Result, Ok, Err, ⊤, length, map, option_map}
+use Rattle.std.specs.Prelude.{◌≡◌, ◌⊎◌, ℕ, ◌+◌, ◌^◌, ◌<◌, ◌≤◌, All, IsErr, List, Option, None, Some, Result, Ok, Err, ⊤, length, map, option_map}
 use Rattle.std.specs.String.{string_bytes}
 use Rattle.hose_io.specs.declared.Failed.{Failed}
 use Rattle.hose_graph.specs.Network.{Network}
@@ -11,6 +11,10 @@ use Rattle.hose_offline.specs.steps.Parts.{held}
 use Rattle.hose_offline.specs.declared.fault.Fault.{Fault}
 use Rattle.hose_offline.specs.declared.fault.Fault.TheVariants as fault
 use Rattle.hose_offline.specs.declared.outside.Outside.{Outside}
+use Rattle.hose_offline.specs.declared.why.Why.{Why}
+use Rattle.hose_offline.specs.declared.why.Why.TheVariants.{Stopped}
+use Rattle.hose_offline.specs.steps.Failing.{FailsOpened}
+use Rattle.hose_disk.specs.declared.cabinet.Cabinet.{Ghosts as CabinetGhosts}
 use Rattle.hose_doors.specs.Doors.{NamesDoor}
 use Rattle.hose_doors.specs.Limits.{most_doors}
 use Rattle.hosed_host.specs.HostBook.{DoorTellings}
@@ -57,12 +61,25 @@ abbrev pub why_of_standby : Option ℕ → HostWhy
 why_of_standby None = why.StandbyGone
 why_of_standby (Some count) = why.StandbyAhead count
 
--- a door is named for an opening of the doors that failed so
+-- that a file failed is told of the journal alone, where closing it did
+abbrev pub MayEnd : Result HostEnd NotHosted → Why → Type 0
+MayEnd came (Stopped fault.Text) = ⊥
+MayEnd came (Stopped fault.Cabinet) = (end : HostEnd) × (came ≡ Ok end) × IsErr end.closing
+MayEnd came _ = ⊤
+
+-- a door is named for an opening of the doors that failed so, and a file for one that failed
 abbrev pub IsWhyOf : Result HostEnd NotHosted → HostWhy → Type 0
-IsWhyOf came (why.Ended _) = ⊤
+IsWhyOf came (why.Ended other) = MayEnd came other
 IsWhyOf came (why.Door word trouble) = came ≡ Err (none.Door word trouble)
 IsWhyOf came why.StandbyGone = ⊤
 IsWhyOf came (why.StandbyAhead count) = ⊤
+
+-- what is told of the files of a host once its topology was read
+abbrev pub FailsHosting : {C E : Type 0} → CabinetGhosts C E → C → C → HostWhy → Type 0
+FailsHosting cabinet old new (why.Ended other) = FailsOpened cabinet old new other
+FailsHosting cabinet old new (why.Door word trouble) = ⊤
+FailsHosting cabinet old new why.StandbyGone = ⊤
+FailsHosting cabinet old new (why.StandbyAhead count) = ⊤
 
 -- What hosting by the journal of a name comes to: connections were hosted, or why not, once a store
 -- was opened; or none was, and the last line tells why.

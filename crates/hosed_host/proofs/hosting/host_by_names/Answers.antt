@@ -1,9 +1,11 @@
 use Rattle.std.proofs.Common.{refl, subst}
-use Rattle.hose_offline.specs.Auditing.{ReadsTopology}
+use Rattle.hose_offline.specs.Auditing.{ReadsTopology, priced_names}
+use Rattle.hose_offline.specs.Parts.{parts, tellings}
 use Rattle.hose_offline.specs.steps.Parts.{held}
 use Rattle.hose_offline.specs.Why.{why_status}
 use Rattle.hosed_host.specs.HostWhy.{host_status}
-use Rattle.hosed_host.proofs.HostOutcomes.{host_not_1, is_hosted, no_topology_read}
+use Rattle.hose_offline.proofs.Failing.{fails_reading}
+use Rattle.hosed_host.proofs.HostOutcomes.{host_fails, host_not_1, is_hosted, no_topology_read}
 use Rattle.hosed_host.proofs.hosting.host_by_names.Goals as goal
 
 pub returns-in-Ok-clause-outcome : goal.returns-in-Ok-clause-outcome
@@ -21,3 +23,19 @@ returns-in-Err-clause-outcome g c =
 
 pub returns-in-Err-clause-not_words : goal.returns-in-Err-clause-not_words
 returns-in-Err-clause-not_words g c = host_not_1 _ _ _ _ _ _ (why_status c.end.result) (returns-in-Err-clause-outcome g c)
+
+pub returns-in-Ok-clause-fails : goal.returns-in-Ok-clause-fails
+returns-in-Ok-clause-fails g c =
+    let tells = tellings g.I.Source g.O.Sink g.C.Cabinet g.C.Disk.Disk in
+    let names = priced_names (g.P.Prices.prices c.args.costs.now) c.args.request.topology.now c.args.request.journal.now in
+    let before = held c.args.outside.now in
+    let reads = subst (ReadsTopology g.C.Cabinet (held c.args.outside.now).cabinet c.read_topology.new.cabinet (g.P.Prices.prices c.args.costs.now) c.args.request.topology.now) c.in-Ok.is c.read_topology.ensures.reads in
+    host_fails tells names before (held c.host_journal.new.outside) c.read_topology.new.cabinet c.in-Ok.topology reads c.host_journal.ensures.alone.others c.host_journal.result c.host_journal.ensures.fails
+
+pub returns-in-Err-clause-fails : goal.returns-in-Err-clause-fails
+returns-in-Err-clause-fails g c =
+    let tells = tellings g.I.Source g.O.Sink g.C.Cabinet g.C.Disk.Disk in
+    let names = priced_names (g.P.Prices.prices c.args.costs.now) c.args.request.topology.now c.args.request.journal.now in
+    let before = held c.args.outside.now in
+    let reads = subst (ReadsTopology g.C.Cabinet (held c.args.outside.now).cabinet c.read_topology.new.cabinet (g.P.Prices.prices c.args.costs.now) c.args.request.topology.now) c.in-Err.is c.read_topology.ensures.reads in
+    fails_reading tells names before (parts before.input c.end.new.output c.read_topology.new.cabinet) c.in-Err.why reads c.end.result c.end.ensures.is

@@ -1,4 +1,4 @@
-use Rattle.std.proofs.Common.{◌≡◌, ◌∙◌, ap, inl, refl, rules, subst, sym, take}
+use Rattle.std.proofs.Common.{Bool, ◌≡◌, ◌∙◌, ap, inl, refl, rules, subst, sym, take}
 use Rattle.hosed_host.specs.HostDoors.{AreOpenedAt}
 use Rattle.hose_lead.specs.LedStore.{LedState}
 use Rattle.hose_core.specs.steps.Holding.{State}
@@ -6,7 +6,7 @@ use Rattle.hose_offline.specs.Parts.{tellings}
 use Rattle.hosed_host.specs.HostBook.{door_tellings}
 use Rattle.hosed_host.specs.steps.HostOutcome.{asked_of}
 use Rattle.hosed_host.specs.declared.hosting.NotHosted.TheVariants as none
-use Rattle.hose_clerk.specs.steps.Linking.{goes_alone, path_at}
+use Rattle.hose_clerk.specs.steps.Linking.{goes_alone, is_required, link_state, path_at}
 use Rattle.hosed_host.proofs.Hosted.{alone_without, begun, ended_for, led_grows, hosts_doors, not_hosted}
 use Rattle.hosed_host.proofs.hosting.host_by_store.Goals as goal
 
@@ -69,11 +69,11 @@ returns-clause-hosts g c = λ name before network is opens of.
     let last = c.host-why.new.answers in
     let first : made.result.desk.core.books ≡ core.result.books = ap (λ (s : State (LedState _)). s.books) made.ensures.core in
     let closes = rw (c.into_store-2.ensures ∙ ap (λ (led : LedState _). led.store) c.into_books.ensures) at closed.ensures.closes in
-    let start = begun tells by name asked before c.args.outside.now.cabinet.now closed.new.cabinet network is c.args.led.store last.desk.core.books.store opens closed.result.0 closes c.args.led refl of
-    core.result.books core.ensures.books made.result.desk.core.books first made.result.sessions.items made.result.desk.is_ending made.result.desk.figures.tally made.result.standby made.ensures.ending made.ensures.tally made.ensures.hosted in
+    let start = begun tells by name asked before c.args.outside.now.cabinet.now closed.new.cabinet network is c.args.led.store last.desk.core.books.store opens closed.result.0 closes (λ (required : Bool). record { required = required; standby = made.result.standby; fence = made.result.fence }) (is_required made.result.awaited) (is_required c.in-Ok-awaited_by.awaited) (ap is_required made.ensures.awaited) c.args.led refl of
+    core.result.books core.ensures.books made.result.desk.core.books first made.result.sessions.items made.result.desk.is_ending made.result.desk.figures.tally made.ensures.ending made.ensures.tally made.ensures.hosted in
     let is_store = ap (λ (led : LedState _). led.store) (first ∙ core.ensures.books) in
     hosts_doors tells by name asked before c.args.outside.now.cabinet.now closed.new.cabinet network is c.args.led.store last.desk.core.books.store opens closed.result.0 closes
-    c.args.doors.now c.open_doors.new.doors c.close.new.self c.in-Ok-open_doors.network c.host-why.new.network _ all made.result.doors.items made.result.desk.core.books last.desk.core.books last.sessions.items last.desk.is_ending last.desk.figures.tally last.standby
+    c.args.doors.now c.open_doors.new.doors c.close.new.self c.in-Ok-open_doors.network c.host-why.new.network _ all made.result.doors.items made.result.desk.core.books last.desk.core.books last.sessions.items last.desk.is_ending last.desk.figures.tally (link_state last.awaited last.standby last.fence)
     (path_at made.result.awaited) (goes_alone made.result.awaited) is_store refl (ap path_at made.ensures.awaited ∙ c.in-Ok-awaited_by.ensures.path) (ap goes_alone made.ensures.awaited ∙ c.in-Ok-awaited_by.ensures.alone)
     (subst (AreOpenedAt asked all) (sym made.ensures.doors) (search rules)) (ended_for c.host-why.result last.desk.is_ending c.host-why.ensures.asked c.host-why.ensures.told)
     (c.host-why.ensures.hosted (opens.opens.opened.history, made.result) start) c.in-Ok-open_doors.ensures.opened c.close.ensures refl (search rules)

@@ -2,7 +2,8 @@ use Rattle.std.proofs.Common.{◌∙◌, inl, inr, refl, rules}
 use Rattle.hose_offline.specs.steps.Parts.{held}
 use Rattle.hose_offline.proofs.Lending.{others_then}
 use Rattle.hosed_host.specs.steps.HostOutcome.{asked_of}
-use Rattle.hosed_host.proofs.HostOutcomes.{told_door}
+use Rattle.hose_offline.proofs.Failing.{unopened_fails}
+use Rattle.hosed_host.proofs.HostOutcomes.{hosting_fails, told_door}
 use Rattle.hosed_host.proofs.hosting.host_journal.Goals as goal
 
 pub returns-in-Ok-clause-hosts : goal.returns-in-Ok-clause-hosts
@@ -33,3 +34,12 @@ returns-in-Ok-clause-alone g c =
       absent = came.ensures.absent ∙ opened.call.absent;
       others = others_then g.C.Cabinet c.args.request.journal.now before c.open_led.new.cabinet (held came.new.outside).cabinet opened.call.out c.open_led.ensures.others came.ensures.others;
     }
+
+pub returns-in-Ok-clause-fails : goal.returns-in-Ok-clause-fails
+returns-in-Ok-clause-fails g c =
+    let came = c.host_by_store-came in
+    let hosts = came.ensures.hosts c.args.request.journal.now (held c.args.outside.now).cabinet c.args.topology (search rules) c.in-Ok.ensures.opens.0 c.in-Ok.ensures.opens.1 in
+    hosting_fails g.C.Cabinet (held c.args.outside.now).cabinet (held came.new.outside).cabinet came.result (λ end same failed. (rw same at hosts).hosted.comes_to.met.failed failed) c.tell_hosted.result c.tell_hosted.ensures.why
+
+pub returns-in-Err-clause-fails : goal.returns-in-Err-clause-fails
+returns-in-Err-clause-fails g c = rw c.end.ensures.is (unopened_fails g.C.Cabinet g.C.Disk.Disk c.args.request.journal.now (held c.args.outside.now).cabinet c.open_led.new.cabinet c.args.topology c.in-Err.why c.in-Err.ensures.refused)

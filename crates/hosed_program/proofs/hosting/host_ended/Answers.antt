@@ -1,11 +1,15 @@
 use Rattle.std.proofs.Common.{ap, map, refl, rules}
 use Rattle.std.specs.String.{string_bytes}
+use Rattle.hose_tariff.specs.contracts.prices.TariffPrices.TheImpl.{prices-value}
+use Rattle.hose_offline.specs.Auditing.{priced_names}
+use Rattle.hose_offline.specs.Parts.{tellings}
 use Rattle.hose_offline.specs.steps.Parts.{held}
 use Rattle.hosed.specs.HostNaming.{asked_of}
+use Rattle.hosed.specs.ProgramWords.{costs_at}
 use Rattle.hosed.proofs.HostShapes.{none_wrong_of_host, of_one_host}
 use Rattle.hosed_host.specs.HostBook.{TellsDoor}
 use Rattle.hosed_program.specs.HostCommand.{doors_of}
-use Rattle.hosed_program.proofs.HostAsked.{hosted_of, same_doors}
+use Rattle.hosed_program.proofs.HostAsked.{host_fails_of, hosted_of, same_doors}
 use Rattle.hosed_program.proofs.hosting.host_ended.Goals as goal
 
 pub returns-in-Ok-clause-outcome : goal.returns-in-Ok-clause-outcome
@@ -36,3 +40,16 @@ returns-in-Err-clause-outcome g c =
       wrong_words = λ one. (refl, refl, refl, (_, wrong, c.end.ensures.last_line));
       hosts = λ asked are. absurd (none_wrong_of_host _ _ asked _ are wrong);
     }
+
+pub returns-in-Ok-clause-fails : goal.returns-in-Ok-clause-fails
+returns-in-Ok-clause-fails g c =
+    let names = map (λ tariff. tariff.name) c.args.tariffs.now in
+    let words = map string_bytes c.args.words.now in
+    let reads = c.in-Ok.ensures.ok in
+    let tells = tellings g.I.Source g.O.Sink g.C.Cabinet g.C.Disk.Disk in
+    let asked = asked_of c.in-Ok.said in
+    let named = priced_names (costs_at (prices-value g.dyn-1).it c.args.tariffs.now asked.tariff) asked.topology asked.journal in
+    of_one_host names words _ asked reads.asked (host_fails_of tells named c.host_by_names.result (held c.host_by_names.new.outside) {input = c.input-1.given.0} {output = c.output-1.given.0} {cabinet = c.cabinet-1.given.0} (ap held c.of-outside.ensures) (search rules) (search rules) (search rules) (rw c.costs_of-costs.ensures at c.host_by_names.ensures.fails))
+
+pub returns-in-Err-clause-fails : goal.returns-in-Err-clause-fails
+returns-in-Err-clause-fails g c = λ asked are. absurd (none_wrong_of_host _ _ asked _ are c.in-Err.ensures.wrong)
