@@ -2,7 +2,6 @@
 ghost use Rattle.std.specs.Prelude.{◌≡◌, IfOk, None};
 ghost use Rattle.hose_disk.specs.steps.CabinetState.{cabinet_frame};
 
-use crate::ROOM;
 use crate::script::Script;
 use crate::telling::{name_of, tell_doors};
 use hose_disk::{MemCabinet, MemDisk};
@@ -18,10 +17,14 @@ use std::sync::Wait;
 use std::thread::Threads;
 use std::time::Clock;
 
-// The topology, under the name that scripts give it, and the name of the journal.
+// The topologies, under the names that scripts give them, and the name of the journal.
 const NETWORK: &[u8] = b"node a\nnode b\nlink a b 10 7\nend\n";
 
 const TEXT: &[u8] = b"net.txt";
+
+const WIDE: &[u8] = b"node a\nnode b\nlink a b 1000 7\nend\n";
+
+const WIDE_TEXT: &[u8] = b"wide.txt";
 
 const JOURNAL: &[u8] = b"j";
 
@@ -30,7 +33,7 @@ pub fn run_by_book<
     R: Print + Threads + Wait + Clock + Copy + Drop + Send + 'static,
     S: Write + Drop + Send + 'static,
 >(rt: R, alloc: Global, script: Script, errors: S) -> io::Result<()> {
-    let doors = MemDoors::new(alloc, script.acts, ROOM, script.shut);
+    let doors = MemDoors::new(alloc, script.acts, script.room, script.shut);
     let mut input = MemSource::new(alloc, b"", 1)?;
     let mut output = MemSink::new(alloc)?;
     let mut cabinet = cabinet_of(alloc)?;
@@ -63,6 +66,7 @@ fn cabinet_of(alloc: Global) -> Result<MemCabinet, AllocError>
 {
     let mut cabinet = MemCabinet::of(alloc, JOURNAL, MemDisk::new(alloc)?)?;
     cabinet.add_text(alloc, TEXT, NETWORK)?;
+    cabinet.add_text(alloc, WIDE_TEXT, WIDE)?;
     Ok(cabinet)
 }
 

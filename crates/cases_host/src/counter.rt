@@ -12,7 +12,10 @@ use std::alloc::{AllocError, Global};
 use std::marker::Model;
 
 /// How many places it knows.
-const PLACES: usize = 8;
+const PLACES: usize = 300;
+
+// How many bytes `fill` adds to a reply.
+const FILLING: usize = 4_000;
 
 /// What is known of who is at a place.
 #[derive(Clone, Copy, Debug, PartialEq, Eq)]
@@ -37,10 +40,10 @@ impl Model for Numbered {
 }
 
 /// It answers each line by its number, the place and the door, a `+` at a connection's first line,
-/// and the line. After `bye` a connection is over, after `end` all are. At the first eight places
-/// alone it knows who is new there. A standby is sent `hello`, the last number where that is new,
-/// and `?` where it is asked for a sign of life; it says `have N`, and the link is of no use after
-/// `bye`.
+/// and the line; `fill` with 4,000 bytes more. After `bye` a connection is over, after `end` all
+/// are. At the first 300 places alone it knows who is new there. A standby is sent `hello`, the
+/// last number where that is new, and `?` where it is asked for a sign of life; it says `have N`,
+/// and the link is of no use after `bye`.
 #[derive(Drop)]
 pub struct Counter {
     alloc: Global,
@@ -174,7 +177,7 @@ impl HostAnswers for Counter {
     fn answer(&mut self, place: usize, door: usize, line: Line<'_>) -> Numbered {
         let is_first = self.stage(place) == Stage::New;
         self.count = self.count.saturating_add(1);
-        let stage = if is_bye(line) {
+        let stage = if is_word(line, b"bye") {
             Stage::Over
         } else {
             Stage::Known
@@ -182,7 +185,7 @@ impl HostAnswers for Counter {
         if place < self.stages.len() {
             self.stages[place] = stage;
         }
-        self.ended = is_end(line);
+        self.ended = is_word(line, b"end");
         Numbered {
             text: number_line(self.alloc, self.count, place, door, is_first, line).ok(),
         }
@@ -272,6 +275,10 @@ impl HostAnswers for Counter {
         }
     }
 
+    fn is_news(&self) -> bool {
+        self.heard == Some(self.count)
+    }
+
     fn ahead(&self) -> Option<u64> {
         match self.heard {
             Some(heard) => {
@@ -291,16 +298,9 @@ impl HostAnswers for Counter {
     fn tell_hold(&mut self, _hold: Hold) {}
 }
 
-fn is_bye(line: Line<'_>) -> bool {
+fn is_word(line: Line<'_>, word: &[u8]) -> bool {
     match line {
-        Line::Text(bytes) => bytes == b"bye".as_slice(),
-        Line::Long => false,
-    }
-}
-
-fn is_end(line: Line<'_>) -> bool {
-    match line {
-        Line::Text(bytes) => bytes == b"end".as_slice(),
+        Line::Text(bytes) => bytes == word,
         Line::Long => false,
     }
 }
@@ -325,6 +325,9 @@ fn number_line(
         Line::Text(bytes) => bytes,
         Line::Long => b"(long)",
     })?;
+    if is_word(line, b"fill") {
+        text.extend_from_slice(&[b'x'; FILLING])?;
+    }
     text.extend_from_slice(b"\n")?;
     Ok(text)
 }

@@ -1,8 +1,9 @@
 //! Scripts of doors and connections in memory, at which a host answers, and what happened. Each
-//! line is an act, and an empty line ends a script; in the bytes that a connection gives, `/` is a
-//! line feed. Where the words of a host stand in a script, its lines are answered by the book of a
-//! journal at the doors of these words, of which `shut` has one that cannot be opened; else lines
-//! are counted, and `standby` says where a standby is.
+//! line is an act, which a number before it has come so often, and an empty line ends a script; in
+//! the bytes that a connection gives, `/` is a line feed. Where the words of a host stand in a
+//! script, its lines are answered by the book of a journal at the doors of these words, of which
+//! `shut` has one that cannot be opened; else lines are counted, and `standby` says where a standby
+//! is. `room` says how many bytes a write takes at most.
 #![tactic(auto)]
 
 mod by_book;
@@ -20,7 +21,7 @@ use std::alloc::Global;
 use std::io;
 use telling::{tell, tell_parting};
 
-/// How many bytes a write takes at most.
+/// How many bytes a write takes at most where a script does not say it.
 pub const ROOM: usize = 40;
 
 fn main(rt: HostRuntime) -> io::Result<()> {
@@ -49,7 +50,7 @@ fn count_lines<R: Print + std::sync::Wait>(
     alloc: Global,
     script: Script,
 ) -> io::Result<()> {
-    let mut network = MemConnections::new(alloc, script.acts, ROOM);
+    let mut network = MemConnections::new(alloc, script.acts, script.room);
     let mut answers = Counter::new(alloc, script.standby)?;
     let why = host(rt, alloc, &mut network, &mut answers);
     tell(rt, network.happened())?;

@@ -1,4 +1,5 @@
 // A script: the words of a host, if it has any, a door that is shut, and what connections do.
+use crate::ROOM;
 use hose_net::{Act, DoorTrouble};
 use std::alloc::{AllocError, Global};
 use std::collections::VecDeque;
@@ -11,6 +12,8 @@ pub struct Script {
     pub shut: Option<(usize, DoorTrouble)>,
     /// The path of a standby, where lines are counted.
     pub standby: Option<String>,
+    /// How many bytes a write takes at most.
+    pub room: usize,
     pub acts: VecDeque<Act>,
 }
 
@@ -20,12 +23,25 @@ impl Script {
             words: Vec::new(alloc),
             shut: None,
             standby: None,
+            room: ROOM,
             acts: VecDeque::new(alloc),
         }
     }
 
-    /// Adds what a line says.
+    /// Adds what a line says, as often as the number before it says.
     pub fn add(&mut self, alloc: Global, line: &str) -> Result<(), AllocError> {
+        let (number, rest) = line.split_once(' ').unwrap_or((line, ""));
+        let count: Option<usize> = number.parse().ok();
+        let Some(count) = count else {
+            return self.add_once(alloc, line);
+        };
+        for _ in 0..count {
+            self.add_once(alloc, rest)?;
+        }
+        Ok(())
+    }
+
+    fn add_once(&mut self, alloc: Global, line: &str) -> Result<(), AllocError> {
         let (verb, words) = line.split_once(' ').unwrap_or((line, ""));
         if verb == "host" {
             return self.add_words(alloc, line);
@@ -35,6 +51,9 @@ impl Script {
         }
         let (number, text) = words.split_once(' ').unwrap_or((words, ""));
         let at: usize = number.parse().ok().unwrap_or(0);
+        if verb == "room" {
+            self.room = at;
+        }
         if verb == "shut" {
             self.shut = Some((at, trouble_of(text)));
         }

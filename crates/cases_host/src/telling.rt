@@ -2,23 +2,20 @@
 use hose_net::{DoorTrouble, DoorsEvent, DoorsFault, Happened, KeptAddress, Parting};
 use std::io;
 
+// How many bytes that were sent are shown at most.
+const SHOWN: usize = 200;
+
 /// What happened at connections.
 pub fn tell<R: Print>(rt: &R, happened: &[Happened]) -> io::Result<()> {
     for event in happened {
         match event {
             Happened::Came(door, place) => println!(rt; "    {place} came by {door}")?,
             Happened::Got(place, bytes) => println!(rt; "    {place} gave {}", bytes.len())?,
-            Happened::Sent(place, bytes) => {
-                let text = std::str::from_utf8(bytes).unwrap_or("?");
-                println!(rt; "    {place} was sent {text:?}")?;
-            }
+            Happened::Sent(place, bytes) => tell_sent(rt, *place, bytes)?,
             Happened::Refused(place) => println!(rt; "    {place} took no more")?,
             Happened::Opened(path) => println!(rt; "    the link was opened to {path}")?,
             Happened::Gave(bytes) => println!(rt; "    the link gave {}", bytes.len())?,
-            Happened::Took(bytes) => {
-                let text = std::str::from_utf8(bytes).unwrap_or("?");
-                println!(rt; "    the link was sent {text:?}")?;
-            }
+            Happened::Took(bytes) => tell_took(rt, bytes)?,
             Happened::Closed => println!(rt; "    the link was closed")?,
             Happened::Late => println!(rt; "    the standby is late")?,
             Happened::Left(place) => println!(rt; "    {place} left")?,
@@ -26,6 +23,33 @@ pub fn tell<R: Print>(rt: &R, happened: &[Happened]) -> io::Result<()> {
         }
     }
     Ok(())
+}
+
+// What a link was sent: a text, or a piece of a packet, of which the size is told.
+fn tell_took<R: Print>(rt: &R, bytes: &[u8]) -> io::Result<()> {
+    if !is_text(bytes) {
+        return println!(rt; "    the link was sent {} bytes", bytes.len());
+    }
+    let text = std::str::from_utf8(bytes).unwrap_or("?");
+    println!(rt; "    the link was sent {text:?}")
+}
+
+fn is_text(bytes: &[u8]) -> bool {
+    for byte in bytes {
+        if *byte < b'\n' {
+            return false;
+        }
+    }
+    true
+}
+
+// What was sent, or how much that is where it is long.
+fn tell_sent<R: Print>(rt: &R, place: usize, bytes: &[u8]) -> io::Result<()> {
+    if bytes.len() > SHOWN {
+        return println!(rt; "    {place} was sent {} bytes", bytes.len());
+    }
+    let text = std::str::from_utf8(bytes).unwrap_or("?");
+    println!(rt; "    {place} was sent {text:?}")
 }
 
 /// Why a host ended.
