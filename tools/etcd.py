@@ -8,11 +8,17 @@ import base64
 import http.client
 import json
 import ssl
+import time
 from typing import Dict, List, NamedTuple, Optional, Tuple
 from urllib.parse import urlsplit
 
 REFUSALS = 3, 5, 9, 11  # gRPC's codes where asking again gives the same: 5 is a lease that is gone
-SECONDS = 1.0  # for which one member is waited for
+SECONDS, MOST_SECONDS = 1.0, 2.0  # for which one member is waited for: longer where etcd is slow
+
+
+def now() -> float:
+    """Seconds that go on while the machine sleeps."""
+    return time.clock_gettime(time.CLOCK_BOOTTIME)
 
 
 class Unsure(Exception):
@@ -72,27 +78,43 @@ class Etcd:
     """Its members by their URLs, with commas between them. It serves one thread."""
 
     def __init__(self, urls: str, tls: Optional[ssl.SSLContext] = None):
-        self.urls, self.tls = urls, tls
+        self.urls, self.tls, self.seconds = urls, tls, SECONDS
+        self.asked_at = 0.0
+        """When the last question was sent that was answered."""
         self._places = [urlsplit(url) for url in urls.split(",")]
         self._link: Optional[http.client.HTTPConnection] = None
 
     def call(self, path: str, question: Dict) -> Dict:
         fault: Exception = OSError("there is none")
         for _ in self._places:
+            start = now()
             try:
-                return self._ask(path, question)
+                answer = self._ask(path, question)
+                self.asked_at = start
+                self._wait_for(2 * (now() - start))
+                return answer
             except (OSError, http.client.HTTPException, ValueError) as this:
                 fault = this
                 if self._link:
                     self._link.close()
                 self._link, self._places = None, self._places[1:] + self._places[:1]
+                if isinstance(this, TimeoutError):
+                    self._wait_for(2 * self.seconds)
         raise Unsure(f"no member of etcd answers: {fault}")
+
+    def _wait_for(self, seconds: float) -> None:
+        """Has a member waited for so long. Else each call to an etcd that is slow were given up,
+        and done again and again."""
+        self.seconds = min(max(seconds, SECONDS), MOST_SECONDS)
+        if self._link and self._link.sock:
+            self._link.sock.settimeout(self.seconds)
 
     def _ask(self, path: str, question: Dict) -> Dict:
         if self._link is None:
             scheme, place = self._places[0][:2]
-            self._link = http.client.HTTPConnection(place, timeout=SECONDS) if scheme == "http" \
-                else http.client.HTTPSConnection(place, timeout=SECONDS, context=self.tls)
+            kind, more = (http.client.HTTPConnection, {}) if scheme == "http" else \
+                (http.client.HTTPSConnection, {"context": self.tls})
+            self._link = kind(place, timeout=self.seconds, **more)
         self._link.request("POST", path, json.dumps(question))
         response = self._link.getresponse()
         answer = json.loads(response.read())

@@ -32,7 +32,7 @@ from typing import List, Optional
 
 import following
 import networks
-from etcd import Etcd, Refused, Unsure, created_at, delete, get, put
+from etcd import Etcd, Refused, Unsure, created_at, delete, get, now, put
 from follower_link import Ended, FollowerLink
 from following import Packet
 from quorum_book import MOST, Book, Fence, Fenced, Head, Put, Stop, head_of, told
@@ -44,11 +44,6 @@ FENCE = "HOSED_FENCE"  # in the environment of `put`: the leader's key, and sinc
 LIBC = ctypes.CDLL(None)
 RECORD, CLOSED = 1 + 4 + 32, b"\0"  # bytes of a record before its body, and the gate at the end
 TLS = "cacert", "cert", "key"
-
-
-def now() -> float:
-    """Seconds that go on while the machine sleeps."""
-    return time.clock_gettime(time.CLOCK_BOOTTIME)
 
 
 class Journal:
@@ -213,9 +208,8 @@ class Lease:
 
     def __init__(self, given: argparse.Namespace, members: Etcd):
         self.etcd, self.given, self.lost = Etcd(members.urls, members.tls), given, False
-        start = now()
         self.id = members.grant(given.ttl)
-        self.until = start + given.ttl
+        self.until = members.asked_at + given.ttl
         threading.Thread(target=self._keep, daemon=True).start()
 
     def is_held(self) -> bool:
@@ -223,15 +217,16 @@ class Lease:
 
     def _keep(self) -> None:
         while self.is_held():
-            time.sleep(self.given.ttl / 6)
             start = now()
             try:
                 seconds = self.etcd.keep_alive(self.id)
-                self.lost, self.until = self.lost or seconds == 0, start + seconds
+                self.lost = self.lost or seconds == 0
+                self.until = self.etcd.asked_at + seconds
             except Unsure:
                 pass
             except Refused:
                 self.lost = True
+            time.sleep(max(0.0, start + self.given.ttl / 6 - now()))
 
 
 class Machine:

@@ -8,10 +8,10 @@ TOP = os.path.join(os.path.dirname(os.path.abspath(__file__)), "..", "..")
 
 # How the usage text tells the fields that may follow a command's first word.
 TOLD = {
-    "the_hose": "NAME:RATE ..",
-    "an_id": "(?:K|Q|ID)",
-    "one_link": "L",
-    "nothing": "",
+    "ends_shape": "NAME:RATE ..",
+    "id_and": "(?:K|Q|ID)",
+    "link_shape": "L",
+    "line_end": "",
 }
 
 # How the usage text tells what is no word of its own in the table of the program.
@@ -32,7 +32,8 @@ class Commands(unittest.TestCase):
         self.usage = re.findall(r"// `(.*)`\n    (\w+),", source)
         self.words = dict(re.findall(r'\(Verb::(\w+), b"(\S+)"\)', source))
         meaning = read("hose_proto", "specs", "Command.antt")
-        self.lines = {verb: (word, fields.split()) for verb, word, fields in
+        self.lines = {verb: (word, re.findall(r"\w+_(?:shape|and|end)", fields))
+                      for verb, word, fields in
                       re.findall(r'verb_line verb\.(\w+) = \(codes "(\S+)", (.*)\)', meaning)}
         self.help = [line.strip() for line in read("hosed_program", "src", "texts.rt").splitlines()]
 

@@ -134,6 +134,32 @@ class Gateway(unittest.TestCase):
             here.grant(5)
         self.assertEqual(here.grant(5), 0x52)
 
+    def test_a_slow_member_is_waited_for_longer(self):
+        """As the next one is, until they are not slow any more."""
+        here, waited = Etcd("http://one,http://two,http://three"), []
+
+        def ask(slow, *_):
+            waited.append(min(slow, here.seconds))
+            if slow > here.seconds:
+                raise TimeoutError
+            return {"ID": "1"}
+
+        for slow, wanted in ((0.1, [0.1]), (1.2, [1.0, 1.2]), (1.2, [1.2]), (0.4, [0.4]),
+                             (1.2, [1.0, 1.2]), (2.5, [2.0] * 3), (1.9, [1.9])):
+            waited.clear()
+            with mock.patch.object(Etcd, "_ask", lambda *_: ask(slow)), \
+                    mock.patch("etcd.now", lambda: sum(waited)):
+                if slow > 2:
+                    self.assertRaises(Unsure, here.grant, 5)
+                else:
+                    self.assertEqual((here.grant(5), here.asked_at), (1, sum(wanted[:-1])))
+            self.assertEqual(waited, wanted, slow)
+        self.fake.faults = ["before", ""]
+        here = self.at(f"{self.url},{self.url}")
+        here.seconds = 2.0
+        here.grant(5)
+        self.assertEqual(here._link.sock.gettimeout(), here.seconds)
+
     def test_what_is_refused(self):
         with self.assertRaises(Refused), mock.patch.object(
                 FakeEtcd, "lease_grant", side_effect=KeyError("lease")):
