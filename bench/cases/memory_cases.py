@@ -3,8 +3,8 @@
 
 No clause ties want of memory to a growth that was refused, so a body that always tells it would be
 proved. Each call that no other file has at a large size is here at a small and at a large one: a
-move of a hose of 2, 9 and 64 endpoints, and `vpns` and `admit-after` in sessions up to the twelfth.
-What comes of each is written out by hand.
+move of a hose of 2, 9 and 64 endpoints, a cut of 9 and 64, and `vpns` and `admit-after` in sessions
+up to the twelfth. What comes of each is written out by hand.
 
 usage: bench/cases/memory_cases.py | diff - crates/cases_program/data/memory.cases
 """
@@ -39,6 +39,15 @@ def moved(ends):
                "status 0", f"left {held.hex()}", f"new-left {held.hex()}"]
 
 
+def cut(ends):
+    """Of two entries the last one is cut off."""
+    held = journal(WIDE, (hose_of(ends), hose_of(ends)))
+    yield [f"case the last of two entries of {ends} endpoints is cut off", "words cut t j 1 k",
+           *(f"= {line}" for line in WIDE), *(f"+ {line}" for line in WIDE),
+           f"journal {held.hex()}", "> moved 1 live 1", "status 0", f"left {held.hex()}",
+           f"new-left {journal(WIDE, (hose_of(ends),)).hex()}"]
+
+
 def sessions():
     numbers = " ".join(str(number + 1) for number in range(ADMITTED))
     yield [f"case {SESSIONS} sessions ask for the numbers of {ADMITTED} VPNs, and then admit more",
@@ -63,7 +72,8 @@ def sessions():
 def main():
     print("# Written by bench/cases/memory_cases.py: "
           "calls that may want memory, where there is plenty.")
-    for lines in (*moved(2), *moved(9), *moved(LEAVES), *sessions()):
+    for lines in (*moved(2), *moved(9), *moved(LEAVES), *cut(9), *cut(LEAVES),
+                  *sessions()):
         print()
         print("\n".join(lines))
 

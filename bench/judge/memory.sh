@@ -4,15 +4,17 @@
 # admission on a backbone of eleven cities, a customer's numbers and an admission that is bound to
 # them, and each of a journal that is begun, gone on with and another network's; an audit, a
 # generated script, a certificate that is written and one that is judged, and two prices; a journal
-# that is moved, as a whole and what is live of it, and one that is cut; packets that are shipped and
-# followed; a server with one customer; and a host with one and its operator. Each has to end in one of three ways: with status 7 and the line `no memory`;
-# with a line `memory` in the place of the command that was refused; or with the fault of an object
-# that wanted it, as `cabinet` and status 6, or `door K` and status 9. A host may let a connection
-# go besides, and serves who comes then; its log may lose a line, which it tells its operator. All
-# other lines have to be those of the orders that were acknowledged, by the slow planner of
-# planner.py, and these the entries of the journal, by the reader of forged.py. A library that gcc
-# makes of edge.c refuses the growth. A run has no more of them where twenty in a row were not
-# wanted; how many it had, and with which status it ended, is printed.
+# that is moved, as a whole and what is live of it, and one that is cut; packets that are shipped
+# and followed; a server with one customer; a host with one and its operator, and such a host with a
+# standby. Each has to end in one of three ways: with status 7 and the line `no memory`; with a line
+# `memory` in the place of the command that was refused; or with the fault of an object that wanted
+# it, as `cabinet` and status 6, or `door K` and status 9. A host may let a connection go besides,
+# and serves who comes then; its log may lose a line, which it tells its operator. One with a
+# standby may go on alone, which its log tells; else the standby has all that was told. All other
+# lines have to be those of the orders that were acknowledged, by the slow planner of planner.py,
+# and these the entries of the journal, by the reader of forged.py. A library that gcc makes of
+# edge.c refuses the growth. A run has no more of them where twenty in a row were not wanted; how
+# many it had, and with which status it ended, is printed.
 # usage: bench/judge/memory.sh [PROGRAM]
 # The PROGRAM (crates/hosed_main/out/hosed_main) is seen from the top of the repository. It is no
 # script: the growths of the shell would be refused.
@@ -38,6 +40,7 @@ from planner import Link, Network
 from forged import CHAINED, VALUE, journal_of, judged, spelled
 from generated import Sizes, planned
 from hostile import Desk
+from standby_kill import Far
 
 PROGRAM = os.path.abspath(sys.argv[1])
 ENOUGH = 20
@@ -102,6 +105,7 @@ MOVES = {
 }
 SESSION = ["hello acme", "admit a:3 b:4 c:5", "vpns", "admit-after 1 a:1 b:1", "show 1", "bye"]
 OPERATOR = ["hello operator", "figures", "end"]
+STANDBY = 'standby "" '  # what a line of a host's log begins with that tells of its standby
 
 
 class Wrong(Exception):
@@ -347,13 +351,14 @@ def hosted(words, work, env):
         return host.returncode, output.splitlines(), file.read().splitlines(), replies, ending
 
 
-def host_without(growth, library, work):
-    """The same of a host with one customer and its operator."""
+def host_with(standby, growth, library, work):
+    """What comes of a host with one customer and its operator: whether each line was answered as
+    without want of memory, its status, its log, the orders that it should have, and the book."""
     topology, journal = work / "topology", work / "host.journal"
     topology.write_text(TEXTS["star"])
     journal.write_bytes(b"")
-    words = [PROGRAM, "host", "--operator", str(work / "operator"), str(topology), str(journal),
-             str(work / "door")]
+    words = [PROGRAM, "host", "--operator", str(work / "operator"), *standby, str(topology),
+             str(journal), str(work / "door")]
     status, output, log, replies, ending = hosted(words, work, without(growth, library))
     desk, wanted = Desk(NETWORKS["star"]), ["welcome at 0"]
     for line, reply in zip(SESSION[1:], replies[1:]):
@@ -369,18 +374,47 @@ def host_without(growth, library, work):
     if book not in books or rest:
         raise Wrong(f"status {status}, {replies}, and the journal has {book}")
     ends = {6: ["cabinet"], 7: ["no memory"]}
-    if status == 9 and output[:1] in (["door 3"], ["door 6"]):
+    if status == 9 and output[:1] in (["door 3"], [f"door {len(words) - 1}"]):
         ends[9] = output[:1]
     if status in ends:
         if output != ends[status] or replies:
             raise Wrong(f"status {status} after {output}, {replies}")
-        return False, status
+        return False, status, log, [], books
     if status != 0 or output != ["ready", *book]:
         raise Wrong(f"status {status}, {replies}, {output}, {log}")
     orders = [f'acme "{line}" {reply}' for line, reply in zip(SESSION, replies)
               if reply.startswith("admitted ")]
-    return (len(replies) == len(SESSION) and "memory" not in replies and log == orders
-            and len(ending) == 1 and f" admitted {len(orders)} " in ending[0][1]), status
+    is_whole = (len(replies) == len(SESSION) and "memory" not in replies and len(ending) == 1
+                and f" admitted {len(orders)} " in ending[0][1])
+    return is_whole, status, log, orders, books
+
+
+def host_without(growth, library, work):
+    """The same of a host with one customer and its operator."""
+    is_whole, status, log, orders, _ = host_with([], growth, library, work)
+    return is_whole and log == orders, status
+
+
+def standby_without(growth, library, work):
+    """The same of a host with a standby, whose own memory is not refused."""
+    path, topology, journal = work / "standby", work / "star", work / "standby.journal"
+    topology.write_text(TEXTS["star"])
+    journal.write_bytes(b"")
+    far = Far(str(path), [PROGRAM, "follow", str(topology), str(journal)])
+    try:
+        is_whole, status, log, orders, books = host_with(
+            ["--standby", str(path), "--standby-seconds", "2"], growth, library, work)
+    finally:
+        far.end()
+    book, rest = judged(NETWORKS["star"], journal.read_bytes())[:2]
+    held = [line for line in log if line.startswith(STANDBY)]
+    # Nothing was told that it lacks, unless the host went on alone.
+    if rest or status == 0 and STANDBY + "alone" not in held and book not in books:
+        raise Wrong(f"status {status}, {log}, and the standby has {book}")
+    # It is heard first before the first order, or behind it.
+    joined = [STANDBY + f"joined at {epoch}" for epoch in range(2)]
+    return (is_whole and [line for line in log if line not in held] == orders
+            and len(held) == 1 and held[0] in joined), status
 
 
 def try_all(name, tried):
@@ -422,6 +456,7 @@ def main():
         try_all("follow", lambda growth: follow_without(growth, library, work))
         try_all("server", lambda growth: server_without(growth, library, work))
         try_all("host", lambda growth: host_without(growth, library, work))
+        try_all("standby", lambda growth: standby_without(growth, library, work))
 
 
 main()

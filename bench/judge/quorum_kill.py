@@ -9,15 +9,20 @@ stands there that nobody gave; and while two members are dead no order is accept
 that tells of fewer entries than one did that was read before its line was sent: these are counted,
 and a customer who is told less than before asks another host.
 
-In each 12th round an old leader is stopped with an order on its way to etcd, which comes there once
-another one has led and the customer has had the same order there.
+Of 12 rounds one stops an old leader with an order on its way to etcd, which comes there once
+another one has led and the customer has had the same order there. Two ask an old host once another
+one has told of an order: what watches over it is stopped, and in one of them it is, too, and goes
+on first.
 
 Prints the rounds, orders, lost and stale replies, and the longest times without an accepted order
-by fault; or the first difference. Ends with status 1 where there is one, or a stale reply.
+by fault; or the first difference. Ends with status 1 where there is one, or a stale reply. Where
+KEEP in the environment names a folder, logs and journals of a difference are copied to it.
 
-usage: bench/judge/quorum_kill.py [--host WORDS] [--seconds N] [PROGRAM [ROUNDS [SEED]]]
-The PROGRAM (./hosed) is seen from the top of the repository. WORDS run in its place as a host.
-It wants etcd-server and etcd-client, as Debian has them.
+usage: bench/judge/quorum_kill.py [--host WORDS] [--seconds N] [--only FAULT] [--silent N]
+           [PROGRAM [ROUNDS [SEED]]]
+The PROGRAM (./hosed) is seen from the top of the repository. WORDS run in its place as a host. With
+--seconds no round begins later; with --only each one has this fault; --silent is what hosts have as
+--standby-seconds (6). It wants etcd-server and etcd-client, as Debian has them.
 """
 import argparse
 import bisect
@@ -40,11 +45,16 @@ import networks
 from live_journal import LiveJournal, OtherHistory
 from quorum_machines import Cluster, send
 
-CUSTOMERS, ANSWER = 6, 3.0  # seconds for a reply, after which another host is asked
+CUSTOMERS = 6
+ANSWER, MOST_ANSWER = 3.0, 24.0  # seconds for a reply, after which another host is asked; and after
+# one that came too late for that, twice as long
 LEASE = 5.0
 NAME = os.path.join(TOP, "demo", "backbone.txt")
-SAME = 90.0  # seconds until all journals are the same
-EACH = 12  # rounds of one cluster, whose last one is the directed one
+GOES_ON, SAME = 120.0, 90.0  # seconds until an order is answered again, and until all journals are
+# the same; a machine that is loaded takes its time
+LATE = 20  # customers who ask an old host
+EACH = 12  # rounds of one cluster
+DIRECTED = {3: "host_asked", 7: "stopped_host_asked", 11: "ordered_twice"}  # of these the rounds
 
 
 class Differs(Exception):
@@ -94,16 +104,21 @@ class Asker(threading.Thread):
         super().__init__(daemon=True)
         self.ports, self.told, self.draw = list(ports), told, random.Random(f"{seed} {name}")
         self.customer, self.link, self.fault, self.seen = name, None, None, 0
+        self.patience = ANSWER
         self.ends = threading.Event()
 
     def ask(self, line, is_order=False):
         """The reply at the host that it is connected to; none where that is lost."""
         try:
             if self.link is None:
-                self.link = client.Lines(client.HOST, self.ports[0], ANSWER)
+                self.link = client.Lines(client.HOST, self.ports[0], self.patience)
                 self.told_at(f"hello {self.customer}", False)
-            return self.told_at(line, is_order)
+            reply = self.told_at(line, is_order)
+            self.patience = ANSWER
+            return reply
         except client.ConnectionLost as fault:
+            if isinstance(fault, client.NoAnswer):
+                self.patience = min(2 * self.patience, MOST_ANSWER)
             self.told.lost += fault.unanswered is not None
             self.go_on()
             return ""
@@ -115,6 +130,11 @@ class Asker(threading.Thread):
         self.link = None
         self.ports.append(self.ports.pop(0))
         time.sleep(0.02)
+
+    def go_to_others(self, machine):
+        """Says nothing more to a machine."""
+        self.ports.remove(machine.port)
+        self.link = None
 
     def told_at(self, line, is_order):
         sent = time.monotonic()
@@ -373,6 +393,13 @@ class Faults:
     def link_cut(self):
         self.hold([self.draw.choice(self.cluster.links[self.leading().name])], self.long())
 
+    def links_slow(self):
+        """Each call to etcd takes 1.2 seconds at least."""
+        links = sum(self.cluster.links.values(), [])
+        self.cluster.forwarders.slow(links, 0.6)
+        time.sleep(self.long())
+        self.cluster.forwarders.slow(links, 0)
+
     def peers_cut(self):
         self.hold([f"peer{self.draw.randrange(3)}"], self.long())
 
@@ -386,7 +413,7 @@ FAULTS = [name for name in vars(Faults) if not name.startswith("_")
           and name not in ("leading", "other", "long", "hold")]
 
 
-def directed(cluster, told, nodes, customer):
+def ordered_twice(cluster, told, customer):
     """An old leader is stopped with an order on its way, which the customer has at the new one, as
     the first of all: then both go on, and what was on its way comes to etcd."""
     faults = Faults(cluster, random.Random(customer.customer))
@@ -395,7 +422,7 @@ def directed(cluster, told, nodes, customer):
     old = faults.leading()
     customer.ports.sort(key=lambda port: port != old.port)
     customer.admit()
-    ends = dict(zip(nodes, (1, 2)))
+    ends = dict(zip(customer.nodes, (1, 2)))
     line = f"admit-after {customer.known} {client.hose(ends)}"
     send([old.process.pid], signal.SIGSTOP)
     cluster.forwarders.hold(cluster.links[old.name])
@@ -405,8 +432,7 @@ def directed(cluster, told, nodes, customer):
     time.sleep(0.5)  # it is on its way
     stopped = old.part("put") + old.part("--standby-or-stop")
     send(stopped, signal.SIGSTOP)
-    customer.ports.sort(key=lambda port: port == old.port)
-    customer.link = None
+    customer.go_to_others(old)
     number = None
     while number is None:
         words = customer.ask(line, True).split()
@@ -421,6 +447,64 @@ def directed(cluster, told, nodes, customer):
     told.free.set()
     if replies != [""]:
         raise Differs(f"two were told of one order: {number} and {replies}")
+
+
+class Late(threading.Thread):
+    """Who asks an old host, again and again until it has ended, once another one has told of an
+    order."""
+
+    def __init__(self, port, name, told, is_told):
+        super().__init__(daemon=True)
+        self.link, self.told, self.is_told = client.Lines(client.HOST, port, SAME), told, is_told
+        self.ask(f"hello {name}")
+
+    def ask(self, line):
+        sent = time.monotonic()
+        reply = self.link.ask(line)
+        self.told.add(sent, time.monotonic(), reply, False)
+
+    def run(self):
+        self.is_told.wait()
+        try:
+            while True:
+                self.ask("vpns")
+        except client.ConnectionLost:
+            self.told.lost += 1
+
+
+def host_asked(cluster, told, customer, is_stopped=False):
+    """Of the machine that leads all but the host is stopped, and the host, too, where `is_stopped`.
+    Once another one has told of an order the old host is asked, and goes on first."""
+    is_told, name = threading.Event(), customer.customer
+    told.free.clear()
+    time.sleep(1)  # for the others' orders
+    late = []
+    while not late:
+        customer.admit()
+        old = Faults(cluster, random.Random(name)).leading()
+        try:
+            late = [Late(old.port, f"{name}-{one}", told, is_told) for one in range(LATE)]
+        except client.ConnectionLost:
+            pass  # another one leads by now
+    for one in late:
+        one.start()
+    host = old.part("--standby-or-stop")
+    rest = [pid for pid in old.pids() if pid not in host]
+    send(rest + (host if is_stopped else []), signal.SIGSTOP)
+    customer.go_to_others(old)
+    customer.admit()
+    is_told.set()
+    time.sleep(0.2)  # questions are on their way
+    send(host, signal.SIGCONT)
+    time.sleep(1)
+    send(rest, signal.SIGCONT)
+    for one in late:
+        one.join(SAME)
+    told.free.set()
+
+
+def stopped_host_asked(cluster, told, customer):
+    host_asked(cluster, told, customer, True)
 
 
 def first_try(port, customer, line):
@@ -449,16 +533,16 @@ def round_of(cluster, book, topology, number, seed, fault):
     extra = []
     time.sleep(draw.uniform(0.5, 1.5))
     begun = time.monotonic()
-    if fault == "directed":
+    if fault in DIRECTED.values():
         extra = [Customer(ports, f"c{number}-old", told, seed, topology.nodes)]
-        directed(cluster, told, topology.nodes, extra[0])
+        globals()[fault](cluster, told, extra[0])
     else:
         getattr(faults, fault)()
     cluster.mend()
     mended = time.monotonic()
     try:
         cluster.until(lambda: any(sent > mended for sent, _ in list(told.orders))
-                      or any(one.fault for one in askers))
+                      or any(one.fault for one in askers), GOES_ON)
     except TimeoutError:
         raise Differs("no order is answered any more")
     time.sleep(0.3)
@@ -486,6 +570,7 @@ def words():
     reader.add_argument("--host")
     reader.add_argument("--seconds", type=float, default=1e9)
     reader.add_argument("--only")
+    reader.add_argument("--silent", type=int, default=6)
     reader.add_argument("program", nargs="?", default="./hosed")
     reader.add_argument("rounds", nargs="?", type=int, default=300)
     reader.add_argument("seed", nargs="?", default="1")
@@ -500,7 +585,7 @@ def main():
     last, done = time.monotonic() + given.seconds, 0
     while done < given.rounds and time.monotonic() < last:
         with tempfile.TemporaryDirectory() as work:
-            cluster = Cluster(program, host, work, NAME)
+            cluster = Cluster(program, host, work, NAME, silent=given.silent)
             try:
                 book = Book(cluster.machines, journals.digest_of(topology))
                 for number in range(done, min(given.rounds, done + EACH)):
@@ -518,8 +603,7 @@ def main():
 
 
 def fault_of(seed, number):
-    return "directed" if number % EACH == EACH - 1 else random.Random(
-        f"{seed} {number}").choice(FAULTS)
+    return DIRECTED.get(number % EACH) or random.Random(f"{seed} {number}").choice(FAULTS)
 
 
 class Counts:

@@ -6,11 +6,12 @@ words named. What is wanted stands here, written by hand. Each status has one tr
 each command one that ends well; 1, 6 and 9 have one for each cause that an operator meets: a word
 that is wrong, missing or empty, or the name of no node; a file that is not there, a folder that is
 not, rights that are missing, a journal that another program holds; a port that is taken, a path
-where no socket can. Where who reads the output has gone there is no sentence. A host's port is
-open at 127.0.0.1 alone. Two trials have as many words as their command takes. Files that no words
-name lie beside, and have to stay as they are; a socket has to be gone. Ends with status 1 where a
-status, a sentence, an output that is written here or such a file is another one. The gate runs it,
-since no clause says what `main` does around the one call that it makes.
+where no socket can, or one that another program serves; a disk that fails as a move writes to it.
+Where who reads the output has gone there is no sentence. A host's port is open at 127.0.0.1 alone,
+and a socket that nobody serves is taken over. Two trials have as many words as their command takes.
+Files that no words name lie beside, and have to stay as they are; a socket has to be gone. Ends
+with status 1 where a status, a sentence, an output that is written here or such a file is another
+one. The gate runs it, since no clause says what `main` does around the one call that it makes.
 
 usage: bench/judge/reasons.py [PROGRAM]
 
@@ -23,6 +24,7 @@ import os
 import re
 import resource
 import shutil
+import signal
 import socket
 import stat
 import subprocess
@@ -40,7 +42,7 @@ GIB, JSON_LIMIT = 1 << 30, 16 << 20
 HELP = ", see hosed --help"
 HERE, ELSEWHERE = "127.0.0.1", "127.0.0.2"
 LAST = "the last line of the output tells"
-UNREAD, UNKEPT = "could not be read", "could not be opened or closed"
+UNREAD, UNKEPT = "could not be read", "could not be opened, read, written or closed"
 OTHER = "is that of another network, or of other costs, than the topology"
 RETURNS = "(a line ends with a line feed alone)"
 TWO_NODES = "node a\nnode b\nlink a b 10 7\nend\n"
@@ -229,9 +231,12 @@ def limits(trials):
 
 
 def ports(trials):
-    with socket.socket() as other:
+    os.mkdir(trials.path("theirs"))
+    with socket.socket() as other, socket.socket(socket.AF_UNIX) as theirs:
         other.bind(("127.0.0.1", 0))
         other.listen()
+        theirs.bind(trials.path("theirs/door"))
+        theirs.listen()
         port = str(other.getsockname()[1])
         trials.comes(["serve", "net.txt", "j", port, "1", "1"], 9,
                      f"the port {port} could not be opened: another program listens there, or "
@@ -240,6 +245,7 @@ def ports(trials):
         left = set(os.listdir(trials.folder))
         for words, door, why in (
                 (["net.txt", "j", "./door", port], port, served),
+                (["net.txt", "j", "./door", "./theirs/door"], "./theirs/door", served),
                 (["net.txt", "j", "./door", "./none/door"], "./none/door", no_folder),
                 (["net.txt", "j", "./door", "./beside.txt/door"], "./beside.txt/door", no_folder),
                 (["net.txt", "j", "./door", "./beside.txt=acme"], "./beside.txt=acme",
@@ -250,6 +256,8 @@ def ports(trials):
             trials.comes(["host", *words], 9, f'the door "{door}" could not be opened: {why}', "",
                          f"door {2 + words.index(door)}\n")
             trials.wrong += set(os.listdir(trials.folder)) != left
+        with socket.socket(socket.AF_UNIX) as peer:
+            trials.wrong += peer.connect_ex(trials.path("theirs/door")) != 0
     if os.getuid() == 0:
         os.mkdir(trials.path("open"))
         os.chmod(trials.path("open"), 0o777)
@@ -264,6 +272,12 @@ def inputs(trials):
                  f'topology "net.txt": rule {RULE} is the lowest that fails', CERTIFICATE)
     trials.comes(["follow", "net.txt", "follower"], 11,
                  "the input has no whole packet at byte 0", "packet")
+
+
+def limited():
+    """A write past 60 bytes of a file fails, as on a disk that is full."""
+    signal.signal(signal.SIGXFSZ, signal.SIG_IGN)
+    resource.setrlimit(resource.RLIMIT_FSIZE, (60, 60))
 
 
 def moves(trials):
@@ -286,6 +300,9 @@ def moves(trials):
     trials.comes(["move", "net.txt", "none", "big.txt", "moved"], 6,
                  f'the journal "none" {UNKEPT}: no such file, and none is made there')
     comes(6, f'the journal "none/j" {UNKEPT}: no such file, and none is made there', to="none/j")
+    trials.comes(["move", "net.txt", "kept", "big.txt", "part"], 6,
+                 f'the journal "part" {UNKEPT}: the system refused it, or its disk failed', "",
+                 "new cabinet\n", preexec_fn=limited)
     os.symlink("kept", trials.path("link"))
     os.link(trials.path("kept"), trials.path("hard"))
     with open(trials.path("kept"), "rb") as file:
@@ -384,6 +401,9 @@ def hosts(trials):
             "vpn 1 acme cost 7 ends a:1 b:1 links 0:1\nlive 1 cost 7\n")
     figures = ("figures connections 1 ever 6 lines 11 admitted 1 refused 0 released 0 down 0 up 0 "
                "disk 0 memory 0 lost 0 .. at 1")
+    # A socket that nobody serves is taken over.
+    with socket.socket(socket.AF_UNIX) as left:
+        left.bind(trials.path("any"))
     host = subprocess.Popen([trials.program, "host", *words], cwd=trials.folder, text=True,
                             stdin=subprocess.DEVNULL, stdout=subprocess.PIPE,
                             stderr=subprocess.PIPE)

@@ -281,7 +281,7 @@ def locked(day, unit):
     """Another program has the journal at the moment of a start."""
     leader = day.leader
     leader.run(f"systemctl stop {unit}")
-    leader.run(f"{AS_HOSED} sh -c 'sleep 30 | hosed follow {NETWORK} {JOURNAL}' "
+    leader.run(f"{AS_HOSED} sh -c 'sleep 300 | hosed follow {NETWORK} {JOURNAL}' "
                "> /dev/null 2>&1 < /dev/null & sleep 1")
     sentences = serve_by_hand(leader, unit)
     tell("a journal that another program has")

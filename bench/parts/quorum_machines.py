@@ -1,7 +1,8 @@
 """Three machines on loopback, each with a member of etcd, a journal and `tools/quorum.py lead`.
 
 What a machine says to etcd, and what members say to each other, goes through forwarders that can be
-held: what was sent while one is held comes out once it is not, also where the sender has gone.
+held: what was sent while one is held comes out once it is not, also where the sender has gone. One
+can be slow, too.
 """
 import asyncio
 import multiprocessing
@@ -18,7 +19,7 @@ QUORUM = os.path.join(TOP, "tools", "quorum.py")
 COUNT = 3
 PIECE = 65_536
 ETCD = ("--initial-cluster-state", "new", "--auto-compaction-mode", "revision",
-        "--auto-compaction-retention", "1000", "--logger", "zap", "--log-level", "error")
+        "--auto-compaction-retention", "1000", "--logger", "zap", "--log-level", "info")
 
 
 def free_ports(count):
@@ -44,7 +45,14 @@ class Forwarders:
         self.pipe.recv()
 
     def hold(self, names, is_held=True):
-        self.pipe.send((list(names), is_held))
+        self._tell(names, "hold", is_held)
+
+    def slow(self, names, seconds):
+        """Has each piece take so long, in both directions."""
+        self._tell(names, "slow", seconds)
+
+    def _tell(self, *what):
+        self.pipe.send(what)
         self.pipe.recv()
 
     def end(self):
@@ -58,7 +66,7 @@ def forward(pairs, pipe):
 
 class Forwarding:
     def __init__(self, pairs, pipe):
-        self.pairs, self.pipe, self.free = pairs, pipe, {}
+        self.pairs, self.pipe, self.free, self.seconds = pairs, pipe, {}, dict.fromkeys(pairs, 0)
 
     async def run(self):
         for name, (port, there) in self.pairs.items():
@@ -71,9 +79,14 @@ class Forwarding:
         await asyncio.Event().wait()
 
     def take(self):
-        names, is_held = self.pipe.recv()
+        names, what, how = self.pipe.recv()
         for name in names:
-            (self.free[name].clear if is_held else self.free[name].set)()
+            if what == "slow":
+                self.seconds[name] = how
+            elif how:
+                self.free[name].clear()
+            else:
+                self.free[name].set()
         self.pipe.send("done")
 
     def serve(self, name, there):
@@ -91,6 +104,7 @@ class Forwarding:
         try:
             while True:
                 piece = await reader.read(PIECE)
+                await asyncio.sleep(self.seconds[name])
                 await self.free[name].wait()
                 if not piece:
                     break
@@ -161,14 +175,14 @@ class Member:
 class Machine:
     """A journal, and who leads it where it leads."""
 
-    def __init__(self, work, number, urls, port, host, topology, options=()):
+    def __init__(self, work, number, urls, port, host, topology, silent):
         self.name, self.port, self.urls = "abc"[number], port, ",".join(urls)
         self.journal = os.path.join(work, f"{self.name}.journal")
         self.log = os.path.join(work, f"{self.name}.log")
         self.words = [
             sys.executable, QUORUM, "lead", "--etcd", self.urls, "--machine", self.name,
-            "--program", host[0], *options, topology, self.journal, *host[-1:], "host",
-            "--standby", os.path.join(work, f"{self.name}.put"), "--standby-seconds", "6",
+            "--program", host[0], topology, self.journal, *host[-1:], "host", "--standby",
+            os.path.join(work, f"{self.name}.put"), "--standby-seconds", f"{silent}",
             "--standby-or-stop", topology, self.journal, str(port)]
         if len(host) == 1:
             self.words.insert(self.words.index("host") + 1, "--quiet")
@@ -195,7 +209,7 @@ class Cluster:
     """All of them, and the links between them: `a0` from the machine `a` to the member 0, and
     `peer0` from other members to it."""
 
-    def __init__(self, program, host, work, topology, is_direct=False):
+    def __init__(self, program, host, work, topology, is_direct=False, silent=6):
         self.work, self.topology, self.program = work, topology, program
         ports = free_ports(COUNT * (4 + COUNT))
         client, listens, peer, doors = (ports[at * COUNT:(at + 1) * COUNT] for at in range(4))
@@ -212,7 +226,7 @@ class Cluster:
             links = client * COUNT
         self.machines = [
             Machine(work, number, [f"http://127.0.0.1:{links[number * COUNT + at]}"
-                                   for at in range(COUNT)], doors[number], host, topology)
+                                   for at in range(COUNT)], doors[number], host, topology, silent)
             for number in range(COUNT)]
         self.links = {machine.name: [f"{machine.name}{at}" for at in range(COUNT)]
                       for machine in self.machines}
