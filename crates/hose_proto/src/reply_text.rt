@@ -1,12 +1,13 @@
 // The texts of replies on their way to a sink.
 ghost use Rattle.std.specs.List.{flat_map};
-ghost use Rattle.std.specs.Prelude.{◌≡◌, ◌≤◌, ◌++◌, ◌∷◌, [], All, OnOk, codes, decimal, length, map};
+ghost use Rattle.std.specs.Prelude.{◌≡◌, ◌⊎◌, ◌≤◌, ◌++◌, ◌∷◌, [], ℕ, List, All, OnOk, codes, decimal, length, map};
 ghost use Rattle.hose_io.specs.Count.{one_more};
 ghost use Rattle.hose_io.specs.steps.Gather.{IsAdded};
 ghost use Rattle.hose_io.specs.steps.Writing.{IsPut};
+ghost use Rattle.hose_graph.specs.Amounts.{ReservedLink};
 ghost use Rattle.hose_graph.specs.Hose.{node_of};
 ghost use Rattle.hose_graph.specs.Network.{Network, IsLinkOf, IsNodeOf};
-ghost use Rattle.hose_graph.specs.declared.command.Reply.TheVariants.{LinkState, Refused, Shown, Stale, Vpns};
+ghost use Rattle.hose_graph.specs.declared.command.Reply.TheVariants.{Admitted, LinkState, Quoted, Refused, Shown, Stale, Vpns};
 ghost use Rattle.hose_proto.specs.ReplyWords.{pair_word, service_words};
 ghost use Rattle.hose_proto.specs.ReplyText.{line_of, node_text, reply_text, spaced};
 ghost use Rattle.hose_graph.specs.steps.Naming.{NamesPlaces};
@@ -36,18 +37,8 @@ fn add_reply<S: Sink>(gather: &mut Gather, sink: &mut S, top: &Topology, reply: 
         (reply_text top.now reply.now) }
 {
     match reply {
-        Reply::Admitted {
-            id,
-            cost,
-            at,
-            amounts,
-        } => add_priced(gather, sink, b"admitted ", (*id, *cost, *at), amounts),
-        Reply::Quoted {
-            quote,
-            cost,
-            at,
-            amounts,
-        } => add_priced(gather, sink, b"quoted ", (*quote, *cost, *at), amounts),
+        Reply::Admitted { .. } => add_planned(gather, sink, reply),
+        Reply::Quoted { .. } => add_planned(gather, sink, reply),
         Reply::Refused { at, side } => add_refused(gather, sink, top, *at, side),
         Reply::Shown {
             id,
@@ -81,6 +72,30 @@ fn add_reply<S: Sink>(gather: &mut Gather, sink: &mut S, top: &Topology, reply: 
         Reply::Bad { word } => add_last(gather, sink, b"bad ", *word),
         Reply::Long => gather.add(sink, b"long"),
         Reply::Bye => gather.add(sink, b"bye"),
+    }
+}
+
+// Adds the text of a reply that tells a plan.
+fn add_planned<S: Sink>(gather: &mut Gather, sink: &mut S, reply: &Reply)
+    requires { (id cost at : ℕ) × (amounts : List ReservedLink)
+        × ((reply.now ≡ Admitted id cost at amounts) ⊎ (reply.now ≡ Quoted id cost at amounts)) }
+    ensures { (network : Network) → IsAdded S.Sink gather.old sink.old gather.new sink.new
+        (reply_text network reply.now) }
+{
+    match reply {
+        Reply::Admitted {
+            id,
+            cost,
+            at,
+            amounts,
+        } => add_priced(gather, sink, b"admitted ", (*id, *cost, *at), amounts),
+        Reply::Quoted {
+            quote,
+            cost,
+            at,
+            amounts,
+        } => add_priced(gather, sink, b"quoted ", (*quote, *cost, *at), amounts),
+        _ => {}
     }
 }
 

@@ -1,10 +1,17 @@
+use Rattle.std.proofs.Common.{inl, inr}
 use Rattle.hose_proto.proofs.reply_text.add_reply.Goals as goal
 
+pub add_planned-requires : goal.add_planned-requires
+add_planned-requires g c = (c.in-Admitted.id, c.in-Admitted.cost, c.in-Admitted.at, c.in-Admitted.amounts, inl c.in-Admitted.is)
+
 pub returns-in-Admitted : goal.returns-in-Admitted
-returns-in-Admitted g c = rw c.in-Admitted.is c.add_priced.ensures
+returns-in-Admitted g c = c.add_planned.ensures c.args.top.now
+
+pub add_planned-requires-in-Quoted : goal.add_planned-requires-in-Quoted
+add_planned-requires-in-Quoted g c = (c.in-Quoted.quote, c.in-Quoted.cost, c.in-Quoted.at, c.in-Quoted.amounts, inr c.in-Quoted.is)
 
 pub returns-in-Quoted : goal.returns-in-Quoted
-returns-in-Quoted g c = rw c.in-Quoted.is c.add_priced-in-Quoted.ensures
+returns-in-Quoted g c = c.add_planned-in-Quoted.ensures c.args.top.now
 
 pub returns-in-Refused : goal.returns-in-Refused
 returns-in-Refused g c = rw c.in-Refused.is c.add_refused.ensures
