@@ -16,7 +16,7 @@ use Rattle.hose_law.specs.Service.{LinkStands}
 use Rattle.hose_law.specs.steps.Service.{service_entry}
 use Rattle.hose_book.specs.declared.books.Books.{Ghosts}
 use Rattle.hose_book.specs.Ledger.{Ledger}
-use Rattle.hose_core.specs.steps.Serving.{service_command, service_reply}
+use Rattle.hose_core.specs.steps.Service.{service_command, service_reply}
 use Rattle.hose_core.specs.steps.Stepping.{AnswersBy, Goes, HasStepped, IsToldAs}
 use Rattle.hose_core.proofs.Answering.{answers_entered, answers_without}
 use Rattle.hose_core.proofs.Stepped.{stepped_by}

@@ -1,6 +1,5 @@
 -- A core that answered a command goes on: it fits what the step leads to.
 use Rattle.std.proofs.Common.{◌≡◌, ◌≢◌, ◌⊎◌, ◌∙◌, ◌≤◌, ℕ, Bool, true, false, List, Option, None, Some, IsSome, length, inl, inr, refl, sym, ap, subst, arith}
-use Rattle.std.specs.Prelude.{⊤}
 use Rattle.std.proofs.lemmas.List.{take_all}
 use Rattle.hose_graph.specs.Limits.{operator}
 use Rattle.hose_graph.specs.steps.Naming.{NamesPlaces}
@@ -26,8 +25,7 @@ use Rattle.hose_book.specs.Ledger.{Ledger}
 use Rattle.hose_core.specs.steps.Bound.{admission_command}
 use Rattle.hose_core.specs.steps.Holding.{AllQuotes, AreHeld, HoldsNow, IsMadeAt, IsQuoteOf, State, quotes_in}
 use Rattle.hose_core.specs.steps.Planning.{HasTold, IsNotPlanned}
-use Rattle.hose_core.specs.steps.Providing.{Responds}
-use Rattle.hose_core.specs.steps.Serving.{service_command}
+use Rattle.hose_core.specs.steps.Service.{service_command}
 use Rattle.hose_core.specs.steps.Stepping.{FitsHistory, HasAnswered, HasStepped, HaveAnswered, Steps, StepsAtEach, StepsOn, committed_of}
 use Rattle.hose_core.proofs.Leading.{decided, leads}
 use Rattle.hose_core.specs.declared.quotes.Quote.{Quote}
@@ -271,16 +269,6 @@ pub of_fields : {K R : Type 0} (books : Ghosts K R) (fields old new : State K) (
 of_fields {K = K} books fields old new epoch history holdings customer asked answer same on =
     subst (λ (s : State K). FitsHistory books s epoch history holdings → StepsOn books s new epoch history holdings customer asked answer) same on
 
--- ---- what is said of each command that was answered
-
--- what a core, which can answer always, says
-abbrev pub RespondsAt : {K R : Type 0} → Ghosts K R → State K → State K → List ℕ → Command → Reply → Type 0
-RespondsAt {K = K} books old new customer asked answer =
-    Responds (λ (core : State K). (books.ledger core.books).network) (λ (_ : State K). ⊤) old new (HasAnswered books old new customer asked answer)
-
-pub responds : {K R : Type 0} {books : Ghosts K R} {old new : State K} {customer : List ℕ} {asked : Command} {answer : Reply} → HasAnswered books old new customer asked answer → RespondsAt books old new customer asked answer
-responds answers = record { answers = answers; stays = answers.answered.network; can = tt }
-
 -- ---- what books answered that left what is held
 
 abbrev with_books : {K : Type 0} → AllQuotes → K → State K
@@ -288,22 +276,22 @@ with_books quotes books = record { books = books; quotes = quotes }
 
 module _ {K R : Type 0} {books : Ghosts K R} {was : K} {quotes : AllQuotes} {state : State K} {answer : Reply} (customer : List ℕ) (asked : Command) (keeping : ¬ ChangesHeld asked) where
   -- a core with these books and quotes answered so
-  pub keeps_answered : {now : K} → with_books quotes was ≡ state → HaveAnswered books was now answer → StepsAtEach books was now customer asked answer → RespondsAt books state (with_books quotes now) customer asked answer
-  keeps_answered {now = now} same answered steps = responds (record {
+  pub keeps_answered : {now : K} → with_books quotes was ≡ state → HaveAnswered books was now answer → StepsAtEach books was now customer asked answer → HasAnswered books state (with_books quotes now) customer asked answer
+  keeps_answered {now = now} same answered steps = record {
     step = λ epoch history holdings.
         of_fields books (with_books quotes was) state (with_books quotes now) epoch history holdings customer asked answer same
         (λ fits. keeps_on books (with_books quotes was) (with_books quotes now) epoch history holdings customer fits answered.network asked answer keeping (steps epoch history (holdings customer) fits.book) refl);
     answered = subst (λ (s : State K). HaveAnswered books s.books now answer) same answered;
-  })
+  }
 
   -- and stays as it was where its books do
-  pub reads_answered : with_books quotes was ≡ state → StepsAtEach books was was customer asked answer → committed_of answer ≡ Done → NamesPlaces (books.ledger was).network answer → RespondsAt books state state customer asked answer
-  reads_answered same steps done names = subst (λ (s : State K). RespondsAt books s s customer asked answer) same (responds (record {
+  pub reads_answered : with_books quotes was ≡ state → StepsAtEach books was was customer asked answer → committed_of answer ≡ Done → NamesPlaces (books.ledger was).network answer → HasAnswered books state state customer asked answer
+  reads_answered same steps done names = subst (λ (s : State K). HasAnswered books s s customer asked answer) same (record {
     step = λ epoch history holdings fits. keeps_on books (with_books quotes was) (with_books quotes was) epoch history holdings customer fits refl asked answer keeping (steps epoch history (holdings customer) fits.book) refl;
     answered = answered_same books was answer done names;
-  }))
+  })
 
 -- a core that stays as it is answered by a step
 pub stays_answered : {K R : Type 0} (books : Ghosts K R) (old : State K) (customer : List ℕ) (asked : Command) (answer : Reply) → Steps books old old customer asked answer → committed_of answer ≡ Done → NamesPlaces (books.ledger old.books).network answer
-    → RespondsAt books old old customer asked answer
-stays_answered books old customer asked answer step done names = responds (record { step = step; answered = answered_same books old.books answer done names })
+    → HasAnswered books old old customer asked answer
+stays_answered books old customer asked answer step done names = record { step = step; answered = answered_same books old.books answer done names }

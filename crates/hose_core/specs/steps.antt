@@ -3,7 +3,6 @@ pub mod Bound
 pub mod Claiming
 pub mod Holding
 pub mod Planning
-pub mod Providing
-pub mod Serving
+pub mod Service
 pub mod Stepping
 pub mod Telling

@@ -6,8 +6,6 @@
 //! let reply = core.step(alloc, &customer, Command::Quote(hose), &mut PlainRows::new());
 //! ```
 //!
-//! A command is told apart in one place, `dispatch`, for whoever is a `Provider`: a core is one.
-//!
 //! `admit_now`, `take_now`, `release_now`, `service_now`, `show_now`, `vpns_now` and `link_now` do
 //! so to books that are kept by others, as under a lock: a take, a release and an order of the
 //! operator take no memory there, since all of it is in their claim. What is quoted can be planned
@@ -21,10 +19,9 @@ mod by_customer;
 mod claim;
 mod entering;
 mod planning;
-mod provider;
 mod quotes;
 mod releasing;
-mod serving;
+mod service;
 mod stepping;
 mod taking;
 mod telling;
@@ -34,10 +31,9 @@ pub use bound::newest_now;
 pub use by_customer::QuotesByCustomer;
 pub use claim::{Claim, ReleaseClaim, ServiceClaim, claim_release, claim_service, claim_take};
 pub use planning::{BookView, plan_beside};
-pub use provider::{Provider, dispatch};
 pub use quotes::{Quote, Quotes};
 pub use releasing::release_now;
-pub use serving::service_now;
+pub use service::service_now;
 pub use stepping::Core;
 pub use taking::take_now;
 pub use telling::{link_now, show_now, vpns_now};

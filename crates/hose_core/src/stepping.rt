@@ -1,21 +1,24 @@
 // A book with the quotes of its customers.
-ghost use Rattle.std.specs.Prelude.{◌≡◌, ◌≤◌, Some};
+ghost use Rattle.std.specs.Prelude.{◌≡◌, ◌≤◌, ℕ, List, Some};
 ghost use Rattle.hose_graph.specs.steps.Naming.{AsksOf, NamesPlaces};
+ghost use Rattle.hose_graph.specs.Network.{IsLinkOf};
 ghost use Rattle.hose_graph.specs.declared.command.Command.{Command};
-ghost use Rattle.hose_graph.specs.declared.limits.TheConstants.{MOST_QUOTES};
+ghost use Rattle.hose_graph.specs.declared.limits.TheConstants.{MOST_EPOCH, MOST_QUOTES};
+ghost use Rattle.hose_law.specs.steps.Plan.{AreNodes};
 ghost use Rattle.hose_law.specs.Quotes.{free_number};
 ghost use Rattle.hose_book.specs.steps.Commit.{IsMet};
+ghost use Rattle.hose_core.specs.steps.Bound.{admission_command};
 ghost use Rattle.hose_core.specs.steps.Holding.{AreAllKept, IsMadeAt, quotes_of};
-ghost use Rattle.hose_core.specs.steps.Stepping.{HaveAnswered, HoldsNothing, IsSameOrNext, Steps, committed_of};
+ghost use Rattle.hose_core.specs.steps.Service.{service_command};
+ghost use Rattle.hose_core.specs.steps.Stepping.{HasAnswered, HaveAnswered, HoldsNothing, IsSameOrNext, Steps, committed_of};
 
 use crate::admitting::{Admission, admit_with_rows};
 use crate::by_customer::QuotesByCustomer;
 use crate::claim::{claim_release, claim_service, claim_take};
 use crate::planning::plan_now;
-use crate::provider::{Provider, dispatch};
 use crate::quotes::Quote;
 use crate::releasing::release_now;
-use crate::serving::service_now;
+use crate::service::service_now;
 use crate::taking::take_now;
 use crate::telling::{link_now, show_now, vpns_now};
 use hose_book::Books;
@@ -105,7 +108,7 @@ impl<K: Books + Drop> Core<K> {
             (K.frame self.new.books) }
         ensures names { NamesPlaces (K.ledger self.old.books).network result }
     {
-        dispatch(self, alloc, customer, command, rows)
+        self.answer(alloc, customer, command, rows)
     }
 
     /// The reply to a command of a customer who holds these quotes, in place of those that the core
@@ -130,9 +133,155 @@ impl<K: Books + Drop> Core<K> {
         ensures goes { IsSameOrNext (K.ledger self.old.books) (K.ledger self.new.books) }
     {
         swap(&mut self.quotes, quotes);
-        let reply = dispatch(self, alloc, customer, command, rows);
+        let reply = self.answer(alloc, customer, command, rows);
         swap(&mut self.quotes, quotes);
         reply
+    }
+
+    // Answers a command by the call for its kind.
+    fn answer<R: RowMaker>(
+        &mut self,
+        alloc: Global,
+        customer: &Name,
+        command: Command,
+        rows: &mut R,
+    ) -> Reply
+        requires { AsksOf (K.ledger self.old.books).network command }
+        ensures { HasAnswered K.Books self.old self.new customer.now command result }
+    {
+        match command {
+            Command::Admit(hose) => {
+                let asked = Admission { known: None, hose };
+                self.admit(alloc, customer, asked, rows)
+            }
+            Command::AdmitAfter { known, hose } => {
+                let known = Some(known);
+                self.admit(alloc, customer, Admission { known, hose }, rows)
+            }
+            Command::Quote(hose) => self.quote(alloc, customer, hose, rows),
+            Command::Take(number) => self.take(alloc, customer, number),
+            Command::Release(id) => self.release(alloc, customer, id),
+            Command::Show(id) => self.show(alloc, customer, id),
+            Command::Vpns => self.vpns(alloc, customer),
+            Command::Link(link) => self.link(link),
+            Command::Down(link) => self.operate(alloc, customer, link, true),
+            Command::Up(link) => self.operate(alloc, customer, link, false),
+        }
+    }
+
+    // Admits a hose.
+    fn admit<R: RowMaker>(
+        &mut self,
+        alloc: Global,
+        customer: &Name,
+        asked: Admission,
+        rows: &mut R,
+    ) -> Reply
+        requires { AreNodes (K.ledger self.old.books).network asked.hose }
+        ensures { HasAnswered K.Books self.old self.new customer.now
+            (admission_command asked.known asked.hose) result }
+    {
+        let table = self.table.as_ref();
+        let (reply, _entered) = admit_with_rows(
+            alloc,
+            &mut self.books,
+            customer,
+            asked,
+            table,
+            rows,
+        );
+        reply
+    }
+
+    // Plans a hose, and holds the plan.
+    fn quote<R: RowMaker>(
+        &mut self,
+        alloc: Global,
+        customer: &Name,
+        hose: Hose,
+        rows: &mut R,
+    ) -> Reply
+        requires { AreNodes (K.ledger self.old.books).network hose }
+        ensures { HasAnswered K.Books self.old self.new customer.now (Command.Quote hose) result }
+    {
+        let Some(number) = self.quotes.free(customer) else {
+            let at = self.books.book().epoch();
+            return Reply::TooMany { at };
+        };
+        match plan_now(alloc, &self.books, hose, self.table.as_ref(), rows) {
+            Err(reply) => reply,
+            Ok(quote) => self.hold(alloc, customer, number, quote),
+        }
+    }
+
+    // Takes the quote under a number.
+    fn take(&mut self, alloc: Global, customer: &Name, number: u64) -> Reply
+        ensures { HasAnswered K.Books self.old self.new customer.now (Command.Take number) result }
+    {
+        let Some(quote) = self.quotes.held(customer, number) else {
+            let at = self.books.book().epoch();
+            return Reply::NoQuote { quote: number, at };
+        };
+        let Ok(claim) = claim_take(alloc, customer, quote) else {
+            return Reply::Memory;
+        };
+        let reply = take_now(&mut self.books, quote, claim);
+        self.quotes.clear(customer, number);
+        reply
+    }
+
+    // Gives up the VPN of a number.
+    fn release(&mut self, alloc: Global, customer: &Name, id: u64) -> Reply
+        requires { id ≤ MOST_EPOCH }
+        ensures { HasAnswered K.Books self.old self.new customer.now (Command.Release id) result }
+    {
+        let Ok(claim) = claim_release(alloc, customer, id) else {
+            return Reply::Memory;
+        };
+        release_now(&mut self.books, claim)
+    }
+
+    // Tells the VPN of a number.
+    fn show(&mut self, alloc: Global, customer: &Name, id: u64) -> Reply
+        ensures { HasAnswered K.Books self.old self.new customer.now (Command.Show id) result }
+    {
+        show_now(alloc, &self.books, customer, id)
+    }
+
+    // Tells the customer's VPNs.
+    fn vpns(&mut self, alloc: Global, customer: &Name) -> Reply
+        ensures { HasAnswered K.Books self.old self.new customer.now Command.Vpns result }
+    {
+        vpns_now(alloc, &self.books, customer)
+    }
+
+    // Tells a link.
+    fn link(&mut self, link: u32) -> Reply
+        requires { IsLinkOf (K.ledger self.old.books).network link }
+        ensures { (customer : List ℕ) → HasAnswered K.Books self.old self.new customer
+            (Command.Link link) result }
+    {
+        link_now(&self.books, link)
+    }
+
+    // Takes a link out of service where `down` is true, or puts it back, for the operator alone.
+    fn operate(&mut self, alloc: Global, customer: &Name, link: u32, down: bool) -> Reply
+        requires { IsLinkOf (K.ledger self.old.books).network link }
+        ensures { HasAnswered K.Books self.old self.new customer.now (service_command down link)
+            result }
+    {
+        let book = self.books.book();
+        let is_operator = customer.is_operator();
+        if !is_operator {
+            let at = book.epoch();
+            return Reply::Denied { at };
+        }
+        // What holds of each network is told with it: how many links there can be.
+        let _topology = book.topology();
+        let Ok(claim) = claim_service(alloc, link, down) else {
+            return Reply::Memory;
+        };
+        service_now(&mut self.books, claim)
     }
 
     // Holds a quote under a number, and tells it.
@@ -146,100 +295,5 @@ impl<K: Books + Drop> Core<K> {
         ensures answered { HaveAnswered K.Books self.old.books self.new.books result }
     {
         self.quotes.hold(alloc, customer, number, quote)
-    }
-}
-
-// A command is claimed and settled at once.
-impl<K: Books + Drop> Provider for Core<K> {
-    ghost use Rattle.std.specs.Prelude.{⊤};
-    ghost use Rattle.hose_core.specs.steps.Stepping.{HasAnswered};
-
-    ghost network = { λ core. (K.ledger core.books).network };
-
-    ghost can_answer = { λ _. ⊤ };
-
-    ghost answers = { HasAnswered K.Books };
-
-    fn admit<R: RowMaker>(
-        &mut self,
-        alloc: Global,
-        customer: &Name,
-        asked: Admission,
-        rows: &mut R,
-    ) -> Reply {
-        let table = self.table.as_ref();
-        let (reply, _entered) = admit_with_rows(
-            alloc,
-            &mut self.books,
-            customer,
-            asked,
-            table,
-            rows,
-        );
-        reply
-    }
-
-    fn quote<R: RowMaker>(
-        &mut self,
-        alloc: Global,
-        customer: &Name,
-        hose: Hose,
-        rows: &mut R,
-    ) -> Reply {
-        let Some(number) = self.quotes.free(customer) else {
-            let at = self.books.book().epoch();
-            return Reply::TooMany { at };
-        };
-        match plan_now(alloc, &self.books, hose, self.table.as_ref(), rows) {
-            Err(reply) => reply,
-            Ok(quote) => self.hold(alloc, customer, number, quote),
-        }
-    }
-
-    fn take(&mut self, alloc: Global, customer: &Name, number: u64) -> Reply {
-        let Some(quote) = self.quotes.held(customer, number) else {
-            let at = self.books.book().epoch();
-            return Reply::NoQuote { quote: number, at };
-        };
-        let Ok(claim) = claim_take(alloc, customer, quote) else {
-            return Reply::Memory;
-        };
-        let reply = take_now(&mut self.books, quote, claim);
-        self.quotes.clear(customer, number);
-        reply
-    }
-
-    fn release(&mut self, alloc: Global, customer: &Name, id: u64) -> Reply {
-        let Ok(claim) = claim_release(alloc, customer, id) else {
-            return Reply::Memory;
-        };
-        release_now(&mut self.books, claim)
-    }
-
-    fn show(&mut self, alloc: Global, customer: &Name, id: u64) -> Reply {
-        show_now(alloc, &self.books, customer, id)
-    }
-
-    fn vpns(&mut self, alloc: Global, customer: &Name) -> Reply {
-        vpns_now(alloc, &self.books, customer)
-    }
-
-    fn link(&mut self, _alloc: Global, _customer: &Name, link: u32) -> Reply {
-        link_now(&self.books, link)
-    }
-
-    fn operate(&mut self, alloc: Global, customer: &Name, link: u32, down: bool) -> Reply {
-        let book = self.books.book();
-        let is_operator = customer.is_operator();
-        if !is_operator {
-            let at = book.epoch();
-            return Reply::Denied { at };
-        }
-        // What holds of each network is told with it: how many links there can be.
-        let _topology = book.topology();
-        let Ok(claim) = claim_service(alloc, link, down) else {
-            return Reply::Memory;
-        };
-        service_now(&mut self.books, claim)
     }
 }

@@ -11,7 +11,6 @@ ghost use Rattle.hose_session.specs.declared.phase.Phase.TheVariants as phase;
 
 use crate::ending::SessionEnd;
 use crate::phase::Phase;
-use hose_core::dispatch;
 use hose_disk::Disk;
 use hose_graph::{Name, Reply};
 use hose_greeting::{greeting_of, is_bye};
@@ -92,7 +91,7 @@ impl<'a, W: Wait, D: Disk, B: Begun<D>, G: Gate, R: RowMaker> Conversation<'a, W
         };
         let alloc = self.seat.context.alloc;
         match read_command(alloc, self.seat.shared.topology(), text, 0) {
-            Ok(command) => dispatch(&mut self.seat, alloc, name, command, self.rows),
+            Ok(command) => self.seat.step(name, command, self.rows),
             Err(ReadFault::Bad { word }) => {
                 if is_bye(text) {
                     self.phase = Phase::Left;

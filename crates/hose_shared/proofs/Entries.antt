@@ -30,7 +30,7 @@ use Rattle.hose_book.specs.declared.books.Committed.TheVariants.{Done, Disk}
 use Rattle.hose_core.specs.steps.Bound.{admission_command}
 use Rattle.hose_core.specs.steps.Holding.{AreHeld, IsMadeAt, IsQuoteOf}
 use Rattle.hose_core.specs.steps.Planning.{AdmitsAtOnce, EntersPlan, HasTold, IsNotPlanned, IsPlannedFor}
-use Rattle.hose_core.specs.steps.Serving.{service_command}
+use Rattle.hose_core.specs.steps.Service.{service_command}
 use Rattle.hose_core.specs.steps.Stepping.{HasStepped, HaveAnswered, StepsAtEach, TellsPlan, committed_of}
 use Rattle.hose_core.specs.declared.admitting.Admission.{Admission}
 use Rattle.hose_core.specs.declared.quotes.Quote.{Quote}

@@ -3,7 +3,7 @@ ghost use Rattle.std.specs.Prelude.{◌≤◌, ℕ, List};
 ghost use Rattle.hose_graph.specs.Network.{IsLinkOf};
 ghost use Rattle.hose_graph.specs.declared.command.Command.{Command};
 ghost use Rattle.hose_graph.specs.declared.limits.TheConstants.{MOST_EPOCH};
-ghost use Rattle.hose_core.specs.steps.Serving.{service_command};
+ghost use Rattle.hose_core.specs.steps.Service.{service_command};
 ghost use Rattle.hose_shared.specs.steps.Along.{AnswersAlong};
 ghost use Rattle.hose_shared.specs.steps.Sharing.{IsPassOf};
 

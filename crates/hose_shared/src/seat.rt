@@ -1,17 +1,18 @@
 // A customer's seat at a shared book.
 ghost use Rattle.std.specs.Prelude.{◌≡◌, length};
+ghost use Rattle.hose_graph.specs.steps.Naming.{AsksOf};
+ghost use Rattle.hose_shared.specs.steps.Providing.{CanProvide, Provides};
 ghost use Rattle.hose_shared.specs.steps.Sharing.{HasSeenMore, IsPassOf};
 
 use crate::caller::{Caller, Context};
 use crate::kept::Begun;
 use crate::shared::Shared;
-use hose_core::{Admission, Provider, Quotes};
+use hose_core::{Admission, Quotes};
 use hose_disk::Disk;
-use hose_graph::{Hose, Name, Reply};
+use hose_graph::{Command, Name, Reply};
 use hose_paths::RowMaker;
 use hose_pool::Gate;
 use hose_turn::Pass;
-use std::alloc::Global;
 use std::mem::replace;
 use std::sync::Wait;
 
@@ -42,110 +43,70 @@ impl<'a, W: Wait, D: Disk, B: Begun<D>, G: Gate> Seat<'a, W, D, B, G> {
         self.pass = pass;
         epoch
     }
-}
 
-// A command is claimed outside of the lock, and settled under it.
-impl<'a, W: Wait, D: Disk, B: Begun<D>, G: Gate> Provider for Seat<'a, W, D, B, G> {
-    ghost use Rattle.std.specs.Prelude.{◌≡◌};
-    ghost use Rattle.hose_shared.specs.steps.Providing.{CanProvide, Provides};
-
-    ghost network = { λ by. by.shared.now.network };
-
-    ghost can_answer = { λ by. CanProvide by.shared.now by.quotes by.pass };
-
-    // What it answers with stays, and the book that it shares.
-    ghost answers = { λ old new customer command reply. (new.context ≡ old.context)
-        × (new.shared ≡ old.shared) × (new.session ≡ old.session)
-        × Provides old.shared.now.network
-        (record { pass = old.pass; quotes = old.quotes })
-        (record { pass = new.pass; quotes = new.quotes }) customer command reply };
-
-    fn admit<R: RowMaker>(
-        &mut self,
-        _alloc: Global,
-        customer: &Name,
-        asked: Admission,
-        rows: &mut R,
-    ) -> Reply {
-        let (caller, pass) = caller_with_pass(self.context, self.session, &mut self.pass, customer);
-        let (reply, pass) = self.shared.admit_bound(&caller, pass, asked, rows);
-        self.pass = pass;
-        reply
-    }
-
-    fn quote<R: RowMaker>(
-        &mut self,
-        _alloc: Global,
-        customer: &Name,
-        hose: Hose,
-        rows: &mut R,
-    ) -> Reply {
-        let (caller, pass) = caller_with_pass(self.context, self.session, &mut self.pass, customer);
+    /// The reply to a customer's command. The nodes and links that it names are those of the
+    /// network, and a number to be released is at most 4,000,000,000. The next command can be
+    /// answered then, and what the seat answers with stays.
+    pub fn step<R: RowMaker>(&mut self, customer: &Name, command: Command, rows: &mut R) -> Reply
+        requires can { CanProvide self.old.shared.now self.old.quotes self.old.pass }
+        requires asks { AsksOf self.old.shared.now.network command }
+        ensures provides { Provides self.old.shared.now.network
+            (record { pass = self.old.pass; quotes = self.old.quotes })
+            (record { pass = self.new.pass; quotes = self.new.quotes }) customer.now command
+            result }
+        ensures can { CanProvide self.new.shared.now self.new.quotes self.new.pass }
+        ensures context { self.new.context ≡ self.old.context }
+        ensures shared { self.new.shared ≡ self.old.shared }
+        ensures session { self.new.session ≡ self.old.session }
+    {
+        let pass = replace(&mut self.pass, Pass::blank());
+        let caller = Caller {
+            context: self.context,
+            session: self.session,
+            customer,
+        };
         let (reply, pass) = self
             .shared
-            .quote(&caller, pass, &mut self.quotes, hose, rows);
-        self.pass = pass;
-        reply
-    }
-
-    fn take(&mut self, _alloc: Global, customer: &Name, number: u64) -> Reply {
-        let (caller, pass) = caller_with_pass(self.context, self.session, &mut self.pass, customer);
-        let (reply, pass) = self.shared.take(&caller, pass, &mut self.quotes, number);
-        self.pass = pass;
-        reply
-    }
-
-    fn release(&mut self, _alloc: Global, customer: &Name, id: u64) -> Reply {
-        let (caller, pass) = caller_with_pass(self.context, self.session, &mut self.pass, customer);
-        let (reply, pass) = self.shared.release(&caller, pass, id);
-        self.pass = pass;
-        reply
-    }
-
-    fn show(&mut self, _alloc: Global, customer: &Name, id: u64) -> Reply {
-        let (caller, pass) = caller_with_pass(self.context, self.session, &mut self.pass, customer);
-        let (reply, pass) = self.shared.show(&caller, pass, id);
-        self.pass = pass;
-        reply
-    }
-
-    fn vpns(&mut self, _alloc: Global, customer: &Name) -> Reply {
-        let (caller, pass) = caller_with_pass(self.context, self.session, &mut self.pass, customer);
-        let (reply, pass) = self.shared.vpns(&caller, pass);
-        self.pass = pass;
-        reply
-    }
-
-    fn link(&mut self, _alloc: Global, customer: &Name, link: u32) -> Reply {
-        let (caller, pass) = caller_with_pass(self.context, self.session, &mut self.pass, customer);
-        let (reply, pass) = self.shared.link(&caller, pass, link);
-        self.pass = pass;
-        reply
-    }
-
-    fn operate(&mut self, _alloc: Global, customer: &Name, link: u32, down: bool) -> Reply {
-        let (caller, pass) = caller_with_pass(self.context, self.session, &mut self.pass, customer);
-        let (reply, pass) = self.shared.operate(&caller, pass, link, down);
+            .step(&caller, pass, &mut self.quotes, command, rows);
         self.pass = pass;
         reply
     }
 }
 
-// Who calls, and the pass of a seat, with which a command begins.
-fn caller_with_pass<'a, W, G>(
-    context: &'a Context<'a, W, G>,
-    session: u64,
-    at_hand: &mut Pass,
-    customer: &'a Name,
-) -> (Caller<'a, W, G>, Pass)
-    ensures customer { result.0.customer.now ≡ customer.now }
-    ensures pass { result.1 ≡ at_hand.old }
-{
-    let pass = replace(at_hand, Pass::blank());
-    let caller = Caller {
-        context,
-        session,
-        customer,
-    };
-    (caller, pass)
+impl<D: Disk, B: Begun<D>> Shared<D, B> {
+    // Answers a command by the call for its kind, along the pass of a customer who holds these
+    // quotes.
+    fn step<W: Wait, G: Gate, R: RowMaker>(
+        &self,
+        caller: &Caller<'_, W, G>,
+        pass: Pass,
+        quotes: &mut Quotes,
+        command: Command,
+        rows: &mut R,
+    ) -> (Reply, Pass)
+        requires can { CanProvide self.now quotes.old pass }
+        requires asks { AsksOf self.now.network command }
+        ensures { Provides self.now.network (record { pass = pass; quotes = quotes.old })
+            (record { pass = result.1; quotes = quotes.new }) caller.now.customer.now command
+            result.0 }
+    {
+        match command {
+            Command::Admit(hose) => {
+                let asked = Admission { known: None, hose };
+                self.admit_bound(caller, pass, asked, rows)
+            }
+            Command::AdmitAfter { known, hose } => {
+                let known = Some(known);
+                self.admit_bound(caller, pass, Admission { known, hose }, rows)
+            }
+            Command::Quote(hose) => self.quote(caller, pass, quotes, hose, rows),
+            Command::Take(number) => self.take(caller, pass, quotes, number),
+            Command::Release(id) => self.release(caller, pass, id),
+            Command::Show(id) => self.show(caller, pass, id),
+            Command::Vpns => self.vpns(caller, pass),
+            Command::Link(link) => self.link(caller, pass, link),
+            Command::Down(link) => self.operate(caller, pass, link, true),
+            Command::Up(link) => self.operate(caller, pass, link, false),
+        }
+    }
 }

@@ -30,11 +30,11 @@ returns-in-Ok-clause-answers g c = λ held are.
     let network = seat.shared.now.network in
     let pass = seat.pass in
     let name = c.args.name.now in
-    let now = c.dispatch.new.provider in
+    let now = c.step.new.self in
     let asks = subst (λ (n : Network). IsCommand n (words_of c.in-Text.text.now) c.in-Ok.command) c.topology.ensures.value c.in-Ok.ensures.ok in
-    in_phase network pass now.pass now.quotes (Serving name held) c.args.line c.dispatch.result c.args.self.now.phase name c.requires.phase
+    in_phase network pass now.pass now.quotes (Serving name held) c.args.line c.step.result c.args.self.now.phase name c.requires.phase
     (served_at network pass now.pass c.args.line _ now.quotes name held (Asks c.in-Ok.command)
-    (text_is (λ bytes. IsCommand network (words_of bytes) c.in-Ok.command) c.args.line c.in-Text.text c.in-Text.is asks) (provided_exchange c.dispatch.ensures.answers.3 held are))
+    (text_is (λ bytes. IsCommand network (words_of bytes) c.in-Ok.command) c.args.line c.in-Text.text c.in-Text.is asks) (provided_exchange c.step.ensures.provides held are))
 
 pub returns-then-is_bye-clause-answers : goal.returns-then-is_bye-clause-answers
 returns-then-is_bye-clause-answers g c = λ held are.

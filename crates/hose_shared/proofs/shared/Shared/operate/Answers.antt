@@ -4,7 +4,7 @@ use Rattle.hose_graph.specs.steps.Naming.{NamesPlaces}
 use Rattle.hose_graph.specs.Network.{Network}
 use Rattle.hose_law.specs.Quotes.{none_held}
 use Rattle.hose_law.specs.steps.Service.{service_entry}
-use Rattle.hose_core.specs.steps.Serving.{service_command}
+use Rattle.hose_core.specs.steps.Service.{service_command}
 use Rattle.hose_shared.proofs.Entries.{order_denied, order_starved, order_turn, stays_along}
 use Rattle.hose_law.proofs.Epochs.{epoch_of}
 use Rattle.hose_shared.proofs.Passes.{along_of, more_same}
