@@ -8,10 +8,10 @@ use Rattle.hose_disk.specs.declared.disk.Disk.{Ghosts}
 use Rattle.hose_journal.specs.declared.journal.Journal.{Journal}
 use Rattle.hose_journal.specs.declared.layout.TheConstants.{BUFFER_BYTES, CLOSED, OPEN}
 use Rattle.hose_journal.specs.Chain.{chain}
-use Rattle.hose_journal.specs.Entries.{Item, entered, entries_format, entries_in, entry_bytes, front_of, item_bytes, record_bytes, seal_bytes, sealed}
-use Rattle.hose_journal.specs.steps.Entries.{closed_record, entries_reader, IsListOf}
+use Rattle.hose_journal.specs.Entries.{Item, TakesAny, entered, entries_in, entry_bytes, item_bytes, record_bytes, seal_bytes, sealed}
+use Rattle.hose_journal.specs.steps.Entries.{closed_record, IsListOf}
 use Rattle.hose_journal.specs.steps.Gates.{Starts, IsDoubtful}
-use Rattle.hose_journal.specs.Image.{IsClosed}
+use Rattle.hose_journal.specs.Image.{IsClosed, front_of}
 use Rattle.hose_journal.specs.steps.Journal.{Account, Stands, IsStopImage, IsListWith, IsListAmid, with_doubt, account_with}
 use Rattle.hose_journal.specs.Moments.{Images, LeavesOnly}
 use Rattle.hose_journal.proofs.Chains.{length-chain}
@@ -61,7 +61,7 @@ module _ {D : Type 0} (disk : Ghosts D) where
     pub list_closed : (image : List ℕ) → IsClosed here image → IsListOf account.digest account.entries image
     list_closed image closed =
         subst (λ (l : List Entry). IsListOf account.digest l image) stands.entries
-        (closed_is_list entries_reader stands.version account.digest image stands.items stands.is_version stands.are closed)
+        (closed_is_list TakesAny stands.version account.digest image stands.items stands.is_version stands.are closed)
 
     list_doubtful : (entry : Entry) (image : List ℕ) → IsEntry entry → IsDoubtful here (closed_here (entered entry)) image → IsListOf account.digest account.entries image ⊎ IsListOf account.digest (account.entries ++ entry ∷ []) image
     list_doubtful entry image is doubtful =
@@ -155,7 +155,6 @@ module _ {D : Type 0} (disk : Ghosts D) where
         → new.chain ≡ chain account.digest (account.entries ++ entry ∷ []) → BUFFER_BYTES ≤ vec_capacity new.buffer
         → Images disk new.disk (Starts (here ++ OPEN ∷ closed_here (entered entry))) → Stands disk new (account_with account entry)
     stands_added new entry is few gate flag as_sealed is_chain room images =
-        let format = entries_format stands.version account.digest in
         let bytes = item_bytes stands.version account.digest stands.items (entered entry) in
         record {
           version = stands.version;
@@ -163,21 +162,20 @@ module _ {D : Type 0} (disk : Ghosts D) where
           is_version = stands.is_version;
           entries = entries_push stands.items entry ∙ ap (λ (l : List Entry). l ++ entry ∷ []) stands.entries;
           size = stands.size;
-          are = items_more format [] stands.items (entered entry) stands.are is;
+          are = items_more TakesAny stands.version [] stands.items (entered entry) stands.are (is, tt);
           doubt_is = tt;
-          place = omega (arith, stands.place, gate, ap length (front_more format stands.version account.digest stands.items (entered entry)), length-append here (OPEN ∷ bytes), length-append bytes (CLOSED ∷ []));
+          place = omega (arith, stands.place, gate, ap length (front_more stands.version account.digest stands.items (entered entry)), length-append here (OPEN ∷ bytes), length-append bytes (CLOSED ∷ []));
           small = omega (arith, gate, gate_low (omega (arith, few)), closed_length entry is);
           doubt = flag;
           sealed = chained_entry stands.version stands.items entry ∙ stands.sealed ∙ sym as_sealed;
           chain = is_chain;
           room = room;
-          images = λ image is_image. opened_is_closed format stands.version account.digest image stands.items (entered entry) (images image is_image);
+          images = λ image is_image. opened_is_closed stands.version account.digest image stands.items (entered entry) (images image is_image);
         }
 
     pub stands_sealed : (new : Journal D) → IsFalse journal.doubt → length account.entries ≤ MOST_EPOCH → IsFalse journal.sealed → new.gate ≡ journal.gate + length (closed_here sealed) → new.doubt ≡ journal.doubt → true ≡ new.sealed
         → new.chain ≡ journal.chain → BUFFER_BYTES ≤ vec_capacity new.buffer → Images disk new.disk (Starts (here ++ OPEN ∷ closed_here sealed)) → Stands disk new account
     stands_sealed new clear few plain gate flag is_sealed as_chain room images =
-        let format = entries_format stands.version account.digest in
         let bytes = item_bytes stands.version account.digest stands.items sealed in
         let none = sure_by account.doubt journal.doubt stands.doubt clear in
         record {
@@ -186,9 +184,9 @@ module _ {D : Type 0} (disk : Ghosts D) where
           is_version = stands.is_version;
           entries = entries_seal stands.items ∙ stands.entries;
           size = stands.size;
-          are = items_more format [] stands.items sealed stands.are (stands.sealed ∙ plain);
+          are = items_more TakesAny stands.version [] stands.items sealed stands.are (stands.sealed ∙ plain);
           doubt_is = stands.doubt_is;
-          place = omega (arith, stands.place, gate, ap length (front_more format stands.version account.digest stands.items sealed), length-append here (OPEN ∷ bytes), length-append bytes (CLOSED ∷ []));
+          place = omega (arith, stands.place, gate, ap length (front_more stands.version account.digest stands.items sealed), length-append here (OPEN ∷ bytes), length-append bytes (CLOSED ∷ []));
           small = omega (arith, gate, gate_low (omega (arith, few)), seal_length);
           doubt = stands.doubt ∙ sym flag;
           sealed = chained_seal stands.version stands.items ∙ is_sealed;
@@ -196,15 +194,14 @@ module _ {D : Type 0} (disk : Ghosts D) where
           room = room;
           images = λ image is_image.
               subst (λ (doubt : Option Entry). IsStopImage stands.version (stands.items ++ sealed ∷ []) (with_doubt account doubt) image) (sym none)
-              (opened_is_closed format stands.version account.digest image stands.items sealed (images image is_image));
+              (opened_is_closed stands.version account.digest image stands.items sealed (images image is_image));
         }
 
     pub opened_lists : (now : D) (entry : Entry) → IsEntry entry → Images disk now (Starts (here ++ OPEN ∷ closed_here (entered entry))) → Images disk now (IsListOf account.digest (account.entries ++ entry ∷ []))
     opened_lists now entry is images image is_image =
-        let format = entries_format stands.version account.digest in
         subst (λ (l : List Entry). IsListOf account.digest l image) (entries_push stands.items entry ∙ ap (λ (l : List Entry). l ++ entry ∷ []) stands.entries)
-        (closed_is_list entries_reader stands.version account.digest image (stands.items ++ entered entry ∷ []) stands.is_version (items_more format [] stands.items (entered entry) stands.are is)
-        (opened_is_closed format stands.version account.digest image stands.items (entered entry) (images image is_image)))
+        (closed_is_list TakesAny stands.version account.digest image (stands.items ++ entered entry ∷ []) stands.is_version (items_more TakesAny stands.version [] stands.items (entered entry) stands.are (is, tt))
+        (opened_is_closed stands.version account.digest image stands.items (entered entry) (images image is_image)))
 
     -- ---- the moments
 

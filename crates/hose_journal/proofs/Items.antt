@@ -9,8 +9,8 @@ use Rattle.hose_codec.specs.Spelling.{IsEntry, spelling}
 use Rattle.hose_codec.proofs.Entries.{length-spelling}
 use Rattle.hose_journal.specs.declared.layout.TheConstants.{BUFFER_BYTES, CHAINED, DIGEST_BYTES, MARK, SEAL, SEAL_BYTES}
 use Rattle.hose_journal.specs.Chain.{chain}
-use Rattle.hose_journal.specs.Entries.{Item, entered, entries_format, entries_in, entry_bytes, front_of, is_chained, is_seal, item_bytes, seal_bytes, sealed, value_in}
-use Rattle.hose_journal.specs.Image.{AreItems, head, records}
+use Rattle.hose_journal.specs.Entries.{Item, TakesAny, entered, entries_in, entry_bytes, is_chained, is_seal, item_bytes, seal_bytes, sealed, value_in}
+use Rattle.hose_journal.specs.Image.{AreItems, head, records, front_of}
 use Rattle.hose_journal.proofs.Chains.{length-chain}
 
 -- ---- entries and seals
@@ -74,25 +74,25 @@ module _ (version : ℕ) (digest : List ℕ) (size : length digest ≡ DIGEST_BY
   pub length-item : (before : List Item) (entry : Entry) → IsEntry entry → length (item_bytes version digest before (entered entry)) ≤ BUFFER_BYTES - 1
   length-item before entry is = length-entry (is_chained version before) digest (entries_in before) entry size is
 
-  length-records : (before items : List Item) → AreItems (entries_format version digest) before items
-      → length (records (entries_format version digest) before items) ≤ BUFFER_BYTES * length (entries_in items) + left (is_chained version before)
+  length-records : (before items : List Item) → AreItems TakesAny version before items
+      → length (records version digest before items) ≤ BUFFER_BYTES * length (entries_in items) + left (is_chained version before)
   length-records before [] are = omega arith
   length-records before (entered entry ∷ items) are =
-      let rest = records (entries_format version digest) (before ++ entered entry ∷ []) items in
+      let rest = records version digest (before ++ entered entry ∷ []) items in
       let more = length-records (before ++ entered entry ∷ []) items are.1 in
       let same = ap left (chained_entry version before entry) in
-      omega (arith, length-append (item_bytes version digest before (entered entry)) rest, length-item before entry are.0, more, same)
+      omega (arith, length-append (item_bytes version digest before (entered entry)) rest, length-item before entry are.0.0, more, same)
   length-records before (sealed ∷ items) are =
-      let rest = records (entries_format version digest) (before ++ sealed ∷ []) items in
+      let rest = records version digest (before ++ sealed ∷ []) items in
       let more = length-records (before ++ sealed ∷ []) items are.1 in
       let now : left (is_chained version (before ++ sealed ∷ [])) ≡ 0 = ap left (chained_seal version before) in
       let was : left (is_chained version before) ≡ 38 = ap left are.0 in
       let value = chain digest (entries_in before) in
       omega (arith, length-append (seal_bytes value) rest, length-seal value (length-chain digest (entries_in before) size), more, now, was)
 
-  pub length-front : (items : List Item) → AreItems (entries_format version digest) [] items → length (front_of version digest items) ≤ 76 + BUFFER_BYTES * length (entries_in items)
+  pub length-front : (items : List Item) → AreItems TakesAny version [] items → length (front_of version digest items) ≤ 76 + BUFFER_BYTES * length (entries_in items)
   length-front items are =
-      omega (arith, size, length-append (head version digest) (records (entries_format version digest) [] items), length-append MARK (version ∷ digest), length-records [] items are, left_most (is_chained version []))
+      omega (arith, size, length-append (head version digest) (records version digest [] items), length-append MARK (version ∷ digest), length-records [] items are, left_most (is_chained version []))
     where
       left_most : (b : Bool) → left b ≤ 38
       left_most true = (let h : 0 ≤ 38 = omega arith in h)

@@ -6,6 +6,7 @@ pub mod Gates
 pub mod Items
 pub mod Lists
 pub mod Narrow
+pub mod OneItem
 pub mod OneList
 pub mod OneMeaning
 pub mod Openings

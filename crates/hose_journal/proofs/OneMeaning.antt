@@ -1,49 +1,48 @@
--- An image has one meaning, in every reader whose records begin no other.
+-- An image has one meaning, whichever entries are taken.
 use Rattle.std.proofs.Common.{◌≡◌, ◌≢◌, inl, inr, ℕ, ◌≤◌, List, [], ◌∷◌, ◌++◌, length, get_or, take, drop, sym, ap, ◌∙◌, refl, subst, arith, length-append, append_assoc, append-nil}
+use Rattle.hose_graph.specs.declared.entry.Entry.{Entry}
 use Rattle.hose_codec.proofs.Numbers.{same_parts}
 use Rattle.hose_journal.specs.declared.layout.TheConstants.{OPEN, MARK, DIGEST_BYTES}
-use Rattle.hose_journal.specs.Image.{AreItems, Format, IsDamaged, IsHeadless, IsListed, IsOther, IsUnbegun, IsUnmarked, IsVersion, Meaning, RecordReader, HasMeaning, damaged, front, head, listed, other, records}
-
--- no record of a format begins as another does
-abbrev pub AreAlone : {X : Type 0} → Format X → Type 0
-AreAlone {X} format = (before : List X) (x y : X) (r s : List ℕ) → format.MayBe before x → format.MayBe before y → format.bytes before x ++ r ≡ format.bytes before y ++ s → (x ≡ y) × (r ≡ s)
+use Rattle.hose_journal.specs.Entries.{Item, MayFollowItems, entries_in, item_bytes}
+use Rattle.hose_journal.specs.Image.{AreItems, IsDamaged, IsHeadless, IsListed, IsOther, IsUnbegun, IsUnmarked, IsVersion, Meaning, HasMeaning, damaged, front_of, head, listed, other, records}
+use Rattle.hose_journal.proofs.OneItem.{same_item}
 
 -- after these items stands no record: the gate is not open, or no whole record follows it
-abbrev pub EndsAt : {X : Type 0} → Format X → List X → List ℕ → Type 0
-EndsAt {X} format before tail = (item : X) (gate : ℕ) (rest : List ℕ) → format.MayBe before item → tail ≢ OPEN ∷ (format.bytes before item ++ gate ∷ rest)
+abbrev pub EndsAt : (List Entry → Entry → Type 0) → ℕ → List ℕ → List Item → List ℕ → Type 0
+EndsAt Takes version digest before tail = (item : Item) (gate : ℕ) (rest : List ℕ) → MayFollowItems Takes version before item → tail ≢ OPEN ∷ (item_bytes version digest before item ++ gate ∷ rest)
 
 -- ---- items
 
-module _ {X : Type 0} (format : Format X) (alone : AreAlone format) where
+module _ (Takes : List Entry → Entry → Type 0) (version : ℕ) (digest : List ℕ) (size : length digest ≡ DIGEST_BYTES) where
   -- a record that begins bytes, with a gate after it
-  opens_record : (before xs : List X) (x : X) (gate : ℕ) (r : List ℕ) → (next : ℕ) × (more : List ℕ) × (records format before (x ∷ xs) ++ gate ∷ r ≡ OPEN ∷ (format.bytes before x ++ next ∷ more))
-  opens_record before [] x gate r = (gate, r, ap (λ (l : List ℕ). OPEN ∷ (l ++ gate ∷ r)) (append-nil (format.bytes before x)))
-  opens_record before (y ∷ xs) x gate r = (OPEN, _, ap (λ (l : List ℕ). OPEN ∷ l) (append_assoc (format.bytes before x) (records format (before ++ x ∷ []) (y ∷ xs)) (gate ∷ r)))
+  opens_record : (before xs : List Item) (x : Item) (gate : ℕ) (r : List ℕ) → (next : ℕ) × (more : List ℕ) × (records version digest before (x ∷ xs) ++ gate ∷ r ≡ OPEN ∷ (item_bytes version digest before x ++ next ∷ more))
+  opens_record before [] x gate r = (gate, r, ap (λ (l : List ℕ). OPEN ∷ (l ++ gate ∷ r)) (append-nil (item_bytes version digest before x)))
+  opens_record before (y ∷ xs) x gate r = (OPEN, _, ap (λ (l : List ℕ). OPEN ∷ l) (append_assoc (item_bytes version digest before x) (records version digest (before ++ x ∷ []) (y ∷ xs)) (gate ∷ r)))
 
-  none_here : (before xs : List X) (x : X) (gate : ℕ) (r tail : List ℕ) → format.MayBe before x → EndsAt format before tail → records format before (x ∷ xs) ++ gate ∷ r ≢ tail
+  none_here : (before xs : List Item) (x : Item) (gate : ℕ) (r tail : List ℕ) → MayFollowItems Takes version before x → EndsAt Takes version digest before tail → records version digest before (x ∷ xs) ++ gate ∷ r ≢ tail
   none_here before xs x gate r tail may ends same =
       let opened = opens_record before xs x gate r in
       ends x opened.0 opened.1 may (sym same ∙ opened.2)
 
-  first_same : (before xs ys : List X) (x y : X) (r s : List ℕ) → format.MayBe before x → format.MayBe before y → records format before (x ∷ xs) ++ r ≡ records format before (y ∷ ys) ++ s
-      → (x ≡ y) × (records format (before ++ x ∷ []) xs ++ r ≡ records format (before ++ y ∷ []) ys ++ s)
+  first_same : (before xs ys : List Item) (x y : Item) (r s : List ℕ) → MayFollowItems Takes version before x → MayFollowItems Takes version before y → records version digest before (x ∷ xs) ++ r ≡ records version digest before (y ∷ ys) ++ s
+      → (x ≡ y) × (records version digest (before ++ x ∷ []) xs ++ r ≡ records version digest (before ++ y ∷ []) ys ++ s)
   first_same before xs ys x y r s may_x may_y same =
-      alone before x y (records format (before ++ x ∷ []) xs ++ r) (records format (before ++ y ∷ []) ys ++ s) may_x may_y
-      (sym (append_assoc (format.bytes before x) (records format (before ++ x ∷ []) xs) r) ∙ ap (λ (l : List ℕ). drop 1 l) same ∙ append_assoc (format.bytes before y) (records format (before ++ y ∷ []) ys) s)
+      same_item Takes version digest size before x y (records version digest (before ++ x ∷ []) xs ++ r) (records version digest (before ++ y ∷ []) ys ++ s) may_x may_y
+      (sym (append_assoc (item_bytes version digest before x) (records version digest (before ++ x ∷ []) xs) r) ∙ ap (λ (l : List ℕ). drop 1 l) same ∙ append_assoc (item_bytes version digest before y) (records version digest (before ++ y ∷ []) ys) s)
 
   -- items that stand where others end are the first of these
-  begins : (before xs ys : List X) (gate : ℕ) (r tail : List ℕ) → AreItems format before xs → AreItems format before ys → EndsAt format (before ++ ys) tail
-      → records format before xs ++ gate ∷ r ≡ records format before ys ++ tail → (zs : List X) × (ys ≡ xs ++ zs)
+  begins : (before xs ys : List Item) (gate : ℕ) (r tail : List ℕ) → AreItems Takes version before xs → AreItems Takes version before ys → EndsAt Takes version digest (before ++ ys) tail
+      → records version digest before xs ++ gate ∷ r ≡ records version digest before ys ++ tail → (zs : List Item) × (ys ≡ xs ++ zs)
   begins before [] ys gate r tail are_xs are_ys ends same = (ys, refl)
   begins before (x ∷ xs) [] gate r tail are_xs are_ys ends same =
-      absurd (none_here before xs x gate r tail are_xs.0 (subst (λ (all : List X). EndsAt format all tail) (append-nil before) ends) same)
+      absurd (none_here before xs x gate r tail are_xs.0 (subst (λ (all : List Item). EndsAt Takes version digest all tail) (append-nil before) ends) same)
   begins before (x ∷ xs) (y ∷ ys) gate r tail are_xs are_ys ends same =
       let parts = first_same before xs ys x y (gate ∷ r) tail are_xs.0 are_ys.0 same in
-      let one : before ++ x ∷ [] ≡ before ++ y ∷ [] = ap (λ (e : X). before ++ e ∷ []) parts.0 in
-      let more = begins (before ++ y ∷ []) xs ys gate r tail (subst (λ (all : List X). AreItems format all xs) one are_xs.1) are_ys.1
-      (subst (λ (all : List X). EndsAt format all tail) (sym (append_assoc before (y ∷ []) ys)) ends)
-      (ap (λ (all : List X). records format all xs ++ gate ∷ r) (sym one) ∙ parts.1) in
-      (more.0, ap (λ (e : X). e ∷ ys) (sym parts.0) ∙ ap (λ (l : List X). x ∷ l) more.1)
+      let one : before ++ x ∷ [] ≡ before ++ y ∷ [] = ap (λ (e : Item). before ++ e ∷ []) parts.0 in
+      let more = begins (before ++ y ∷ []) xs ys gate r tail (subst (λ (all : List Item). AreItems Takes version all xs) one are_xs.1) are_ys.1
+      (subst (λ (all : List Item). EndsAt Takes version digest all tail) (sym (append_assoc before (y ∷ []) ys)) ends)
+      (ap (λ (all : List Item). records version digest all xs ++ gate ∷ r) (sym one) ∙ parts.1) in
+      (more.0, ap (λ (e : Item). e ∷ ys) (sym parts.0) ∙ ap (λ (l : List Item). x ∷ l) more.1)
 
 both_first : {X : Type 0} (xs ys zs ws : List X) → ys ≡ xs ++ zs → xs ≡ ys ++ ws → xs ≡ ys
 both_first xs ys [] ws more less = sym (more ∙ append-nil xs)
@@ -92,17 +91,17 @@ head_of_other is = record { version = is.version; is_version = is.is_version; ta
 -- ---- an image that is read to its end
 
 -- items, and the gate at which they end
-pub record IsReadTo {X Y : Type 0} (reader : RecordReader X Y) (digest image : List ℕ) : Type 0 where
+pub record IsReadTo (Takes : List Entry → Entry → Type 0) (digest image : List ℕ) : Type 0 where
   pub version : ℕ
   pub is_version : IsVersion version
-  pub items : List X
-  pub are : AreItems (reader.format version digest) [] items
+  pub items : List Item
+  pub are : AreItems Takes version [] items
   pub gate : ℕ
   pub rest : List ℕ
-  pub is : image ≡ front (reader.format version digest) version digest items ++ gate ∷ rest
-  pub ends : EndsAt (reader.format version digest) items (gate ∷ rest)
+  pub is : image ≡ front_of version digest items ++ gate ∷ rest
+  pub ends : EndsAt Takes version digest items (gate ∷ rest)
 
-abbrev pub to_closed : {X Y : Type 0} {reader : RecordReader X Y} {digest image : List ℕ} {list : List Y} → IsListed reader digest list image → IsReadTo reader digest image
+abbrev pub to_closed : {Takes : List Entry → Entry → Type 0} {digest image : List ℕ} {list : List Entry} → IsListed Takes digest list image → IsReadTo Takes digest image
 to_closed is = record {
   version = is.version;
   is_version = is.is_version;
@@ -114,7 +113,7 @@ to_closed is = record {
   ends = λ item gate rest may same. is.closed.shut (ap (λ (l : List ℕ). get_or l 0 0) same);
 }
 
-abbrev to_damage : {X Y : Type 0} {reader : RecordReader X Y} {digest image : List ℕ} {place : ℕ} {list : List Y} → IsDamaged reader digest place list image → IsReadTo reader digest image
+abbrev to_damage : {Takes : List Entry → Entry → Type 0} {digest image : List ℕ} {place : ℕ} {list : List Entry} → IsDamaged Takes digest place list image → IsReadTo Takes digest image
 to_damage is = record {
   version = is.version;
   is_version = is.is_version;
@@ -126,58 +125,56 @@ to_damage is = record {
   ends = λ item gate rest may same. is.none item gate rest may (ap (λ (l : List ℕ). drop 1 l) same);
 }
 
-module _ {X Y : Type 0} (reader : RecordReader X Y) (digest : List ℕ) (size : length digest ≡ DIGEST_BYTES)
-    (alone : (version : ℕ) → AreAlone (reader.format version digest)) (image : List ℕ) where
+module _ (Takes : List Entry → Entry → Type 0) (digest : List ℕ) (size : length digest ≡ DIGEST_BYTES) (image : List ℕ) where
   -- what follows the head
-  after_head : (version : ℕ) (items : List X) (tail : List ℕ) → image ≡ front (reader.format version digest) version digest items ++ tail
-      → image ≡ head version digest ++ (records (reader.format version digest) [] items ++ tail)
-  after_head version items tail is = is ∙ append_assoc (head version digest) (records (reader.format version digest) [] items) tail
+  after_head : (version : ℕ) (items : List Item) (tail : List ℕ) → image ≡ front_of version digest items ++ tail → image ≡ head version digest ++ (records version digest [] items ++ tail)
+  after_head version items tail is = is ∙ append_assoc (head version digest) (records version digest [] items) tail
 
-  headed : IsReadTo reader digest image → IsHeaded digest image
+  headed : IsReadTo Takes digest image → IsHeaded digest image
   headed read = record {
     version = read.version;
     is_version = read.is_version;
-    tail = records (reader.format read.version digest) [] read.items ++ read.gate ∷ read.rest;
-    some = omega (arith, length-append (records (reader.format read.version digest) [] read.items) (read.gate ∷ read.rest));
+    tail = records read.version digest [] read.items ++ read.gate ∷ read.rest;
+    some = omega (arith, length-append (records read.version digest [] read.items) (read.gate ∷ read.rest));
     size = size;
     is = after_head read.version read.items (read.gate ∷ read.rest) read.is;
   }
 
   -- records with which it begins are the first of those that are read
-  pub read_first : (version : ℕ) (items : List X) (gate : ℕ) (rest : List ℕ) (read : IsReadTo reader digest image) → AreItems (reader.format version digest) [] items
-      → image ≡ front (reader.format version digest) version digest items ++ gate ∷ rest → (version ≡ read.version) × ((more : List X) × (read.items ≡ items ++ more))
+  pub read_first : (version : ℕ) (items : List Item) (gate : ℕ) (rest : List ℕ) (read : IsReadTo Takes digest image) → AreItems Takes version [] items
+      → image ≡ front_of version digest items ++ gate ∷ rest → (version ≡ read.version) × ((more : List Item) × (read.items ≡ items ++ more))
   read_first version items gate rest read are is =
-      let heads = same_heads version read.version digest digest (records (reader.format version digest) [] items ++ gate ∷ rest) (records (reader.format read.version digest) [] read.items ++ read.gate ∷ read.rest) refl
+      let heads = same_heads version read.version digest digest (records version digest [] items ++ gate ∷ rest) (records read.version digest [] read.items ++ read.gate ∷ read.rest) refl
       (sym (after_head version items (gate ∷ rest) is) ∙ after_head read.version read.items (read.gate ∷ read.rest) read.is) in (
         heads.0,
-        begins (reader.format read.version digest) (alone read.version) [] items read.items gate rest (read.gate ∷ read.rest) (subst (λ (v : ℕ). AreItems (reader.format v digest) [] items) heads.0 are) read.are read.ends
-            (ap (λ (v : ℕ). records (reader.format v digest) [] items ++ gate ∷ rest) (sym heads.0) ∙ heads.1.1),
+        begins Takes read.version digest size [] items read.items gate rest (read.gate ∷ read.rest) (subst (λ (v : ℕ). AreItems Takes v [] items) heads.0 are) read.are read.ends
+            (ap (λ (v : ℕ). records v digest [] items ++ gate ∷ rest) (sym heads.0) ∙ heads.1.1),
       )
 
   -- it is read in one way
-  one_way : (a b : IsReadTo reader digest image) → (a.items ≡ b.items) × ((front (reader.format a.version digest) a.version digest a.items ≡ front (reader.format b.version digest) b.version digest b.items) × (a.gate ≡ b.gate))
+  one_way : (a b : IsReadTo Takes digest image) → (a.items ≡ b.items) × ((front_of a.version digest a.items ≡ front_of b.version digest b.items) × (a.gate ≡ b.gate))
   one_way a b =
       let more = read_first a.version a.items a.gate a.rest b a.are a.is in
       let less = read_first b.version b.items b.gate b.rest a b.are b.is in
       let items = both_first a.items b.items more.1.0 less.1.0 more.1.1 less.1.1 in
-      let fronts : front (reader.format a.version digest) a.version digest a.items ≡ front (reader.format b.version digest) b.version digest b.items =
-      ap (λ (v : ℕ). front (reader.format v digest) v digest a.items) more.0 ∙ ap (λ (all : List X). front (reader.format b.version digest) b.version digest all) items in
-      let tails = same_parts (front (reader.format a.version digest) a.version digest a.items) (front (reader.format b.version digest) b.version digest b.items) (a.gate ∷ a.rest) (b.gate ∷ b.rest) (ap length fronts) (sym a.is ∙ b.is) in
+      let fronts : front_of a.version digest a.items ≡ front_of b.version digest b.items =
+      ap (λ (v : ℕ). front_of v digest a.items) more.0 ∙ ap (λ (all : List Item). front_of b.version digest all) items in
+      let tails = same_parts (front_of a.version digest a.items) (front_of b.version digest b.items) (a.gate ∷ a.rest) (b.gate ∷ b.rest) (ap length fronts) (sym a.is ∙ b.is) in
       (items, (fronts, ap (λ (l : List ℕ). get_or l 0 0) tails.1))
 
   -- ---- one meaning
 
-  listed_listed : (one two : List Y) → HasMeaning reader digest image (listed one) → HasMeaning reader digest image (listed two) → one ≡ two
+  listed_listed : (one two : List Entry) → HasMeaning Takes digest image (listed one) → HasMeaning Takes digest image (listed two) → one ≡ two
   listed_listed one two (inl none) (inl nothing) = none.1 ∙ sym nothing.1
   listed_listed one two (inl none) (inr b) = absurd (not_unbegun (headed (to_closed b)) none.0)
   listed_listed one two (inr a) (inl none) = absurd (not_unbegun (headed (to_closed a)) none.0)
-  listed_listed one two (inr a) (inr b) = sym a.view ∙ ap reader.view (one_way (to_closed a) (to_closed b)).0 ∙ b.view
+  listed_listed one two (inr a) (inr b) = sym a.view ∙ ap entries_in (one_way (to_closed a) (to_closed b)).0 ∙ b.view
 
-  listed_other : (one : List Y) (kept : List ℕ) → HasMeaning reader digest image (listed one) → ¬ IsOther digest kept image
+  listed_other : (one : List Entry) (kept : List ℕ) → HasMeaning Takes digest image (listed one) → ¬ IsOther digest kept image
   listed_other one kept (inl none) is = not_unbegun (head_of_other is) none.0
   listed_other one kept (inr a) is = is.differs (one_head (head_of_other is) digest (headed (to_closed a))).1.0
 
-  listed_damaged : (one : List Y) (at : ℕ) → HasMeaning reader digest image (listed one) → ¬ HasMeaning reader digest image (damaged at)
+  listed_damaged : (one : List Entry) (at : ℕ) → HasMeaning Takes digest image (listed one) → ¬ HasMeaning Takes digest image (damaged at)
   listed_damaged one at (inl none) (inl (headless, zero_at)) = elim none.0 [
     | inl short ↦ omega (arith, short, headless.long)
     | inr exact ↦ omega (arith, exact.0, headless.long)
@@ -191,12 +188,12 @@ module _ {X Y : Type 0} (reader : RecordReader X Y) (digest : List ℕ) (size : 
   listed_damaged one at (inr a) (inr (inl (unmarked, one_at))) = not_unmarked (headed (to_closed a)) unmarked
   listed_damaged one at (inr a) (inr (inr (list, b))) = a.closed.shut (one_way (to_closed a) (to_damage b)).1.1
 
-  other_damaged : (kept : List ℕ) (at : ℕ) → IsOther digest kept image → ¬ HasMeaning reader digest image (damaged at)
+  other_damaged : (kept : List ℕ) (at : ℕ) → IsOther digest kept image → ¬ HasMeaning Takes digest image (damaged at)
   other_damaged kept at is (inl (headless, zero_at)) = not_headless (head_of_other is) headless
   other_damaged kept at is (inr (inl (unmarked, one_at))) = not_unmarked (head_of_other is) unmarked
   other_damaged kept at is (inr (inr (list, b))) = is.differs (one_head (head_of_other is) digest (headed (to_damage b))).1.0
 
-  damaged_once : (one two : ℕ) → HasMeaning reader digest image (damaged one) → HasMeaning reader digest image (damaged two) → one ≡ two
+  damaged_once : (one two : ℕ) → HasMeaning Takes digest image (damaged one) → HasMeaning Takes digest image (damaged two) → one ≡ two
   damaged_once one two (inl (headless, zero_at)) (inl (also, is_zero)) = zero_at ∙ sym is_zero
   damaged_once one two (inl (headless, zero_at)) (inr (inl (unmarked, one_at))) = absurd (headless.shut unmarked.begun)
   damaged_once one two (inl (headless, zero_at)) (inr (inr (list, b))) = absurd (not_headless (headed (to_damage b)) headless)
@@ -207,8 +204,8 @@ module _ {X Y : Type 0} (reader : RecordReader X Y) (digest : List ℕ) (size : 
   damaged_once one two (inr (inr (first, a))) (inr (inl (unmarked, one_at))) = absurd (not_unmarked (headed (to_damage a)) unmarked)
   damaged_once one two (inr (inr (first, a))) (inr (inr (list, b))) = a.here ∙ ap length (one_way (to_damage a) (to_damage b)).1.0 ∙ sym b.here
 
-  pub one_meaning : (one two : Meaning Y) → HasMeaning reader digest image one → HasMeaning reader digest image two → one ≡ two
-  one_meaning (listed one) (listed two) is also = ap (λ (list : List Y). listed list) (listed_listed one two is also)
+  pub one_meaning : (one two : Meaning Entry) → HasMeaning Takes digest image one → HasMeaning Takes digest image two → one ≡ two
+  one_meaning (listed one) (listed two) is also = ap (λ (list : List Entry). listed list) (listed_listed one two is also)
   one_meaning (listed one) (other kept) is also = absurd (listed_other one kept is also)
   one_meaning (listed one) (damaged at) is also = absurd (listed_damaged one at is also)
   one_meaning (other kept) (listed two) is also = absurd (listed_other two kept also is)

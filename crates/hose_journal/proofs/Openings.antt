@@ -10,9 +10,9 @@ use Rattle.hose_journal.specs.declared.fault.JournalFault.{JournalFault}
 use Rattle.hose_journal.specs.declared.fault.JournalFault.TheVariants.{Disk, Other, Damaged, Memory}
 use Rattle.hose_journal.specs.declared.layout.TheConstants.{OPEN, MARK, CHAINED, DIGEST_BYTES, EMPTY_BYTES, HEAD_BYTES, PIECE_BYTES}
 use Rattle.hose_journal.specs.declared.piece.Piece.{Piece}
-use Rattle.hose_journal.specs.Entries.{front_of}
-use Rattle.hose_journal.specs.steps.Entries.{entries_reader, IsListOf}
-use Rattle.hose_journal.specs.Image.{IsUnbegun, IsVersion, IsHeadless, IsUnmarked, IsOther, IsClosed, head}
+use Rattle.hose_journal.specs.Entries.{TakesAny}
+use Rattle.hose_journal.specs.steps.Entries.{IsListOf}
+use Rattle.hose_journal.specs.Image.{IsUnbegun, IsVersion, IsHeadless, IsUnmarked, IsOther, IsClosed, head, front_of}
 use Rattle.hose_journal.specs.Moments.{Images, LeavesOnly}
 use Rattle.hose_journal.specs.steps.Moments.{ReadsItsImages}
 use Rattle.hose_journal.specs.Opening.{AddsNoRecord, HasNoRecord}
@@ -181,7 +181,7 @@ module _ {D : Type 0} (disk : Ghosts D) where
 
   no_record_list : (digest image : List ℕ) → HasNoRecord digest image → IsListOf digest [] image
   no_record_list digest image (inl unbegun) = inl (unbegun, refl)
-  no_record_list digest image (inr closed) = closed_is_list entries_reader CHAINED digest image [] (inr refl) tt closed
+  no_record_list digest image (inr closed) = closed_is_list TakesAny CHAINED digest image [] (inr refl) tt closed
 
   -- what is read after the writes that begin a journal, which may have failed
   pub adds_none : (old loaded begun : D) (digest : List ℕ) → disk.content loaded ≡ disk.content old → IfSome (disk.content loaded) IsUnbegun → LeavesOnly disk loaded begun (HasNoRecord digest)
@@ -210,7 +210,7 @@ module _ {D : Type 0} (disk : Ghosts D) where
   pub list_new : (old loaded begun now : D) (digest : List ℕ) → disk.content loaded ≡ disk.content old → OnlyRead disk begun now → IfSome (disk.content loaded) IsUnbegun → IfSome (disk.content begun) (IsClosed (front_of CHAINED digest []))
       → KeepsList (disk.content old) (disk.content now) digest
   list_new old loaded begun now digest same only unbegun closed =
-      inr (along _ _ _ (sym same) unbegun, along _ _ _ only.same (each (disk.content begun) _ _ (λ bytes is. closed_is_list entries_reader CHAINED digest bytes [] (inr refl) tt is) closed))
+      inr (along _ _ _ (sym same) unbegun, along _ _ _ only.same (each (disk.content begun) _ _ (λ bytes is. closed_is_list TakesAny CHAINED digest bytes [] (inr refl) tt is) closed))
 
   -- a journal that was begun is not that short
   short_by : (a b : Option (List ℕ)) (digest : List ℕ) (end : ℕ) (P : List ℕ → Type 0) → length digest ≡ DIGEST_BYTES → end ≤ HEAD_BYTES → is_some b ≡ is_some a → IfSome b (λ bytes. length bytes ≡ end) → IfSome b (IsClosed (front_of CHAINED digest [])) → IfSome a P

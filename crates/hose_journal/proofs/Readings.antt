@@ -14,9 +14,9 @@ use Rattle.hose_journal.specs.declared.part.Found.{Found}
 use Rattle.hose_journal.specs.declared.reading.Reading.{Reading}
 use Rattle.hose_journal.specs.steps.AtGate.{BeginsEntry, BeginsNoEntry, BeginsSeal, IsOpenBefore, IsPart, IsShut}
 use Rattle.hose_journal.specs.Chain.{chain}
-use Rattle.hose_journal.specs.Entries.{Item, entered, entries_format, entries_in, entry_bytes, front_of, item_bytes, seal_bytes, sealed}
-use Rattle.hose_journal.specs.steps.Entries.{entries_reader, IsListOf}
-use Rattle.hose_journal.specs.Image.{BeginsNoRecord, IsDamaged, IsClosed}
+use Rattle.hose_journal.specs.Entries.{Item, TakesAny, entered, entries_in, entry_bytes, item_bytes, seal_bytes, sealed}
+use Rattle.hose_journal.specs.steps.Entries.{IsListOf}
+use Rattle.hose_journal.specs.Image.{BeginsNoRecord, IsDamaged, IsClosed, front_of}
 use Rattle.hose_journal.specs.steps.Journal.{Stands}
 use Rattle.hose_journal.specs.steps.Reading.{AtGate, HasRead, IsAtNoSeal, IsAtClosedGate, IsAtEntry, IsReadUpTo, CoversRecord, Reads, held_from}
 use Rattle.hose_journal.proofs.Chains.{length-chain}
@@ -132,7 +132,7 @@ module _ {D : Type 0} (disk : Ghosts D) (reading : Reading D) (digest : List ℕ
     bytes_are = item_bytes reads.version digest reads.items item
 
     next_front : front_of reads.version digest (reads.items ++ item ∷ []) ≡ here ++ OPEN ∷ bytes_are
-    next_front = front_more (entries_format reads.version digest) reads.version digest reads.items item
+    next_front = front_more reads.version digest reads.items item
 
     item_told : IfSome content (IsReadUpTo reads.version digest (reads.items ++ item ∷ []) reading.end)
     item_told = told (IsReadUpTo reads.version digest (reads.items ++ item ∷ []) reading.end) (λ bytes upto seen. record {
@@ -171,7 +171,7 @@ module _ {D : Type 0} (disk : Ghosts D) (reading : Reading D) (digest : List ℕ
           before = reads.items;
           is_version = reads.is_version;
           entries_are = reads.entries_are;
-          are = items_more (entries_format reads.version digest) [] reads.items (entered entry) reads.are begins.is_entry;
+          are = items_more TakesAny reads.version [] reads.items (entered entry) reads.are (begins.is_entry, tt);
           here = reads.place;
           within = item_within (entered entry) begins.gate begins.rest is;
           told = item_told (entered entry) begins.gate begins.rest is;
@@ -190,7 +190,7 @@ module _ {D : Type 0} (disk : Ghosts D) (reading : Reading D) (digest : List ℕ
     });
   }
 
-  broken : (rest : List ℕ) → BeginsNoRecord (entries_format reads.version digest) reads.items rest → (bytes : List ℕ) → bytes ≡ here ++ OPEN ∷ rest → IsDamaged entries_reader digest reading.gate entries bytes
+  broken : (rest : List ℕ) → BeginsNoRecord TakesAny digest reads.version reads.items rest → (bytes : List ℕ) → bytes ≡ here ++ OPEN ∷ rest → IsDamaged TakesAny digest reading.gate entries bytes
   broken rest none bytes is = record {
     version = reads.version;
     is_version = reads.is_version;
@@ -205,11 +205,11 @@ module _ {D : Type 0} (disk : Ghosts D) (reading : Reading D) (digest : List ℕ
 
   -- no record where there is none of an entry, and none of a seal where one may be
   none_of_items : (rest : List ℕ) → BeginsNoEntry reading.sealed digest entries rest → (IsFalse reading.sealed → (gate : ℕ) (more : List ℕ) → rest ≢ seal_bytes reading.chain ++ gate ∷ more)
-      → BeginsNoRecord (entries_format reads.version digest) reads.items rest
+      → BeginsNoRecord TakesAny digest reads.version reads.items rest
   none_of_items rest none no_seal (entered entry) gate more is same = none entry (record {
     gate = gate;
     rest = more;
-    is_entry = is;
+    is_entry = is.0;
     is = same ∙ ap (λ (l : List ℕ). l ++ gate ∷ more) (record_is entry);
   })
   none_of_items rest none no_seal sealed gate more plain same =
@@ -217,7 +217,7 @@ module _ {D : Type 0} (disk : Ghosts D) (reading : Reading D) (digest : List ℕ
       no_seal (sym reads.sealed ∙ plain) gate more (same ∙ ap (λ (l : List ℕ). seal_bytes l ++ gate ∷ more) value)
 
   bad_told : (held ≡ []) ⊎ IsOpenBefore (BeginsNoEntry reading.sealed digest entries) held → IsAtNoSeal reading → (bytes : List ℕ) (upto : IsReadUpTo reads.version digest reads.items reading.end bytes) → Sees upto.rest held
-      → IsDamaged entries_reader digest reading.gate entries bytes
+      → IsDamaged TakesAny digest reading.gate entries bytes
   bad_told (inl nothing) no_seal bytes upto seen =
       let size : length held ≡ 0 = ap length nothing in
       let some : 1 ≤ length upto.rest = omega (arith, reads.within, reads.place, upto.long, ap length upto.is, length-append here upto.rest) in
@@ -241,7 +241,7 @@ module _ {D : Type 0} (disk : Ghosts D) (reading : Reading D) (digest : List ℕ
   at_gate (Ok (Some found)) no_seal is =
       let it = is.holds in (next_at found.entry (record { rest = is.rest; is = is.is; holds = it.begins }), it.value, it.far)
   at_gate (Ok None) no_seal is = end_at is
-  at_gate (Err Bad) no_seal is = told (IsDamaged entries_reader digest reading.gate entries) (bad_told is no_seal)
+  at_gate (Err Bad) no_seal is = told (IsDamaged TakesAny digest reading.gate entries) (bad_told is no_seal)
   at_gate (Err Wanting) no_seal is = (is.0, next_at is.0 is.1)
 
   -- ---- past a seal
@@ -259,7 +259,7 @@ module _ {D : Type 0} (disk : Ghosts D) (reading : Reading D) (digest : List ℕ
         is_version = reads.is_version;
         entries_are = entries_seal reads.items ∙ reads.entries_are;
         size = reads.size;
-        are = items_more (entries_format reads.version digest) [] reads.items sealed reads.are (reads.sealed ∙ plain);
+        are = items_more TakesAny reads.version [] reads.items sealed reads.are (reads.sealed ∙ plain);
         place = omega (arith, next, long);
         within = omega (arith, next, long, item_within sealed begins.gate begins.rest is);
         small = reads.small;
@@ -317,7 +317,7 @@ reads_next disk reading digest entries found reads going at_it =
     let is : bytes ≡ entry_bytes reading.sealed digest entries found.entry =
     ap (λ (b : Bool). entry_bytes b digest (entries_in before) found.entry) next.sealed ∙ ap (λ (l : List Entry). entry_bytes reading.sealed digest l found.entry) it.entries_are in
     let place : length (front_of version digest (before ++ item ∷ [])) ≡ reading.gate + found.distance =
-    omega (arith, it.here, at_it.2, ap length is, ap length (front_more (entries_format version digest) version digest before item), length-append (front_of version digest before) (OPEN ∷ bytes)) in
+    omega (arith, it.here, at_it.2, ap length is, ap length (front_more version digest before item), length-append (front_of version digest before) (OPEN ∷ bytes)) in
     record {
       version = version;
       items = before ++ item ∷ [];
@@ -349,7 +349,7 @@ closed_images found P image told same = subst (λ (found : Option (List ℕ)). I
 pub read_list : {D : Type 0} (disk : Ghosts D) (reading : Reading D) (digest : List ℕ) (entries : List Entry) → Reads disk reading digest entries → IsTrue reading.closed → IfSome (disk.content reading.disk) (IsListOf digest entries)
 read_list disk reading digest entries reads closed =
     told_so (IsClosed (front_of reads.version digest reads.items)) (IsListOf digest entries)
-    (λ bytes is. subst (λ (l : List Entry). IsListOf digest l bytes) reads.entries_are (closed_is_list entries_reader reads.version digest bytes reads.items reads.is_version reads.are is)) (disk.content reading.disk) (reads.closed closed)
+    (λ bytes is. subst (λ (l : List Entry). IsListOf digest l bytes) reads.entries_are (closed_is_list TakesAny reads.version digest bytes reads.items reads.is_version reads.are is)) (disk.content reading.disk) (reads.closed closed)
 
 -- at a closed gate the journal stands for the entries that were read
 pub finished : {D : Type 0} (disk : Ghosts D) (reading : Reading D) (digest : List ℕ) (entries : List Entry) → Reads disk reading digest entries → IsTrue reading.closed

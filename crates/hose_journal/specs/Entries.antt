@@ -6,7 +6,6 @@ use Rattle.hose_graph.specs.declared.entry.Entry.{Entry}
 use Rattle.hose_codec.specs.Spelling.{spelling, IsEntry}
 use Rattle.hose_journal.specs.Layout.{chained_version, length_bytes, seal_kind, seal_body_bytes}
 use Rattle.hose_journal.specs.Chain.{chain}
-use Rattle.hose_journal.specs.Image.{Format, RecordReader, front}
 
 -- ---- what stands in a journal
 
@@ -59,36 +58,15 @@ item_bytes version digest before (entered entry) =
     entry_bytes (is_chained version before) digest (entries_in before) entry
 item_bytes version digest before sealed = seal_bytes (chain digest (entries_in before))
 
--- an entry with a spelling, or a seal where records have no chain values yet
-abbrev pub MayFollowItems : ℕ → List Item → Item → Type 0
-MayFollowItems version before (entered entry) = IsEntry entry
-MayFollowItems version before sealed = is_chained version before ≡ false
+-- ---- what may follow
 
--- the format of the records of entries and seals
-abbrev pub entries_format : ℕ → List ℕ → Format Item
-entries_format version digest = record {
-  bytes = item_bytes version digest;
-  MayBe = MayFollowItems version;
-}
+-- any entry is taken after any others
+abbrev pub TakesAny : List Entry → Entry → Type 0
+TakesAny before entry = ⊤
 
--- what stands before the gate after these items
-abbrev pub front_of : ℕ → List ℕ → List Item → List ℕ
-front_of version digest items = front (entries_format version digest) version digest items
-
--- ---- fewer entries
-
--- an item that is taken: a seal, or an entry that may follow the entries before it
-abbrev pub MayBeNext : (List Entry → Entry → Type 0) → List Item → Item → Type 0
-MayBeNext Takes before (entered entry) = Takes (entries_in before) entry
-MayBeNext Takes before sealed = ⊤
-
--- The records are those of a journal, but fewer of them may stand: for a book, the entries that are
--- sound after those before them.
-abbrev pub narrow_reader : (List Entry → Entry → Type 0) → RecordReader Item Entry
-narrow_reader Takes = record {
-  format = λ version digest. record {
-    bytes = item_bytes version digest;
-    MayBe = λ before item. MayFollowItems version before item × MayBeNext Takes before item;
-  };
-  view = entries_in;
-}
+-- an entry with a spelling that is taken after the entries before it, or a seal where records have
+-- no chain values yet
+abbrev pub MayFollowItems : (List Entry → Entry → Type 0) → ℕ → List Item → Item → Type 0
+MayFollowItems Takes version before (entered entry) =
+    IsEntry entry × Takes (entries_in before) entry
+MayFollowItems Takes version before sealed = is_chained version before ≡ false

@@ -1,6 +1,9 @@
--- What an image of a disk stands for: a list, the journal of another topology, or damage at a
--- place. The format of the records is a parameter, and so is the list that they say.
+-- What an image of a disk stands for: entries, the journal of another topology, or damage at a
+-- place. Which entries are taken after those before them is a parameter: for a book, those that are
+-- sound there.
 use Rattle.std.specs.Prelude.{◌≡◌, ◌≢◌, ◌⊎◌, ℕ, ◌<◌, ◌≤◌, List, [], ◌∷◌, ◌++◌, length, take, drop, slice_index, ⊤}
+use Rattle.hose_graph.specs.declared.entry.Entry.{Entry}
+use Rattle.hose_journal.specs.Entries.{Item, MayFollowItems, entries_in, item_bytes}
 use Rattle.hose_journal.specs.Layout.{open_gate, head_mark, version_place, plain_version, chained_version, digest_bytes, empty_bytes}
 
 -- ---- the layout
@@ -9,31 +12,25 @@ use Rattle.hose_journal.specs.Layout.{open_gate, head_mark, version_place, plain
 abbrev pub IsVersion : ℕ → Type 0
 IsVersion version = (version ≡ plain_version) ⊎ (version ≡ chained_version)
 
--- A format of records: the bytes of an item's record, from after its gate up to the next gate, and
--- which items there may be. Both may depend on the items before it.
-pub record Format (X : Type 0) : Type 1 where
-  pub bytes : List X → X → List ℕ
-  pub MayBe : List X → X → Type 0
-
 -- the records of these items, each after an open gate, where others stand before them
-abbrev pub records : {X : Type 0} → Format X → List X → List X → List ℕ
-records format before [] = []
-records format before (item ∷ items) =
-    open_gate ∷ (format.bytes before item ++ records format (before ++ item ∷ []) items)
+abbrev pub records : ℕ → List ℕ → List Item → List Item → List ℕ
+records version digest before [] = []
+records version digest before (item ∷ items) = open_gate
+    ∷ (item_bytes version digest before item ++ records version digest (before ++ item ∷ []) items)
 
 -- each of these items may come after those before it
-abbrev pub AreItems : {X : Type 0} → Format X → List X → List X → Type 0
-AreItems format before [] = ⊤
-AreItems format before (item ∷ items) =
-    format.MayBe before item × AreItems format (before ++ item ∷ []) items
+abbrev pub AreItems : (List Entry → Entry → Type 0) → ℕ → List Item → List Item → Type 0
+AreItems Takes version before [] = ⊤
+AreItems Takes version before (item ∷ items) =
+    MayFollowItems Takes version before item × AreItems Takes version (before ++ item ∷ []) items
 
 -- the head of a journal: an open gate, the mark, the version and the digest of the topology
 abbrev pub head : ℕ → List ℕ → List ℕ
 head version digest = open_gate ∷ (head_mark ++ version ∷ digest)
 
 -- what stands before the gate that follows these items
-abbrev pub front : {X : Type 0} → Format X → ℕ → List ℕ → List X → List ℕ
-front format version digest items = head version digest ++ records format [] items
+abbrev pub front_of : ℕ → List ℕ → List Item → List ℕ
+front_of version digest items = head version digest ++ records version digest [] items
 
 -- ---- reading an image
 
@@ -78,45 +75,40 @@ pub record IsClosed (before image : List ℕ) : Type 0 where
   pub shut : gate ≢ open_gate
   pub is : image ≡ before ++ gate ∷ rest
 
--- No whole record begins these bytes. A record is whole where the next gate is there too.
-abbrev pub BeginsNoRecord : {X : Type 0} → Format X → List X → List ℕ → Type 0
-BeginsNoRecord {X} format before bytes = (item : X) (gate : ℕ) (rest : List ℕ) →
-    format.MayBe before item → bytes ≢ format.bytes before item ++ gate ∷ rest
+module _ (Takes : List Entry → Entry → Type 0) (digest : List ℕ) where
+  -- No whole record begins these bytes. A record is whole where the next gate is there too.
+  abbrev pub BeginsNoRecord : ℕ → List Item → List ℕ → Type 0
+  BeginsNoRecord version before bytes = (item : Item) (gate : ℕ) (rest : List ℕ) →
+      MayFollowItems Takes version before item →
+      bytes ≢ item_bytes version digest before item ++ gate ∷ rest
 
--- The records of a head, by its version and digest, and the list that items say to those who call.
-pub record RecordReader (X Y : Type 0) : Type 1 where
-  pub format : ℕ → List ℕ → Format X
-  pub view : List X → List Y
+  -- After items that say these entries, an open gate at this place, which begins no whole record.
+  pub record IsDamaged (place : ℕ) (entries : List Entry) (image : List ℕ) : Type 0 where
+    pub version : ℕ
+    pub is_version : IsVersion version
+    pub items : List Item
+    pub view : entries_in items ≡ entries
+    pub rest : List ℕ
+    pub are : AreItems Takes version [] items
+    pub here : place ≡ length (front_of version digest items)
+    pub is : image ≡ front_of version digest items ++ open_gate ∷ rest
+    pub none : BeginsNoRecord version items rest
 
--- After items that say this list, an open gate at this place, which begins no whole record.
-pub record IsDamaged {X Y : Type 0} (reader : RecordReader X Y) (digest : List ℕ) (place : ℕ)
-    (list : List Y) (image : List ℕ) : Type 0 where
-  pub version : ℕ
-  pub is_version : IsVersion version
-  pub items : List X
-  pub view : reader.view items ≡ list
-  pub rest : List ℕ
-  pub are : AreItems (reader.format version digest) [] items
-  pub here : place ≡ length (front (reader.format version digest) version digest items)
-  pub is : image ≡ front (reader.format version digest) version digest items ++ open_gate ∷ rest
-  pub none : BeginsNoRecord (reader.format version digest) items rest
+  -- Items that say these entries, each after an open gate, and then a gate that is not open.
+  pub record IsListed (entries : List Entry) (image : List ℕ) : Type 0 where
+    pub version : ℕ
+    pub is_version : IsVersion version
+    pub items : List Item
+    pub view : entries_in items ≡ entries
+    pub are : AreItems Takes version [] items
+    pub closed : IsClosed (front_of version digest items) image
 
--- Items that say this list, each after an open gate, and then a gate that is not open.
-pub record IsListed {X Y : Type 0} (reader : RecordReader X Y) (digest : List ℕ) (list : List Y)
-    (image : List ℕ) : Type 0 where
-  pub version : ℕ
-  pub is_version : IsVersion version
-  pub items : List X
-  pub view : reader.view items ≡ list
-  pub are : AreItems (reader.format version digest) [] items
-  pub closed : IsClosed (front (reader.format version digest) version digest items) image
-
--- What an image stands for under the digest of a topology.
-abbrev pub HasMeaning : {X Y : Type 0} → RecordReader X Y → List ℕ → List ℕ → Meaning Y → Type 0
-HasMeaning reader digest image (listed list) =
-    (IsUnbegun image × (list ≡ [])) ⊎ IsListed reader digest list image
-HasMeaning reader digest image (other kept) = IsOther digest kept image
-HasMeaning {X} {Y} reader digest image (damaged place) =
-    (IsHeadless image × (place ≡ 0))
-    ⊎ ((IsUnmarked image × (place ≡ 1))
-    ⊎ ((list : List Y) × IsDamaged reader digest place list image))
+  -- What an image stands for under the digest of a topology.
+  abbrev pub HasMeaning : List ℕ → Meaning Entry → Type 0
+  HasMeaning image (listed entries) =
+      (IsUnbegun image × (entries ≡ [])) ⊎ IsListed entries image
+  HasMeaning image (other kept) = IsOther digest kept image
+  HasMeaning image (damaged place) =
+      (IsHeadless image × (place ≡ 0))
+      ⊎ ((IsUnmarked image × (place ≡ 1))
+      ⊎ ((entries : List Entry) × IsDamaged place entries image))

@@ -3,8 +3,7 @@ use Rattle.std.specs.Prelude.{◌≡◌, ◌⊎◌, ℕ, List, [], Option, IfSom
 use Rattle.hose_io.specs.Frame.{Stays}
 use Rattle.hose_disk.specs.Disk.{object_frame}
 use Rattle.hose_disk.specs.declared.disk.Disk.{Ghosts}
-use Rattle.hose_journal.specs.Entries.{front_of}
-use Rattle.hose_journal.specs.Image.{IsClosed, IsUnbegun}
+use Rattle.hose_journal.specs.Image.{IsClosed, IsUnbegun, front_of}
 use Rattle.hose_journal.specs.Layout.{chained_version}
 use Rattle.hose_journal.specs.Moments.{TellsAsBefore}
 

@@ -1,8 +1,7 @@
 // Beginning a journal. Until the last write a stop leaves one that was not begun.
 ghost use Rattle.std.specs.Prelude.{◌≡◌, ◌∷◌, ◌++◌, [], OnOk};
 ghost use Rattle.hose_disk.specs.steps.Disk.{IsCalled};
-ghost use Rattle.hose_journal.specs.Entries.{front_of};
-ghost use Rattle.hose_journal.specs.Image.{IsClosed, IsUnbegun};
+ghost use Rattle.hose_journal.specs.Image.{IsClosed, IsUnbegun, front_of};
 ghost use Rattle.hose_journal.specs.declared.layout.TheConstants.{CHAINED};
 ghost use Rattle.hose_journal.specs.Moments.{Images, LeavesOnly, TellsAsBefore};
 ghost use Rattle.hose_journal.specs.steps.Moments.{ReadsItsImages};

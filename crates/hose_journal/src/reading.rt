@@ -3,7 +3,7 @@ ghost use Rattle.std.specs.Prelude.{◌≡◌, ◌≤◌, ◌++◌, [], List, �
 ghost use Rattle.hose_graph.specs.declared.entry.Entry.{Entry};
 ghost use Rattle.hose_journal.specs.steps.AtGate.{BeginsSeal};
 ghost use Rattle.hose_journal.specs.Chain.{chain};
-ghost use Rattle.hose_journal.specs.Entries.{Item, entries_format, entries_in};
+ghost use Rattle.hose_journal.specs.Entries.{Item, TakesAny, entries_in};
 ghost use Rattle.hose_journal.specs.steps.Entries.{IsListOf};
 ghost use Rattle.hose_journal.specs.Image.{AreItems, IsVersion};
 ghost use Rattle.hose_journal.specs.steps.Image.{journal_bytes};
@@ -276,9 +276,9 @@ impl<D: Disk> Reading<D> {
 /// image is read as two.
 pub fn law_one_list(digest: &[u8; DIGEST_BYTES])
     ensures read { (version : ℕ) → (items : List Item) → (rest : List ℕ) → IsVersion version →
-        AreItems (entries_format version digest.now) [] items →
+        AreItems TakesAny version [] items →
         IsListOf digest.now (entries_in items)
-        (journal_bytes (entries_format version digest.now) version digest.now items ++ rest) }
+        (journal_bytes version digest.now items ++ rest) }
     ensures alone { (image : List ℕ) → (one other : List Entry) → IsListOf digest.now one image →
         IsListOf digest.now other image → one ≡ other }
 {}

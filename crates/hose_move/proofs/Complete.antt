@@ -10,10 +10,9 @@ use Rattle.hose_law.specs.Book.{Book}
 use Rattle.hose_law.specs.History.{IsSound, IsSoundAt, book_after, next_book, opening_book, AreFrom}
 use Rattle.hose_disk.specs.declared.disk.Disk.{Ghosts}
 use Rattle.hose_journal.specs.declared.layout.TheConstants.{DIGEST_BYTES}
-use Rattle.hose_journal.specs.Entries.{Item, entered, entries_format, entries_in, front_of, sealed}
-use Rattle.hose_journal.specs.steps.Entries.{IsListOf, entries_reader}
-use Rattle.hose_journal.specs.Image.{damaged, head, listed, other, records}
-use Rattle.hose_journal.proofs.OneList.{same_item}
+use Rattle.hose_journal.specs.Entries.{Item, TakesAny, entered, entries_in, sealed}
+use Rattle.hose_journal.specs.steps.Entries.{IsListOf}
+use Rattle.hose_journal.specs.Image.{damaged, head, listed, other, records, front_of}
 use Rattle.hose_journal.proofs.OneMeaning.{head_begun, read_first, to_closed}
 use Rattle.hose_store.specs.Entries.{BeginsWith}
 use Rattle.hose_store.specs.Recovery.{IsRecoveredAs, digest_of}
@@ -55,11 +54,11 @@ entries_both (sealed ∷ xs) ys = entries_both xs ys
 begins_list : (digest bytes : List ℕ) (entries had : List Entry) → length digest ≡ DIGEST_BYTES → (begun : BeginsWith digest entries bytes) (rest : List ℕ) → begun.rest ≡ rest → IsListOf digest had bytes → IsPrefix entries had
 begins_list digest bytes entries had size begun [] none is = absurd (omega (arith, begun.some, ap length none))
 begins_list digest bytes entries had size begun (gate ∷ rest) some (inl (unbegun, none)) =
-    let all = records (entries_format begun.version digest) [] begun.items in
+    let all = records begun.version digest [] begun.items in
     absurd (head_begun bytes begun.version digest (all ++ gate ∷ rest) size (omega (arith, length-append all (gate ∷ rest)))
     (begun.is ∙ ap (λ (l : List ℕ). front_of begun.version digest begun.items ++ l) some ∙ append_assoc (head begun.version digest) all (gate ∷ rest)) unbegun)
 begins_list digest bytes entries had size begun (gate ∷ rest) some (inr is) =
-    let first = read_first entries_reader digest size (λ version before x y r s may_x may_y same. same_item version digest size before x y r s may_x may_y same) bytes begun.version begun.items gate rest (to_closed is) begun.are
+    let first = read_first TakesAny digest size bytes begun.version begun.items gate rest (to_closed is) begun.are
     (begun.is ∙ ap (λ (l : List ℕ). front_of begun.version digest begun.items ++ l) some) in
     let more = first.1.0 in
     (entries_in more, ap (λ (l : List Entry). l ++ entries_in more) (sym begun.entries_are) ∙ sym (entries_both begun.items more) ∙ ap entries_in (sym first.1.1) ∙ is.view)

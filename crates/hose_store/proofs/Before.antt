@@ -10,9 +10,9 @@ use Rattle.hose_journal.specs.declared.fault.JournalFault.{JournalFault}
 use Rattle.hose_journal.specs.declared.fault.JournalFault.TheVariants as journal
 use Rattle.hose_journal.specs.declared.prepared.Ready.{Ready}
 use Rattle.hose_journal.specs.declared.reading.Reading.{Reading}
-use Rattle.hose_journal.specs.Entries.{narrow_reader}
+use Rattle.hose_journal.specs.Entries.{TakesAny}
 use Rattle.hose_journal.specs.Image.{IsDamaged}
-use Rattle.hose_journal.specs.steps.Entries.{IsListOf, entries_reader}
+use Rattle.hose_journal.specs.steps.Entries.{IsListOf}
 use Rattle.hose_journal.specs.steps.Opening.{HasNoHead, IsRefusedJournal, KeepsList}
 use Rattle.hose_journal.specs.steps.Reading.{HasRead, OnlyRead}
 use Rattle.hose_journal.proofs.Narrow.{broken_narrowed}
@@ -68,14 +68,14 @@ module _ {D : Type 0} (disk : Ghosts D) where
   fault_before old before after entries given (journal.Damaged at) same has =
       let digest = digest_of old.network in
       subst (λ (content : Option (List ℕ)). IfSome content (IsDamagedAfter old.network entries at)) (sym same)
-      (told_each (disk.content before.disk) (IsDamaged entries_reader digest at entries) (IsDamagedAfter old.network entries at) (λ bytes broken. inr (broken_narrowed (IsSoundAfter old.network) digest at entries bytes given.sound broken)) has.1)
+      (told_each (disk.content before.disk) (IsDamaged TakesAny digest at entries) (IsDamagedAfter old.network entries at) (λ bytes broken. inr (broken_narrowed (IsSoundAfter old.network) digest at entries bytes given.sound broken)) has.1)
   fault_before old before after entries given journal.Memory same has = tt
 
   -- an entry that is not sound
   pub unsound_before : (old : Ledger) (before after : Reading D) (entries : List Entry) (given : HasGiven disk old before entries) (entry : Entry) (at : ℕ) → HasRead disk before after (digest_of old.network) entries (Ok (Some entry)) → ¬ IsSoundAt old.network old.book entry → at ≡ after.last
       → AreAllBefore old.network (disk.content after.disk) entries (store.Damaged at)
   unsound_before old before after entries given entry at has unsound is_at =
-      told_each (disk.content after.disk) (IsDamaged (narrow_reader (IsSoundAfter old.network)) (digest_of old.network) at entries) (IsDamagedAfter old.network entries at) (λ bytes broken. inr broken) (damaged_unsound disk old before after entries given entry at has unsound is_at)
+      told_each (disk.content after.disk) (IsDamaged (IsSoundAfter old.network) (digest_of old.network) at entries) (IsDamagedAfter old.network entries at) (λ bytes broken. inr broken) (damaged_unsound disk old before after entries given entry at has unsound is_at)
 
   -- ---- a call that reads on
 

@@ -5,9 +5,7 @@ use Rattle.hose_graph.specs.Network.{Network}
 use Rattle.hose_graph.specs.declared.entry.Entry.{Entry}
 use Rattle.hose_topo.specs.Canonical.{canonical_text}
 use Rattle.hose_journal.specs.declared.layout.TheConstants.{DIGEST_BYTES}
-use Rattle.hose_journal.specs.Entries.{narrow_reader}
 use Rattle.hose_journal.specs.Image.{Meaning}
-use Rattle.hose_journal.proofs.OneList.{same_item}
 use Rattle.hose_journal.proofs.OneMeaning.{one_meaning}
 use Rattle.hose_store.specs.Recovery.{digest_of, IsRecoveredAs, IsSoundAfter}
 
@@ -18,6 +16,4 @@ digest_size network = length-sha256 (canonical_text network)
 
 pub recovered_once : (network : Network) (image : List ℕ) (one two : Meaning Entry) → IsRecoveredAs network image one → IsRecoveredAs network image two → one ≡ two
 recovered_once network image one two is also =
-    let digest = digest_of network in
-    let size = digest_size network in
-    one_meaning (narrow_reader (IsSoundAfter network)) digest size (λ version before x y r s may may_also same. same_item version digest size before x y r s may.0 may_also.0 same) image one two is also
+    one_meaning (IsSoundAfter network) (digest_of network) (digest_size network) image one two is also

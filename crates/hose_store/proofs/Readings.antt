@@ -19,9 +19,9 @@ use Rattle.hose_journal.specs.declared.fault.JournalFault.TheVariants as journal
 use Rattle.hose_journal.specs.declared.reading.Reading.{Reading}
 use Rattle.hose_codec.proofs.Entries.{in_ranges}
 use Rattle.hose_codec.specs.Spelling.{IsEntry}
-use Rattle.hose_journal.specs.Entries.{Item, entered, entries_format, entries_in, front_of, narrow_reader}
-use Rattle.hose_journal.specs.steps.Entries.{AreAllowed, IsListOf, entries_reader}
-use Rattle.hose_journal.specs.Image.{AreItems, IsDamaged, damaged}
+use Rattle.hose_journal.specs.Entries.{Item, TakesAny, entered, entries_in}
+use Rattle.hose_journal.specs.steps.Entries.{AreAllowed, IsListOf}
+use Rattle.hose_journal.specs.Image.{AreItems, IsDamaged, damaged, front_of}
 use Rattle.hose_journal.specs.Reading.{HasFailed}
 use Rattle.hose_journal.specs.steps.Reading.{HasRead, IsFoundAt, IsReadUpTo, OnlyRead, Reads}
 use Rattle.hose_journal.proofs.Items.{entries_push}
@@ -53,13 +53,13 @@ read_not_empty content digest entries entry place end size found =
     let few = no_fewer found.version digest bytes upto.rest items [] size found.are some upto.is list in
     omega (arith, few, ap length (entries_push found.before entry), length-append (entries_in found.before) (entry ∷ []))) found.told
 
--- the last of the items of the format is one that it has
-last_entry : (version : ℕ) (digest : List ℕ) (before items : List Item) (entry : Entry) → AreItems (entries_format version digest) before (items ++ entered entry ∷ []) → IsEntry entry
-last_entry version digest before [] entry are = are.0
-last_entry version digest before (item ∷ items) entry are = last_entry version digest (before ++ item ∷ []) items entry are.1
+-- the last of some items is an entry that has a spelling
+last_entry : (version : ℕ) (before items : List Item) (entry : Entry) → AreItems TakesAny version before (items ++ entered entry ∷ []) → IsEntry entry
+last_entry version before [] entry are = are.0.0
+last_entry version before (item ∷ items) entry are = last_entry version (before ++ item ∷ []) items entry are.1
 
 found_ranges : (content : Option (List ℕ)) (digest : List ℕ) (entries : List Entry) (entry : Entry) (place end : ℕ) → IsFoundAt content digest entries entry place end → IsInRanges entry
-found_ranges content digest entries entry place end found = in_ranges entry (last_entry found.version digest [] found.before entry found.are)
+found_ranges content digest entries entry place end found = in_ranges entry (last_entry found.version [] found.before entry found.are)
 
 module _ {D : Type 0} (disk : Ghosts D) where
   -- ---- the next entry
@@ -122,7 +122,7 @@ module _ {D : Type 0} (disk : Ghosts D) where
   stopped_by old before after entries given (journal.Other kept other) same has = has
   stopped_by old before after entries given (journal.Damaged at) same has =
       let digest = digest_of old.network in
-      told_each (disk.content before.disk) (IsDamaged entries_reader digest at entries) (λ bytes. IsRecoveredAs old.network bytes (damaged at))
+      told_each (disk.content before.disk) (IsDamaged TakesAny digest at entries) (λ bytes. IsRecoveredAs old.network bytes (damaged at))
       (λ bytes broken. inr (inr (entries, broken_narrowed (IsSoundAfter old.network) digest at entries bytes given.sound broken))) has.1
   stopped_by old before after entries given journal.Memory same has =
       let next = has.2 in
@@ -130,20 +130,20 @@ module _ {D : Type 0} (disk : Ghosts D) where
 
   -- an entry that is not sound
   pub damaged_unsound : (old : Ledger) (before after : Reading D) (entries : List Entry) (given : HasGiven disk old before entries) (entry : Entry) (at : ℕ) → HasRead disk before after (digest_of old.network) entries (Ok (Some entry)) → ¬ IsSoundAt old.network old.book entry → at ≡ after.last
-      → IfSome (disk.content after.disk) (IsDamaged (narrow_reader (IsSoundAfter old.network)) (digest_of old.network) at entries)
+      → IfSome (disk.content after.disk) (IsDamaged (IsSoundAfter old.network) (digest_of old.network) at entries)
   damaged_unsound old before after entries given entry at has unsound is_at =
       let network = old.network in
       let digest = digest_of network in
       let found = has.1 in
       let not_sound : ¬ IsSoundAfter network entries entry = λ sound. unsound (subst (λ (book : Book). IsSoundAt network book entry) (sym given.book) sound) in
-      told_each (disk.content after.disk) (IsReadUpTo found.version digest (found.before ++ entered entry ∷ []) after.end) (IsDamaged (narrow_reader (IsSoundAfter network)) digest at entries)
-      (λ bytes upto. subst (λ (place : ℕ). IsDamaged (narrow_reader (IsSoundAfter network)) digest place entries bytes) (sym is_at)
+      told_each (disk.content after.disk) (IsReadUpTo found.version digest (found.before ++ entered entry ∷ []) after.end) (IsDamaged (IsSoundAfter network) digest at entries)
+      (λ bytes upto. subst (λ (place : ℕ). IsDamaged (IsSoundAfter network) digest place entries bytes) (sym is_at)
       (refused_at (IsSoundAfter network) digest (disk.content after.disk) entries entry after.last after.end given.reads.size given.sound not_sound found bytes upto)) found.told
 
   pub stopped_unsound : (old : Ledger) (before after : Reading D) (entries : List Entry) (given : HasGiven disk old before entries) (entry : Entry) (at : ℕ) → disk.content after.disk ≡ disk.content before.disk
       → HasRead disk before after (digest_of old.network) entries (Ok (Some entry)) → ¬ IsSoundAt old.network old.book entry → at ≡ after.last → IsStopped disk before.disk after.disk old.network (store.Damaged at)
   stopped_unsound old before after entries given entry at same has unsound is_at =
-      let damage = IsDamaged (narrow_reader (IsSoundAfter old.network)) (digest_of old.network) at entries in
+      let damage = IsDamaged (IsSoundAfter old.network) (digest_of old.network) at entries in
       subst (λ (content : Option (List ℕ)). IfSome content (λ bytes. IsRecoveredAs old.network bytes (damaged at))) same
       (told_each (disk.content after.disk) damage (λ bytes. IsRecoveredAs old.network bytes (damaged at)) (λ bytes broken. inr (inr (entries, broken))) (damaged_unsound old before after entries given entry at has unsound is_at))
 

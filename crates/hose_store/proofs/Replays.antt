@@ -8,10 +8,10 @@ use Rattle.hose_disk.specs.declared.disk.Disk.{Ghosts}
 use Rattle.hose_journal.specs.declared.layout.TheConstants.{DIGEST_BYTES}
 use Rattle.hose_journal.specs.declared.prepared.Ready.{Ready}
 use Rattle.hose_journal.specs.declared.reading.Reading.{Reading}
-use Rattle.hose_journal.specs.Entries.{Item, front_of}
+use Rattle.hose_journal.specs.Entries.{Item}
 use Rattle.hose_journal.specs.steps.Entries.{AreAllowed}
 use Rattle.hose_journal.specs.Moments.{KeepsCount, LeavesOnly}
-use Rattle.hose_journal.specs.Image.{IsClosed}
+use Rattle.hose_journal.specs.Image.{IsClosed, front_of}
 use Rattle.hose_journal.specs.Layout.{chained_version}
 use Rattle.hose_journal.specs.Opening.{KeepsDisk}
 use Rattle.hose_journal.specs.steps.Opening.{IsOpened, KeepsList, KeepsOrBegins}

@@ -3,8 +3,8 @@ use Rattle.std.specs.Prelude.{◌≡◌, ◌⊎◌, ℕ, ◌≤◌, List, [], �
 use Rattle.hose_graph.specs.Network.{Network}
 use Rattle.hose_graph.specs.declared.entry.Entry.{Entry}
 use Rattle.hose_law.specs.History.{IsSound}
-use Rattle.hose_journal.specs.Entries.{Item, entries_format, entries_in, front_of, narrow_reader}
-use Rattle.hose_journal.specs.Image.{AreItems, IsDamaged, IsHeadless, IsUnmarked, IsVersion}
+use Rattle.hose_journal.specs.Entries.{Item, TakesAny, entries_in}
+use Rattle.hose_journal.specs.Image.{AreItems, IsDamaged, IsHeadless, IsUnmarked, IsVersion, front_of}
 use Rattle.hose_store.specs.Recovery.{IsSoundAfter, digest_of}
 
 -- A journal that begins with the records of these entries, and a gate after them.
@@ -13,7 +13,7 @@ pub record BeginsWith (digest : List ℕ) (entries : List Entry) (bytes : List �
   pub is_version : IsVersion version
   pub items : List Item
   pub entries_are : entries_in items ≡ entries
-  pub are : AreItems (entries_format version digest) [] items
+  pub are : AreItems TakesAny version [] items
   pub rest : List ℕ
   pub some : 1 ≤ length rest
   pub is : bytes ≡ front_of version digest items ++ rest
@@ -31,4 +31,4 @@ pub record HasEntries (network : Network) (content : Option (List ℕ)) (entries
 abbrev pub IsDamagedAfter : Network → List Entry → ℕ → List ℕ → Type 0
 IsDamagedAfter network entries at bytes =
     ((entries ≡ []) × (IsHeadless bytes ⊎ IsUnmarked bytes))
-    ⊎ IsDamaged (narrow_reader (IsSoundAfter network)) (digest_of network) at entries bytes
+    ⊎ IsDamaged (IsSoundAfter network) (digest_of network) at entries bytes

@@ -6,7 +6,6 @@ use Rattle.hose_graph.specs.Network.{Network}
 use Rattle.hose_graph.specs.declared.entry.Entry.{Entry}
 use Rattle.hose_law.specs.History.{book_of, IsSoundAt}
 use Rattle.hose_topo.specs.Canonical.{canonical_text}
-use Rattle.hose_journal.specs.Entries.{narrow_reader}
 use Rattle.hose_journal.specs.Image.{Meaning, HasMeaning, listed}
 
 -- the digest of a topology's canonical text
@@ -21,7 +20,7 @@ IsSoundAfter network before entry = IsSoundAt network (book_of 0 before) entry
 -- not sound.
 abbrev pub IsRecoveredAs : Network → List ℕ → Meaning Entry → Type 0
 IsRecoveredAs network image meaning =
-    HasMeaning (narrow_reader (IsSoundAfter network)) (digest_of network) image meaning
+    HasMeaning (IsSoundAfter network) (digest_of network) image meaning
 
 -- the image stands for this history
 abbrev pub IsHistoryOf : Network → List Entry → List ℕ → Type 0

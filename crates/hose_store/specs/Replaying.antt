@@ -2,8 +2,7 @@
 use Rattle.std.specs.Prelude.{◌≡◌, ◌⊎◌, [], IfSome}
 use Rattle.hose_graph.specs.Network.{Network}
 use Rattle.hose_disk.specs.declared.disk.Disk.{Ghosts}
-use Rattle.hose_journal.specs.Entries.{front_of}
-use Rattle.hose_journal.specs.Image.{IsClosed, IsUnbegun}
+use Rattle.hose_journal.specs.Image.{IsClosed, IsUnbegun, front_of}
 use Rattle.hose_journal.specs.Layout.{chained_version}
 use Rattle.hose_journal.specs.Moments.{LeavesOnly}
 use Rattle.hose_journal.specs.Opening.{KeepsDisk}

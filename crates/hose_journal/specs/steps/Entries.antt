@@ -2,8 +2,8 @@
 use Rattle.std.specs.Prelude.{ℕ, List, [], ◌∷◌, ◌++◌, ⊤}
 use Rattle.hose_graph.specs.declared.entry.Entry.{Entry}
 use Rattle.hose_journal.specs.steps.Layout.{closed_gate}
-use Rattle.hose_journal.specs.Image.{RecordReader, Meaning, HasMeaning, listed}
-use Rattle.hose_journal.specs.Entries.{entries_format, entries_in, Item, item_bytes}
+use Rattle.hose_journal.specs.Image.{Meaning, HasMeaning, listed}
+use Rattle.hose_journal.specs.Entries.{Item, TakesAny, item_bytes}
 
 -- ---- records
 
@@ -13,13 +13,9 @@ closed_record version digest before item = item_bytes version digest before item
 
 -- ---- lists of entries
 
--- the records of a journal, and the entries that they say
-abbrev pub entries_reader : RecordReader Item Entry
-entries_reader = record { format = entries_format; view = entries_in }
-
 -- what an image stands for
 abbrev pub Means : List ℕ → List ℕ → Meaning Entry → Type 0
-Means digest image meaning = HasMeaning entries_reader digest image meaning
+Means digest image meaning = HasMeaning TakesAny digest image meaning
 
 -- the image stands for this list of entries
 abbrev pub IsListOf : List ℕ → List Entry → List ℕ → Type 0

@@ -1,12 +1,12 @@
--- What an image of a disk stands for: a list, the journal of another topology, or damage at a
--- place. The format of the records is a parameter, and so is the list that they say: steps of
--- proofs.
+-- What an image of a disk stands for: entries, the journal of another topology, or damage at a
+-- place: steps of proofs.
 use Rattle.std.specs.Prelude.{ℕ, List, [], ◌∷◌, ◌++◌}
 use Rattle.hose_journal.specs.steps.Layout.{closed_gate}
-use Rattle.hose_journal.specs.Image.{Format, front}
+use Rattle.hose_journal.specs.Entries.{Item}
+use Rattle.hose_journal.specs.Image.{front_of}
 
 -- ---- the layout
 
 -- the journal of these items
-abbrev pub journal_bytes : {X : Type 0} → Format X → ℕ → List ℕ → List X → List ℕ
-journal_bytes format version digest items = front format version digest items ++ closed_gate ∷ []
+abbrev pub journal_bytes : ℕ → List ℕ → List Item → List ℕ
+journal_bytes version digest items = front_of version digest items ++ closed_gate ∷ []

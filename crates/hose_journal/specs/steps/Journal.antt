@@ -4,10 +4,10 @@ use Rattle.hose_graph.specs.declared.entry.Entry.{Entry}
 use Rattle.hose_codec.specs.Spelling.{IsEntry, spelling}
 use Rattle.hose_disk.specs.declared.disk.Disk.{Ghosts}
 use Rattle.hose_journal.specs.Chain.{chain}
-use Rattle.hose_journal.specs.Entries.{Item, entered, entries_format, entries_in, front_of, is_chained}
+use Rattle.hose_journal.specs.Entries.{Item, TakesAny, entered, entries_in, is_chained}
 use Rattle.hose_journal.specs.steps.Entries.{IsListOf, closed_record}
 use Rattle.hose_journal.specs.steps.Gates.{IsDoubtful}
-use Rattle.hose_journal.specs.Image.{AreItems, IsClosed, IsVersion}
+use Rattle.hose_journal.specs.Image.{AreItems, IsClosed, IsVersion, front_of}
 use Rattle.hose_journal.specs.Moments.{Images}
 use Rattle.hose_journal.specs.declared.layout.TheConstants.{BUFFER_BYTES}
 use Rattle.hose_journal.specs.Layout.{digest_bytes}
@@ -47,7 +47,7 @@ pub record Stands {D : Type 0} (disk : Ghosts D) (journal : Journal D) (account 
   pub is_version : IsVersion version
   pub entries : entries_in items ≡ account.entries
   pub size : length account.digest ≡ digest_bytes
-  pub are : AreItems (entries_format version account.digest) [] items
+  pub are : AreItems TakesAny version [] items
   pub doubt_is : IfSome account.doubt IsEntry
   pub place : length (front_of version account.digest items) ≡ journal.gate
   pub small : journal.gate + 1 < 2 ^ 62

@@ -1,9 +1,9 @@
 -- What the opening of a journal finds, and what it leaves: steps of proofs.
 use Rattle.std.specs.Prelude.{◌≡◌, ◌⊎◌, ℕ, ◌<◌, ◌≤◌, ◌^◌, Bool, List, [], ◌++◌, length, Option, Result, Ok, Err, IfSome}
 use Rattle.hose_disk.specs.declared.disk.Disk.{Ghosts}
-use Rattle.hose_journal.specs.Entries.{front_of, is_chained}
+use Rattle.hose_journal.specs.Entries.{is_chained}
 use Rattle.hose_journal.specs.steps.Entries.{IsListOf, Means}
-use Rattle.hose_journal.specs.Image.{IsClosed, IsUnbegun, IsVersion, IsHeadless, IsUnmarked, IsOther, head, other}
+use Rattle.hose_journal.specs.Image.{IsClosed, IsUnbegun, IsVersion, IsHeadless, IsUnmarked, IsOther, head, other, front_of}
 use Rattle.hose_journal.specs.Layout.{chained_version}
 use Rattle.hose_journal.specs.Reading.{HasFailed}
 use Rattle.hose_journal.specs.steps.Reading.{IsPiece}

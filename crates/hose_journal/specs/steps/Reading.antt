@@ -8,9 +8,8 @@ use Rattle.hose_disk.specs.Disk.{NoneNew, object_frame}
 use Rattle.hose_disk.specs.declared.disk.Disk.{Ghosts}
 use Rattle.hose_journal.specs.steps.AtGate.{BeginsSeal}
 use Rattle.hose_journal.specs.Chain.{chain}
-use Rattle.hose_journal.specs.Entries.{Item, entered, entries_format, entries_in, entry_bytes, front_of, is_chained}
-use Rattle.hose_journal.specs.steps.Entries.{entries_reader}
-use Rattle.hose_journal.specs.Image.{AreItems, IsDamaged, IsClosed, IsVersion}
+use Rattle.hose_journal.specs.Entries.{Item, TakesAny, entered, entries_in, entry_bytes, is_chained}
+use Rattle.hose_journal.specs.Image.{AreItems, IsDamaged, IsClosed, IsVersion, front_of}
 use Rattle.hose_journal.specs.Moments.{LeavesOnly}
 use Rattle.hose_journal.specs.steps.Moments.{ReadsItsImages}
 use Rattle.hose_journal.specs.declared.fault.JournalFault.{JournalFault}
@@ -66,7 +65,7 @@ pub record Reads {D : Type 0} (disk : Ghosts D) (reading : Reading D) (digest : 
   pub is_version : IsVersion version
   pub entries_are : entries_in items ≡ entries
   pub size : length digest ≡ digest_bytes
-  pub are : AreItems (entries_format version digest) [] items
+  pub are : AreItems TakesAny version [] items
   pub place : length (front_of version digest items) ≡ reading.gate
   pub within : reading.gate < reading.end
   pub small : reading.end < 2 ^ 62
@@ -86,7 +85,7 @@ pub record IsFoundAt (content : Option (List ℕ)) (digest : List ℕ) (entries 
   pub before : List Item
   pub is_version : IsVersion version
   pub entries_are : entries_in before ≡ entries
-  pub are : AreItems (entries_format version digest) [] (before ++ entered entry ∷ [])
+  pub are : AreItems TakesAny version [] (before ++ entered entry ∷ [])
   pub here : length (front_of version digest before) ≡ place
   pub within : length (front_of version digest (before ++ entered entry ∷ [])) < end
   pub told : IfSome content (IsReadUpTo version digest (before ++ entered entry ∷ []) end)
@@ -114,7 +113,7 @@ AtGate disk reading digest entries (Ok (Some found)) =
     × (found.distance ≡ length (entry_bytes reading.sealed digest entries found.entry) + 1)
 AtGate disk reading digest entries (Ok None) = IsAtClosedGate disk reading digest entries
 AtGate disk reading digest entries (Err Bad) = IfSome (disk.content reading.disk)
-    (IsDamaged entries_reader digest reading.gate entries)
+    (IsDamaged TakesAny digest reading.gate entries)
 AtGate disk reading digest entries (Err Wanting) =
     (entry : Entry) × IsAtEntry disk reading digest entries entry
 
@@ -134,7 +133,7 @@ HasRead disk old new digest entries (Ok (Some entry)) =
 HasRead disk old new digest entries (Ok None) =
     Reads disk new digest entries × (new.last ≡ new.gate) × IsTrue new.closed
 HasRead disk old new digest entries (Err (Damaged at)) = (new.last ≡ at)
-    × IfSome (disk.content old.disk) (IsDamaged entries_reader digest at entries)
+    × IfSome (disk.content old.disk) (IsDamaged TakesAny digest at entries)
 HasRead disk old new digest entries (Err Disk) =
     HasFailed disk old.disk new.disk × (new.last ≡ old.last)
 HasRead disk old new digest entries (Err Memory) =

@@ -1,8 +1,7 @@
 use Rattle.std.proofs.Common.{◌≡◌, ◌∙◌, inr, rules, length, subst, sym, arith, List, Option, ℕ, [], IfSome, IsTrue}
 use Rattle.std.specs.Prelude.{Err}
 use Rattle.hose_journal.specs.declared.layout.TheConstants.{CHAINED, DIGEST_BYTES}
-use Rattle.hose_journal.specs.Entries.{front_of}
-use Rattle.hose_journal.specs.Image.{IsClosed, IsUnbegun}
+use Rattle.hose_journal.specs.Image.{IsClosed, IsUnbegun, front_of}
 use Rattle.hose_journal.specs.Moments.{LeavesOnly}
 use Rattle.hose_journal.specs.steps.Moments.{ReadsItsImages}
 use Rattle.hose_journal.specs.Opening.{AddsNoRecord}

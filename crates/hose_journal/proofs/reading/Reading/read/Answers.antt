@@ -1,6 +1,6 @@
 use Rattle.std.proofs.Common.{◌∙◌, ◌+◌, ◌<◌, ◌^◌, Option, IfSome, IsFalse, List, ℕ, rules, refl, ap, subst, arith}
 use Rattle.hose_journal.specs.declared.reading.Reading.{Reading}
-use Rattle.hose_journal.specs.steps.Entries.{entries_reader}
+use Rattle.hose_journal.specs.Entries.{TakesAny}
 use Rattle.hose_journal.specs.Image.{IsDamaged}
 use Rattle.hose_journal.proofs.Readings.{reads_end, reads_next, reads_told}
 use Rattle.hose_journal.proofs.reading.Reading.read.Goals as goal
@@ -47,7 +47,7 @@ pub returns-in-Err-Bad-clause-read : goal.returns-in-Err-Bad-clause-read
 returns-in-Err-Bad-clause-read g c = λ digest entries reads.
     let approached = c.in_ok-approach.ensures.approached digest entries reads in
     let seen = rw c.in-Err-Bad.field-0-is at (c.in-Err-Bad.ensures digest entries approached c.in_ok-approach.ensures.reaches c.in_ok-approach.ensures.past) in
-    (refl, subst (λ (content : Option (List ℕ)). IfSome content (IsDamaged entries_reader digest c.approach.new.self.gate entries)) c.approach.ensures.only.same seen)
+    (refl, subst (λ (content : Option (List ℕ)). IfSome content (IsDamaged TakesAny digest c.approach.new.self.gate entries)) c.approach.ensures.only.same seen)
 
 pub returns-in-Err-Memory-clause-read : goal.returns-in-Err-Memory-clause-read
 returns-in-Err-Memory-clause-read g c = λ digest entries reads.
