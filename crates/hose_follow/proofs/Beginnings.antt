@@ -6,7 +6,7 @@ use mathlib.Core.List.{IsPrefix}
 use Rattle.hose_graph.specs.Network.{Network}
 use Rattle.hose_graph.specs.declared.entry.Entry.{Entry}
 use Rattle.hose_law.specs.Book.{Book}
-use Rattle.hose_law.specs.History.{AreFrom, IsDecided, IsDecidedAt, IsSoundAt, book_after, book_of, next_book, opening_book}
+use Rattle.hose_law.specs.History.{AreFrom, EntryKind, IsDecided, IsDecidedAt, IsSound, IsSoundAt, book_after, book_of, next_book, opening_book}
 
 module _ {X : Type 0} where
   -- a beginning with the list's next entry is a beginning
@@ -34,28 +34,31 @@ module _ {X : Type 0} where
 
 -- ---- sound and decided beginnings
 
-sound_front : (network : Network) (book : Book) (own rest : List Entry) → AreFrom IsSoundAt network book 0 (own ++ rest) → AreFrom IsSoundAt network book 0 own
-sound_front network book [] rest sound = tt
-sound_front network book (entry ∷ own) rest sound = (sound.0, sound_front network (next_book book entry) own rest sound.1)
+kind_front : (Kind : EntryKind) (network : Network) (book : Book) (since : ℕ) (own rest : List Entry) → AreFrom Kind network book since (own ++ rest) → AreFrom Kind network book since own
+kind_front Kind network book zero [] rest are = tt
+kind_front Kind network book (suc since) [] rest are = tt
+kind_front Kind network book zero (entry ∷ own) rest are = (are.0, kind_front Kind network (next_book book entry) zero own rest are.1)
+kind_front Kind network book (suc since) (entry ∷ own) rest are = kind_front Kind network (next_book book entry) since own rest are
 
-decided_front : (network : Network) (book : Book) (own rest : List Entry) → AreFrom IsDecidedAt network book 0 (own ++ rest) → AreFrom IsDecidedAt network book 0 own
-decided_front network book [] rest are = tt
-decided_front network book (entry ∷ own) rest are = (are.0, decided_front network (next_book book entry) own rest are.1)
+-- a beginning of a sound history is one
+pub sound_front : (network : Network) (own all : List Entry) → IsPrefix own all → IsSound network 0 all → IsSound network 0 own
+sound_front network own all (rest, same) sound =
+    kind_front IsSoundAt network (opening_book 0) 0 own rest (subst (λ (l : List Entry). IsSound network 0 l) (sym same) sound)
 
--- a beginning of a legal history is one
-pub legal_front : (network : Network) (own all : List Entry) → IsPrefix own all → IsDecided network 0 0 all → IsDecided network 0 0 own
-legal_front network own all (rest, same) legal =
-    let whole = subst (λ (l : List Entry). IsDecided network 0 0 l) (sym same) legal in
+-- and of one that is decided from a place on
+pub decided_front : (network : Network) (since : ℕ) (own all : List Entry) → IsPrefix own all → IsDecided network 0 since all → IsDecided network 0 since own
+decided_front network since own all (rest, same) decided =
+    let whole = subst (λ (l : List Entry). IsDecided network 0 since l) (sym same) decided in
     record {
-      sound = sound_front network (opening_book 0) own rest whole.sound;
-      decided = decided_front network (opening_book 0) own rest whole.decided;
+      sound = kind_front IsSoundAt network (opening_book 0) 0 own rest whole.sound;
+      decided = kind_front IsDecidedAt network (opening_book 0) since own rest whole.decided;
     }
 
 sound_then : (network : Network) (book : Book) (own rest : List Entry) (entry : Entry) → AreFrom IsSoundAt network book 0 (own ++ entry ∷ rest) → IsSoundAt network (book_after book own) entry
 sound_then network book [] rest entry sound = sound.0
 sound_then network book (first ∷ own) rest entry sound = sound_then network (next_book book first) own rest entry sound.1
 
--- the next entry of a legal history is sound
-pub sound_next : (network : Network) (own all : List Entry) (entry : Entry) → IsPrefix (own ++ entry ∷ []) all → IsDecided network 0 0 all → IsSoundAt network (book_of 0 own) entry
-sound_next network own all entry prefix legal =
-    sound_then network (opening_book 0) own [] entry (legal_front network (own ++ entry ∷ []) all prefix legal).sound
+-- the next entry of a sound history is sound
+pub sound_next : (network : Network) (own all : List Entry) (entry : Entry) → IsPrefix (own ++ entry ∷ []) all → IsSound network 0 all → IsSoundAt network (book_of 0 own) entry
+sound_next network own all entry prefix sound =
+    sound_then network (opening_book 0) own [] entry (sound_front network (own ++ entry ∷ []) all prefix sound)

@@ -11,9 +11,9 @@ use Rattle.hose_io.specs.declared.Failed.{Failed}
 use Rattle.hose_graph.specs.Network.{Network}
 use Rattle.hose_graph.specs.declared.entry.Entry.{Entry}
 use Rattle.hose_law.specs.Book.{Book}
-use Rattle.hose_law.specs.History.{IsDecided, IsDecidedAt, IsSoundAt, book_of}
+use Rattle.hose_law.specs.History.{IsDecided, IsSound, IsSoundAt, book_of, opening_book}
 use Rattle.hose_law.proofs.Fronts.{prefix_push}
-use Rattle.hose_law.proofs.Scripts.{decided_push}
+use Rattle.hose_law.proofs.Scripts.{decided_push, sound_push}
 use Rattle.hose_book.specs.Ledger.{Ledger}
 use Rattle.hose_book.specs.declared.books.Committed.{Committed}
 use Rattle.hose_book.specs.declared.books.Committed.TheVariants as committed
@@ -30,13 +30,12 @@ use Rattle.hose_follow.specs.steps.Event.{Event, accepts, asks, offers, reopens,
 use Rattle.hose_follow.specs.steps.Offering.{Brings, BringsNone, Enters, IsDue, IsOffered, epoch_of}
 use Rattle.hose_follow.specs.Packet.{Packet, packet_after}
 use Rattle.hose_follow.specs.Replication.{IsSentOf, packet_at}
-use Rattle.hose_follow.specs.steps.Replication.{Happens, IsBeginning, IsFollowing, IsOfLeader, IsReopened, Lead, MayBeLeft, Replication, at_rest, told_after, within_closing, within_offer, within_opening}
+use Rattle.hose_follow.specs.steps.Replication.{AcceptsDecided, Happens, IsBeginning, IsFollowing, IsOfLeader, IsReopened, Lead, MayBeLeft, Replication, at_rest, told_after, within_closing, within_offer, within_opening}
 use Rattle.hose_follow.specs.declared.answers.Offered.{Offered}
 use Rattle.hose_follow.specs.declared.answers.Offered.TheVariants.{Have, Want, Differs, Memory, Unsound, Disk}
 use Rattle.hose_law.proofs.Epochs.{epoch_is}
 use Rattle.hose_follow.proofs.Asking.{asked_same, asked_told}
-use Rattle.hose_follow.proofs.Beginnings.{get_longer, legal_front}
-use Rattle.hose_law.proofs.Entries.{decided_sound}
+use Rattle.hose_follow.proofs.Beginnings.{decided_front, get_longer, sound_front}
 use Rattle.hose_follow.proofs.Sent.{IsNext, next_brought, next_sent, next_sound}
 
 -- an image's list, where an image stands for one list only
@@ -184,10 +183,10 @@ module _ {D : Type 0} (disk : Ghosts D) (network : Network) where
 
   -- ---- the leader's events
 
-  accepted : (state : Replication D) (entry : Entry) → IsFollowing disk network state → IsEntry entry → IsDecidedAt network (book_of 0 state.leader) entry → IsFollowing disk network (record state { leader = state.leader ++ entry ∷ [] })
-  accepted state entry following spelled decided = record {
+  accepted : (state : Replication D) (entry : Entry) → IsFollowing disk network state → IsEntry entry → IsSoundAt network (book_of 0 state.leader) entry → IsFollowing disk network (record state { leader = state.leader ++ entry ∷ [] })
+  accepted state entry following spelled sound = record {
     leader = record {
-      legal = decided_push network 0 0 state.leader entry following.leader.legal decided (decided_sound network (book_of 0 state.leader) entry decided);
+      sound = sound_push network (opening_book 0) state.leader entry following.leader.sound sound;
       spelled = All-push IsEntry state.leader entry following.leader.spelled spelled;
     };
     sent = All-weaker (IsSentOf network state.leader) (IsSentOf network (state.leader ++ entry ∷ [])) (sent_longer state.leader (entry ∷ [])) state.sent following.sent;
@@ -258,7 +257,7 @@ module _ {D : Type 0} (disk : Ghosts D) (network : Network) where
           (asked_told disk old.store left packet answer old.told (length following.own) none offered following.told (omega (arith, epoch_own old following)))
 
       happens : (old new : Replication D) (event : Event) → IsFollowing disk network old → Happens disk network old event new → IsFollowing disk network new
-      happens old new (accepts entry) following (spelled, decided, is) = subst (IsFollowing disk network) (sym is) (accepted old entry following spelled decided)
+      happens old new (accepts entry) following (spelled, sound, is) = subst (IsFollowing disk network) (sym is) (accepted old entry following spelled sound)
       happens old new (sends place) following (entry, there, is) = subst (IsFollowing disk network) (sym is) (sent_one old place entry following there)
       happens old new (offers packet answer) following (there, offered, is) = subst (IsFollowing disk network) (sym is) (answered old packet answer new.store following there offered)
       happens old new (asks packet answer) following (none, offered, is) = subst (IsFollowing disk network) (sym is) (asked old packet answer new.store following none offered)
@@ -287,5 +286,34 @@ module _ {D : Type 0} (disk : Ghosts D) (network : Network) where
     told = omega (arith, beginning.told);
   }
 
-  pub legal : (state : Replication D) (following : IsFollowing disk network state) → IsDecided network 0 0 following.own
-  legal state following = legal_front network following.own state.leader following.begins following.leader.legal
+  -- ---- what the follower has, and the leader's list
+
+  pub own_sound : (state : Replication D) (following : IsFollowing disk network state) → IsSound network 0 following.own
+  own_sound state following = sound_front network following.own state.leader following.begins following.leader.sound
+
+  pub own_decided : (state : Replication D) (since : ℕ) (following : IsFollowing disk network state) → IsDecided network 0 since state.leader → IsDecided network 0 since following.own
+  own_decided state since following decided = decided_front network since following.own state.leader following.begins decided
+
+  abbrev GoesOn : ℕ → List Event → List Entry → Type 0
+  GoesOn since events leader = IsDecided network 0 since leader × AcceptsDecided network leader events
+
+  goes_so : (since : ℕ) (events : List Event) (state : Replication D) (leader : List Entry) → state.leader ≡ leader → IsDecided network 0 since leader → AcceptsDecided network leader events → GoesOn since events state.leader
+  goes_so since events state leader same decided are = subst (GoesOn since events) (sym same) (decided, are)
+
+  pub stays_decided : (old new : Replication D) (since : ℕ) (events : List Event) → IsDecided network 0 since old.leader → Lead disk network old events new → AcceptsDecided network old.leader events → IsDecided network 0 since new.leader
+  stays_decided old new since [] decided is are = (goes_so since [] new old.leader (ap (λ (state : Replication D). state.leader) is) decided are).0
+  stays_decided old new since (accepts entry ∷ events) decided (middle, (spelled, sound, is), more) are =
+      let on = goes_so since events middle (old.leader ++ entry ∷ []) (ap (λ (state : Replication D). state.leader) is) (decided_push network 0 since old.leader entry decided are.0 sound) are.1 in
+      stays_decided middle new since events on.0 more on.1
+  stays_decided old new since (sends place ∷ events) decided (middle, (entry, there, is), more) are =
+      let on = goes_so since events middle old.leader (ap (λ (state : Replication D). state.leader) is) decided are in
+      stays_decided middle new since events on.0 more on.1
+  stays_decided old new since (offers packet answer ∷ events) decided (middle, (there, offered, is), more) are =
+      let on = goes_so since events middle old.leader (ap (λ (state : Replication D). state.leader) is) decided are in
+      stays_decided middle new since events on.0 more on.1
+  stays_decided old new since (asks packet answer ∷ events) decided (middle, (none, offered, is), more) are =
+      let on = goes_so since events middle old.leader (ap (λ (state : Replication D). state.leader) is) decided are in
+      stays_decided middle new since events on.0 more on.1
+  stays_decided old new since (reopens image ∷ events) decided (middle, (left, opened, is), more) are =
+      let on = goes_so since events middle old.leader (ap (λ (state : Replication D). state.leader) is) decided are in
+      stays_decided middle new since events on.0 more on.1

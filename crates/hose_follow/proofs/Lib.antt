@@ -4,6 +4,7 @@ mod Buffers
 mod Ending
 mod Exchanges
 mod Follows
+mod Leaders
 mod Offers
 mod Packets
 pub mod Sent

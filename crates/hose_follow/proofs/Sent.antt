@@ -24,7 +24,7 @@ module _ (network : Network) (leader own : List Entry) (packet : Packet) where
 
   -- so it is by its epoch
   pub next_sent : IsLeader network leader → IsPrefix own leader → IsSentOf network leader packet → packet.epoch ≡ length own + 1 → IsNext
-  next_sent legal begins (place, entry, here, is) epoch =
+  next_sent is_leader begins (place, entry, here, is) epoch =
       let within = slice_get_within leader place entry here in
       let size : length (take place leader) ≡ place = length-take-le place leader (omega (arith, within)) in
       let at : place ≡ length own = omega (arith, epoch, ap (λ (p : Packet). p.epoch) is, size) in
@@ -32,7 +32,7 @@ module _ (network : Network) (leader own : List Entry) (packet : Packet) where
       record {
         entry = entry;
         is = is ∙ ap (λ (l : List Entry). packet_after network l entry) fronts;
-        is_entry = all_at IsEntry leader place entry legal.spelled here;
+        is_entry = all_at IsEntry leader place entry is_leader.spelled here;
         prefix = prefix_next own leader entry begins (subst (λ (n : ℕ). slice_get leader n ≡ Some entry) at here);
       }
 
@@ -45,4 +45,4 @@ module _ (network : Network) (leader own : List Entry) (packet : Packet) where
 
   -- which is sound
   pub next_sound : IsLeader network leader → (next : IsNext) → IsSoundAt network (book_of 0 own) next.entry
-  next_sound legal next = sound_next network own leader next.entry next.prefix legal.legal
+  next_sound is_leader next = sound_next network own leader next.entry next.prefix is_leader.sound

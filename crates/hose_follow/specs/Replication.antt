@@ -2,7 +2,7 @@
 use Rattle.std.specs.Prelude.{◌≡◌, ℕ, List, take, All, Some, slice_get}
 use Rattle.hose_graph.specs.Network.{Network}
 use Rattle.hose_graph.specs.declared.entry.Entry.{Entry}
-use Rattle.hose_law.specs.History.{IsDecided}
+use Rattle.hose_law.specs.History.{IsSound}
 use Rattle.hose_codec.specs.Spelling.{IsEntry}
 use Rattle.hose_follow.specs.Packet.{Packet, packet_after}
 
@@ -12,9 +12,10 @@ packet_at network list place entry = packet_after network (take place list) entr
 
 -- ---- beginnings
 
--- the leader's list is legal, and each of its entries has a spelling
+-- The leader's list is sound, and each of its entries has a spelling. Who decided them is left open:
+-- so it may be that of a journal to which orders were moved.
 pub record IsLeader (network : Network) (list : List Entry) : Type 0 where
-  pub legal : IsDecided network 0 0 list
+  pub sound : IsSound network 0 list
   pub spelled : All IsEntry list
 
 -- ---- what holds after any events

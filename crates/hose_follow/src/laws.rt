@@ -1,35 +1,48 @@
 // What is true of every follower.
 ghost use Rattle.std.specs.Prelude.{◌≡◌, ◌∷◌, ℕ, [], List, Contains, Option};
 ghost use Rattle.hose_graph.specs.declared.entry.Entry.{Entry};
-ghost use Rattle.hose_law.specs.History.{IsDecided};
+ghost use Rattle.hose_law.specs.History.{IsDecided, IsSound};
 ghost use Rattle.hose_codec.specs.Spelling.{IsSpelling};
+ghost use Rattle.hose_store.specs.Recovery.{IsHistoryOf};
 ghost use Rattle.hose_store.specs.steps.Store.{HasHistory, KeptStore};
 ghost use Rattle.hose_follow.specs.steps.Chained.{LeadsOn};
 ghost use Rattle.hose_follow.specs.steps.Event.{Event};
 ghost use Rattle.hose_follow.specs.steps.Offering.{AreOffered, BringsNone, IsOffered};
 ghost use Rattle.hose_follow.specs.Packet.{Packet};
+ghost use Rattle.hose_follow.specs.Replication.{IsLeader};
 ghost use Rattle.hose_follow.specs.steps.Splitting.{IsSplit};
-ghost use Rattle.hose_follow.specs.steps.Replication.{IsBeginning, IsFollowing, IsOfLeader, Lead, MayBeLeft, Replication};
+ghost use Rattle.hose_follow.specs.steps.Replication.{AcceptsDecided, IsBeginning, IsFollowing, IsOfLeader, Lead, MayBeLeft, Replication};
 ghost use Rattle.hose_follow.specs.declared.answers.Offered.{Offered};
 
 use hose_disk::Disk;
 use hose_graph::Topology;
 use hose_store::Premises;
 
-/// Whatever a leader and its follower do, whoever asks the follower by packets that bring no entry,
-/// whenever it is stopped, closed or opened, and whatever becomes of the packets between them and
-/// of the follower's disk: the follower has a beginning of the leader's list, and so has each image
-/// of its disk at each moment, with all that a `have` told; and no packet that was sent is answered
-/// as one of another history, or as unsound.
+/// Of a leader whose list is sound, whoever decided its entries, and of its follower. Whatever they
+/// do, whoever asks the follower by packets that bring no entry, whenever it is stopped, closed or
+/// opened, and whatever becomes of the packets between them and of the follower's disk: the
+/// follower has a beginning of the leader's list, and so has each image of its disk at each moment,
+/// with all that a `have` told; and no packet that was sent is answered as one of another history,
+/// or as unsound.
 pub fn law_following<D: Disk>(top: &Topology)
+    // Each history for which a journal stands is a leader's, as one to which orders were moved.
+    ensures leads { (list : List Entry) → (image : List ℕ) →
+        IsHistoryOf top.now list image → IsLeader top.now list }
     ensures begins { (state : Replication D) →
         IsBeginning D.Disk top.now state → IsFollowing D.Disk top.now state }
     ensures stays { (old new : Replication D) → (events : List Event) →
         IsFollowing D.Disk top.now old → Lead D.Disk top.now old events new →
         IsFollowing D.Disk top.now new }
-    // What the follower has is a legal history.
-    ensures legal { (state : Replication D) → (following : IsFollowing D.Disk top.now state) →
-        IsDecided top.now 0 0 following.own }
+    // What the follower has is a sound history, and decided from where the leader's list is.
+    ensures sound { (state : Replication D) → (following : IsFollowing D.Disk top.now state) →
+        IsSound top.now 0 following.own }
+    ensures decided { (state : Replication D) → (since : ℕ) →
+        (following : IsFollowing D.Disk top.now state) →
+        IsDecided top.now 0 since state.leader → IsDecided top.now 0 since following.own }
+    // And the leader's list stays decided from there on, where each entry that it accepts is.
+    ensures stays_decided { (old new : Replication D) → (since : ℕ) → (events : List Event) →
+        IsDecided top.now 0 since old.leader → Lead D.Disk top.now old events new →
+        AcceptsDecided top.now old.leader events → IsDecided top.now 0 since new.leader }
     // At rest, and at each moment within an offer, an orderly closing and an opening.
     ensures images { (state : Replication D) → (image : List ℕ) →
         IsFollowing D.Disk top.now state → MayBeLeft D.Disk top.now state image →

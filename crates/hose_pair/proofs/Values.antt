@@ -49,4 +49,4 @@ pub chain_value : (network : Network) (entries : List Entry) → IsValue (chain 
 chain_value network entries = (length-chain (digest_of network) entries (digest_size network), chain_small (digest_of network) entries (network_small network))
 
 pub few_entries : (network : Network) (list : List Entry) → IsLeader network list → length list < 2 ^ 32
-few_entries network list leader = let few = few_in_history network list leader.legal.sound in omega (arith, few)
+few_entries network list leader = let few = few_in_history network list leader.sound in omega (arith, few)

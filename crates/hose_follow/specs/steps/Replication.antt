@@ -5,7 +5,7 @@ use mathlib.Core.List.{IsPrefix}
 use Rattle.hose_io.specs.declared.Failed.{Failed}
 use Rattle.hose_graph.specs.Network.{Network}
 use Rattle.hose_graph.specs.declared.entry.Entry.{Entry}
-use Rattle.hose_law.specs.History.{book_of, IsDecidedAt}
+use Rattle.hose_law.specs.History.{book_of, IsDecidedAt, IsSoundAt}
 use Rattle.hose_codec.specs.Spelling.{IsEntry}
 use Rattle.hose_disk.specs.declared.disk.Disk.{Ghosts}
 use Rattle.hose_journal.specs.Moments.{LeavesOnly}
@@ -91,7 +91,7 @@ IsReopened {D} disk network image store =
 abbrev pub Happens : {D : Type 0} → Ghosts D → Network → Replication D → Event → Replication D
     → Type 0
 Happens disk network old (accepts entry) new =
-    IsEntry entry × IsDecidedAt network (book_of 0 old.leader) entry
+    IsEntry entry × IsSoundAt network (book_of 0 old.leader) entry
     × (new ≡ record old { leader = old.leader ++ entry ∷ [] })
 Happens disk network old (sends place) new =
     (entry : Entry) × (slice_get old.leader place ≡ Some entry)
@@ -113,6 +113,19 @@ Lead disk network old [] new = new ≡ old
 Lead {D} disk network old (event ∷ events) new =
     (middle : Replication D) × Happens disk network old event middle
     × Lead disk network middle events new
+
+-- each entry that a leader of this list accepts by these events is decided at the book of those
+-- before it
+abbrev pub AcceptsDecided : Network → List Entry → List Event → Type 0
+AcceptsDecided network leader [] = ⊤
+AcceptsDecided network leader (accepts entry ∷ events) =
+    IsDecidedAt network (book_of 0 leader) entry
+    × AcceptsDecided network (leader ++ entry ∷ []) events
+AcceptsDecided network leader (sends place ∷ events) = AcceptsDecided network leader events
+AcceptsDecided network leader (offers packet answer ∷ events) =
+    AcceptsDecided network leader events
+AcceptsDecided network leader (asks packet answer ∷ events) = AcceptsDecided network leader events
+AcceptsDecided network leader (reopens image ∷ events) = AcceptsDecided network leader events
 
 -- ---- what holds after any events
 

@@ -1,6 +1,10 @@
 use Rattle.hose_store.proofs.OneMeaning.{recovered_once}
-use Rattle.hose_follow.proofs.Follows.{begun, follows, left_image, legal, never_differs, never_unsound}
+use Rattle.hose_follow.proofs.Follows.{begun, follows, left_image, never_differs, never_unsound, own_decided, own_sound, stays_decided}
+use Rattle.hose_follow.proofs.Leaders.{history_leads}
 use Rattle.hose_follow.proofs.laws.law_following.Goals as goal
+
+pub returns-clause-leads : goal.returns-clause-leads
+returns-clause-leads g c = λ list image stands. history_leads c.args.top.now list image stands
 
 pub returns-clause-begins : goal.returns-clause-begins
 returns-clause-begins g c = λ state beginning. begun g.D.Disk c.args.top.now state beginning
@@ -9,8 +13,14 @@ pub returns-clause-stays : goal.returns-clause-stays
 returns-clause-stays g c = λ old new events following lead.
     follows g.D.Disk c.args.top.now (recovered_once c.args.top.now) g.met.D.Disk.only_now old new events following lead
 
-pub returns-clause-legal : goal.returns-clause-legal
-returns-clause-legal g c = λ state following. legal g.D.Disk c.args.top.now state following
+pub returns-clause-sound : goal.returns-clause-sound
+returns-clause-sound g c = λ state following. own_sound g.D.Disk c.args.top.now state following
+
+pub returns-clause-decided : goal.returns-clause-decided
+returns-clause-decided g c = λ state since following decided. own_decided g.D.Disk c.args.top.now state since following decided
+
+pub returns-clause-stays_decided : goal.returns-clause-stays_decided
+returns-clause-stays_decided g c = λ old new since events decided lead are. stays_decided g.D.Disk c.args.top.now old new since events decided lead are
 
 pub returns-clause-images : goal.returns-clause-images
 returns-clause-images g c = λ state image following left.
