@@ -43,7 +43,8 @@ impl Model for Numbered {
 /// and the line; `fill` with 4,000 bytes more. After `bye` a connection is over, after `end` all
 /// are. At the first 300 places alone it knows who is new there. A standby is sent `hello`, the
 /// last number where that is new, and `?` where it is asked for a sign of life; it says `have N`,
-/// and the link is of no use after `bye`.
+/// and the link is of no use after `bye`. Once a link was opened lines wait, unless the host is
+/// alone.
 #[derive(Drop)]
 pub struct Counter {
     alloc: Global,
@@ -55,6 +56,7 @@ pub struct Counter {
     told: u64,
     heard: Option<u64>,
     bye: bool,
+    waits: bool,
 }
 
 impl Model for Counter {
@@ -70,6 +72,7 @@ impl Model for Counter {
       ended = counter.ended;
       standby = option_map (λ path. string_bytes path) counter.standby;
       unsent = counter.unsent;
+      waits = counter.waits;
     } };
 }
 
@@ -90,6 +93,7 @@ impl Counter {
             told: 0,
             heard: None,
             bye: false,
+            waits: false,
         })
     }
 
@@ -156,6 +160,8 @@ impl HostAnswers for Counter {
 
     ghost ends = { λ counter. counter.ended };
 
+    ghost waits = { λ counter. counter.waits };
+
     ghost count = { λ counter. counter.count };
 
     ghost unsent = { λ counter. counter.unsent };
@@ -214,6 +220,10 @@ impl HostAnswers for Counter {
         self.ended
     }
 
+    fn waits(&self) -> bool {
+        self.waits
+    }
+
     fn standby(&self) -> Option<&str> {
         match &self.standby {
             Some(path) => Some(path.as_str()),
@@ -229,12 +239,17 @@ impl HostAnswers for Counter {
         (60, 10)
     }
 
-    fn link_opened(&mut self) {
+    fn link_opened(&mut self, alone: bool) {
+        self.waits = !alone;
         self.unsent = Outgoing::new(self.alloc);
         self.unsent.add(b"hello\n");
         self.told = 0;
         self.heard = None;
         self.bye = false;
+    }
+
+    fn go_on(&mut self) {
+        self.waits = false;
     }
 
     fn take_in(&mut self, bytes: &[u8]) {

@@ -14,7 +14,7 @@ use crate::fence::{Fence, Mark, set_if};
 use crate::figures::Figures;
 use crate::linking::{
     LinkNotes, StandbyAt, ahead_at, ask_if, is_ended, is_required, may_go_alone, path_of,
-    patience_with,
+    patience_with, waits_at,
 };
 use crate::replies::{HostReply, put_host_reply};
 use crate::sessions::{Session, is_over, make_room, put, take};
@@ -31,7 +31,7 @@ use std::alloc::{AllocError, Global};
 
 /// Who answers the lines of all connections by one book: what answers them, the rule of each door,
 /// and how far each session is, by its place; and where replies wait for a standby, how far the
-/// link to it is, and what of it the standby has passed.
+/// link to it is, what of it the standby has passed, and whether lines wait until it has joined.
 #[derive(Drop)]
 pub struct Clerk<K: Books + History + Drop, R: RowMaker + Drop, L: Log> {
     pub desk: Desk<K, R, L>,
@@ -41,6 +41,7 @@ pub struct Clerk<K: Books + History + Drop, R: RowMaker + Drop, L: Log> {
     pub standby: Standby,
     pub fence: Fence,
     pub notes: LinkNotes,
+    pub waits: bool,
 }
 
 impl<K: Books + History + Drop, R: RowMaker + Drop, L: Log> Clerk<K, R, L> {
@@ -85,6 +86,7 @@ impl<K: Books + History + Drop, R: RowMaker + Drop, L: Log> Clerk<K, R, L> {
             standby: Standby::new(alloc),
             fence: Fence::new(),
             notes: LinkNotes::new(),
+            waits: false,
         }
     }
 
@@ -100,6 +102,7 @@ impl<K: Books + History + Drop, R: RowMaker + Drop, L: Log> Clerk<K, R, L> {
             standby: _standby,
             fence: _fence,
             notes: _notes,
+            waits: _waits,
         } = self;
         let Desk {
             alloc: _alloc,
@@ -182,6 +185,8 @@ impl<K: Books + History + Drop, R: RowMaker + Drop, L: Log> HostAnswers for Cler
 
     ghost ends = { λ clerk. clerk.desk.is_ending };
 
+    ghost waits = { λ clerk. clerk.waits };
+
     ghost count = { λ clerk. needed_of (is_required clerk.awaited) clerk.desk.figures.tally.lines
         (K.ledger clerk.desk.core.books).book.epoch };
 
@@ -232,6 +237,10 @@ impl<K: Books + History + Drop, R: RowMaker + Drop, L: Log> HostAnswers for Cler
         self.desk.is_ending
     }
 
+    fn waits(&self) -> bool {
+        self.waits
+    }
+
     fn standby(&self) -> Option<&str> {
         path_of(&self.awaited)
     }
@@ -244,9 +253,16 @@ impl<K: Books + History + Drop, R: RowMaker + Drop, L: Log> HostAnswers for Cler
         patience_with(&self.awaited)
     }
 
-    fn link_opened(&mut self) {
+    fn link_opened(&mut self, alone: bool) {
         self.standby = Standby::new(self.desk.alloc);
         self.fence.open();
+        let waits = waits_at(alone, is_required(&self.awaited));
+        self.waits = waits;
+        self.notes.expect_join(waits);
+    }
+
+    fn go_on(&mut self) {
+        self.waits = false;
     }
 
     fn take_in(&mut self, bytes: &[u8]) {

@@ -1,5 +1,5 @@
 // The standby that replies wait for, and what is told of it.
-ghost use Rattle.std.specs.Prelude.{◌≡◌, ℕ, List, IfSome, option_map};
+ghost use Rattle.std.specs.Prelude.{◌≡◌, ℕ, List, IfSome, false, option_map, true};
 ghost use Rattle.hose_graph.specs.Network.{Network};
 ghost use Rattle.hose_graph.specs.declared.entry.Entry.{Entry};
 ghost use Rattle.hose_clerk.specs.steps.Linking.{goes_alone, is_required, path_at};
@@ -53,6 +53,14 @@ pub fn is_required(awaited: &Option<StandbyAt>) -> bool
     ensures { result ≡ is_required awaited.now }
 {
     !may_go_alone(awaited)
+}
+
+/// Whether lines wait where a link was opened, as the host is alone or not and a standby is required
+/// or not: until the standby at the link has joined. Where one is required each reply waits anyhow.
+pub fn waits_at(alone: bool, required: bool) -> bool
+    ensures { required ≡ false → result ≡ false → alone ≡ true }
+{
+    !alone && !required
 }
 
 /// For how many seconds nothing may be heard of a standby: until its first answer, and later.
@@ -113,6 +121,13 @@ impl LinkNotes {
         LinkNotes {
             has_joined: false,
             ending: None,
+        }
+    }
+
+    /// That a standby joins is news once more, where lines wait for it.
+    pub fn expect_join(&mut self, waits: bool) {
+        if waits {
+            self.has_joined = false;
         }
     }
 

@@ -2,7 +2,7 @@
 use Rattle.std.specs.Bool.{MatchBool}
 use Rattle.std.specs.Option.{MatchOption}
 use mathlib.Core.List.{IsPrefix}
-use Rattle.std.specs.Prelude.{IfSome, IsSome, ⊤, option_to_list}
+use Rattle.std.specs.Prelude.{IfSome, IsSome, option_to_list}
 use Rattle.std.proofs.Common.{IsTrue, Option, None, Some, ◌≡◌, ◌≢◌, ◌∙◌, ℕ, ◌+◌, ◌-◌, ◌<◌, ◌≤◌, ◌⊎◌, ⊎_elim, inl, inr, arith, slice_index_or, slice_set, length-append, Bool, true, false, List, [], ◌∷◌, ◌++◌, All, map, length, take, drop, refl, sym, ap, subst, append_assoc, rules}
 use Rattle.std.proofs.lemmas.Bool.{cases_Bool, cases_eq, cases_lt, false≢true}
 use Rattle.std.proofs.lemmas.Grind.{flat_map-append}
@@ -18,11 +18,11 @@ use Rattle.hose_net.specs.declared.hold.Hold.{Hold}
 use Rattle.hose_net.specs.declared.hold.Hold.TheVariants.{Alone, Upto}
 use Rattle.hose_net.specs.declared.hold.Parting.{Parting}
 use Rattle.hose_net.specs.declared.hold.Parting.TheVariants as parting
-use Rattle.hose_net.specs.Story.{Answers, AwaitsMore, Exchange, Holds as HoldsSo, Joins, Link, MayHappen, MayHold, MayLink, Happens, IsByDoor, IsHosted, IsKept, IsKeptAtLink, IsServed, IsSettled, Life, PartsFor, Step, AllServed, began, waited, happened, answered, held as is_held, bound_in, bound_of, exchanges, hold_in, is_empty, leaves_lines, life, lines_of, link_after, link_answered, link_in, new_link, newcomer, no_link, nobody, texts_of}
+use Rattle.hose_net.specs.Story.{Answers, AwaitsMore, Exchange, Holds as HoldsSo, Joins, Link, MayAnswer, MayHappen, MayHold, MayLink, Happens, IsByDoor, IsHosted, IsKept, IsKeptAtLink, IsServed, IsSettled, Life, PartsFor, Step, AllServed, began, waited, happened, answered, held as is_held, bound_in, bound_of, exchanges, hold_in, is_empty, joined_in, leaves_lines, life, lines_of, link_after, link_answered, link_in, new_link, newcomer, no_link, nobody, texts_of}
 use Rattle.hose_net.proofs.Laws.{own_on}
-use Rattle.hose_net.proofs.Stories.{IsAt, bound-answers, bound-happens, bound-holds, exchanges-happens, exchanges-holds, exchanges-push, happened_now, happened_on, hold-push, life-answers, life-came, life-got, life-holds, life-left, life-linked, life-other, life-other_answers, life-refused, life-sent, life-stopped, link-push, link-same, served_holds, served_linked, served_now, served_too}
+use Rattle.hose_net.proofs.Stories.{IsAt, bound-answers, bound-happens, bound-holds, exchanges-happens, exchanges-holds, exchanges-push, happened_now, happened_on, hold-push, joined-push, joined-same, life-answers, life-came, life-got, life-holds, life-left, life-linked, life-other, life-other_answers, life-refused, life-sent, life-stopped, link-push, link-same, served_holds, served_linked, served_now, served_too}
 use Rattle.hose_host.specs.steps.Seats.{AllFinished, AtRest, Awaits, Calm, Exact, Finished, FinishedBelow, Freed, FreedBelow, Gone, GrowsByLost, Held, Holds, InRound, IsSaid, Keeping, Quiet, Releases, Resting, SeatState, Sits, emptied, fresh_seat, held_of, with_held, with_text}
-use Rattle.hose_host.specs.steps.Keeping.{AllSit, At, GoesOnAt, GoesOnLink, Hall, Host, IsOpen, Keeps, KeepsAll, KeepsHost, KeepsLink, PartsHost, Stands, at, hall, housed, terms_of}
+use Rattle.hose_host.specs.steps.Keeping.{AllSit, At, GoesOnAt, GoesOnLink, Hall, Host, IsOpen, Keeps, KeepsAll, KeepsHost, KeepsLink, KeepsLinkAt, PartsHost, Stands, at, hall, housed, terms_of}
 
 -- one list begins another one, which begins a third
 onward_then : {T : Type 0} (one two three : List T) → IsPrefix one two → IsPrefix two three → IsPrefix one three
@@ -59,7 +59,7 @@ stays_said heard needs text kept old new keeps was said = λ open_still. ⊎_eli
     (λ wait. ap (λ (s : SeatState). s.kept) wait.1 ∙ keeps was)
     (said open_still)
 
-joins_more : {L R : Type 0} (hold : Hold) (was count : ℕ) (xs : List (Exchange L R)) → bound_of hold ≡ was → was < count → count < bound_of Alone → Joins hold count xs
+joins_more : {L R : Type 0} (hold : Hold) (was count : ℕ) (xs : List (Exchange L R)) → bound_of hold ≡ was → was ≤ count → count < bound_of Alone → Joins hold count xs
 joins_more Alone was count xs is more less = absurd (omega (arith, is, more, less))
 joins_more (Upto before) was count xs is more less = omega (arith, is, more)
 
@@ -383,11 +383,11 @@ module _ {N A R B : Type 0} (net : ConnectionsGhosts N) (by : Ghosts A R B) (hea
 
   -- nothing happened
   stands_waited : (first : N) (from : by.origin) (topic : by.subject) (story : List (Step by.said R)) (was now : N) (by_now : A) → net.did was [] now → Stands net by first from topic story heard was by_now → Stands net by first from topic story heard now by_now
-  stands_waited first from topic story was now by_now went stands = record { hosts = waited stands.hosts went; link = stands.link; comes = stands.comes; links = stands.links; answered = stands.answered; about = stands.about; hears = stands.hears; alone = stands.alone; within = stands.within; knows = stands.knows }
+  stands_waited first from topic story was now by_now went stands = record { hosts = waited stands.hosts went; link = stands.link; comes = stands.comes; links = stands.links; answered = stands.answered; about = stands.about; hears = stands.hears; alone = stands.alone; within = stands.within; may = stands.may; knows = stands.knows }
 
   -- who answers has changed, and no line was answered
-  stands_by : (first : N) (from : by.origin) (topic : by.subject) (story : List (Step by.said R)) (network : N) (old now : A) → ((xs : List (Exchange by.said R)) (link : Link) → by.comes from xs link old → by.comes from xs link now) → by.about now ≡ by.about old → by.count now ≡ by.count old → ((place : ℕ) → (life place story).here ≡ true → by.is_new now place ≡ is_empty (life place story).own) → Stands net by first from topic story heard network old → Stands net by first from topic story heard network now
-  stands_by first from topic story network old now comes about count knows stands = record {
+  stands_by : (first : N) (from : by.origin) (topic : by.subject) (story : List (Step by.said R)) (network : N) (old now : A) → ((xs : List (Exchange by.said R)) (link : Link) → by.comes from xs link old → by.comes from xs link now) → by.about now ≡ by.about old → by.count now ≡ by.count old → by.waits now ≡ by.waits old → ((place : ℕ) → (life place story).here ≡ true → by.is_new now place ≡ is_empty (life place story).own) → Stands net by first from topic story heard network old → Stands net by first from topic story heard network now
+  stands_by first from topic story network old now comes about count waits knows stands = record {
     hosts = stands.hosts;
     link = stands.link;
     comes = comes (exchanges story) stands.link stands.comes;
@@ -397,6 +397,7 @@ module _ {N A R B : Type 0} (net : ConnectionsGhosts N) (by : Ghosts A R B) (hea
     hears = stands.hears;
     alone = stands.alone;
     within = subst (λ (n : ℕ). All (λ (x : Exchange by.said R). x.needs ≤ n) (exchanges story)) (sym count) stands.within;
+    may = λ no. stands.may (sym waits ∙ no);
     knows = knows;
   }
 
@@ -421,8 +422,8 @@ module _ {N A R B : Type 0} (net : ConnectionsGhosts N) (by : Ghosts A R B) (hea
     lined place = (before place).lines
 
     -- something happened
-    stands_on : (happening : Happening) (now : N) (by_new : A) (link : Link) → MayHappen story happening → net.did was (happening ∷ []) now → IsKept (terms_of net by from topic) story was happening now → AllServed (terms_of net by from topic) (story ++ Happens happening ∷ []) → by.comes from (exchanges story) link by_new → ((link_in (story ++ Happens happening ∷ [])).here ≡ true → link ≡ link_in (story ++ Happens happening ∷ [])) → link.answered ≡ (link_in (story ++ Happens happening ∷ [])).answered → by.about by_new ≡ topic → by.count by_new ≡ by.count by_now → ((place : ℕ) → (life place (story ++ Happens happening ∷ [])).here ≡ true → by.is_new by_new place ≡ is_empty (life place (story ++ Happens happening ∷ [])).own) → Stands net by first from topic (story ++ Happens happening ∷ []) heard now by_new
-    stands_on happening now by_new link free went kept served comes links counts about count knows = record {
+    stands_on : (happening : Happening) (now : N) (by_new : A) (link : Link) → MayHappen story happening → net.did was (happening ∷ []) now → IsKept (terms_of net by from topic) story was happening now → AllServed (terms_of net by from topic) (story ++ Happens happening ∷ []) → by.comes from (exchanges story) link by_new → ((link_in (story ++ Happens happening ∷ [])).here ≡ true → link ≡ link_in (story ++ Happens happening ∷ [])) → link.answered ≡ (link_in (story ++ Happens happening ∷ [])).answered → by.about by_new ≡ topic → by.count by_new ≡ by.count by_now → (by.waits by_new ≡ false → MayAnswer (terms_of net by from topic) (story ++ Happens happening ∷ [])) → ((place : ℕ) → (life place (story ++ Happens happening ∷ [])).here ≡ true → by.is_new by_new place ≡ is_empty (life place (story ++ Happens happening ∷ [])).own) → Stands net by first from topic (story ++ Happens happening ∷ []) heard now by_new
+    stands_on happening now by_new link free went kept served comes links counts about count may knows = record {
       hosts = happened happening free stands.hosts went kept served;
       link = link;
       comes = subst (λ (xs : List (Exchange by.said R)). by.comes from xs link by_new) (sym (exchanges-happens story happening)) comes;
@@ -432,8 +433,13 @@ module _ {N A R B : Type 0} (net : ConnectionsGhosts N) (by : Ghosts A R B) (hea
       hears = bound-happens story happening ∙ stands.hears;
       alone = λ is. hold-push story (Happens happening) ∙ stands.alone is;
       within = subst (All (λ (x : Exchange by.said R). x.needs ≤ by.count by_new)) (sym (exchanges-happens story happening)) (subst (λ (n : ℕ). All (λ (x : Exchange by.said R). x.needs ≤ n) (exchanges story)) (sym count) stands.within);
+      may = may;
       knows = knows;
     }
+
+    -- a line may be answered as before, where what happened leaves whether a standby has joined
+    may_on : (happening : Happening) (by_new : A) → by.waits by_new ≡ by.waits by_now → joined_in (story ++ Happens happening ∷ []) ≡ joined_in story → by.waits by_new ≡ false → MayAnswer (terms_of net by from topic) (story ++ Happens happening ∷ [])
+    may_on happening by_new same joined open_now = λ may un. hold-push story (Happens happening) ∙ stands.may (sym same ∙ open_now) may (sym joined ∙ un)
 
     -- something happened at a place
     went_on : (Q : Life by.said R → SeatState → Type 0) (place : ℕ) (now : N) (happening : Happening) (seat : SeatState) (coming : List ℕ) (new : Life by.said R) → IsAt place happening → MayHappen story happening → net.did was (happening ∷ []) now → IsKept (terms_of net by from topic) story was happening now → life place (story ++ Happens happening ∷ []) ≡ new → (new.here ≡ true → by.is_new by_now place ≡ is_empty new.own) → IsServed (by.text topic) heard new → Sits (by.text topic) heard new seat coming → Q new seat → GoesOnAt net by Q place first from topic story heard (at now by_now seat coming)
@@ -447,7 +453,7 @@ module _ {N A R B : Type 0} (net : ConnectionsGhosts N) (by : Ghosts A R B) (hea
           links = ap (λ (l : Link). l.here) linked;
           others = others;
           stands = stands_on happening now by_now stands.link free went kept_then (served_too (terms_of net by from topic) place story (story ++ Happens happening ∷ []) others same before (subst (λ (h : ℕ). IsServed (by.text topic) h (life place (story ++ Happens happening ∷ []))) (sym (same ∙ stands.hears)) (subst (IsServed (by.text topic) heard) (sym is) served)))
-              stands.comes (λ there. stands.links (ap (λ (l : Link). l.here) (sym linked) ∙ there) ∙ sym linked) (stands.answered ∙ ap (λ (l : Link). l.answered) (sym linked)) stands.about refl
+              stands.comes (λ there. stands.links (ap (λ (l : Link). l.here) (sym linked) ∙ there) ∙ sym linked) (stands.answered ∙ ap (λ (l : Link). l.answered) (sym linked)) stands.about refl (may_on happening by_now refl (joined-same place story happening here))
               (knows_on place story (story ++ Happens happening ∷ []) by_now by_now others (λ other apart. refl) stands.knows (subst (λ (l : Life by.said R). l.here ≡ true → by.is_new by_now place ≡ is_empty l.own) (sym is) known));
           sits = λ kept. subst (λ (l : Life by.said R). Exact (by.text topic) heard l seat coming) (sym is) (sits kept);
           ends = subst (λ (l : Life by.said R). Q l seat) (sym is) so;
@@ -457,9 +463,9 @@ module _ {N A R B : Type 0} (net : ConnectionsGhosts N) (by : Ghosts A R B) (hea
     went_exact Q place now happening seat coming new here free went kept_then is known lines exact so =
         went_on Q place now happening seat coming new here free went kept_then is known (served_exact (by.text topic) heard new seat coming lines exact) (λ kept. exact) so
 
-    answered_on : (Q : Life by.said R → SeatState → Type 0) (now : A) (old mid new : SeatState) (coming : List ℕ) (exchange : Exchange by.said R) → (exact : Exact (by.text topic) heard (life exchange.place story) old (10 ∷ coming)) → exchange.line ≡ exact.held → exchange.door ≡ old.door → exchange.first ≡ by.is_new by_now exchange.place → by.says topic exchange.first exchange.door exchange.line exchange.said → by.comes from (exchanges story ++ exchange ∷ []) (link_answered stands.link) now → by.count by_now ≤ by.count now → exchange.needs ≤ by.count now → by.is_new now exchange.place ≡ false → ((other : ℕ) → other ≢ exchange.place → by.is_new now other ≡ by.is_new by_now other) → by.about now ≡ topic
+    answered_on : (Q : Life by.said R → SeatState → Type 0) (now : A) (old mid new : SeatState) (coming : List ℕ) (exchange : Exchange by.said R) → (exact : Exact (by.text topic) heard (life exchange.place story) old (10 ∷ coming)) → exchange.line ≡ exact.held → exchange.door ≡ old.door → exchange.first ≡ by.is_new by_now exchange.place → by.says topic exchange.first exchange.door exchange.line exchange.said → by.waits by_now ≡ false → by.comes from (exchanges story ++ exchange ∷ []) (link_answered stands.link) now → by.count by_now ≤ by.count now → exchange.needs ≤ by.count now → by.is_new now exchange.place ≡ false → ((other : ℕ) → other ≢ exchange.place → by.is_new now other ≡ by.is_new by_now other) → by.about now ≡ topic
         → Exact (by.text topic) heard (record (life exchange.place story) { own = (life exchange.place story).own ++ exchange ∷ [] }) mid coming → (new.lost ≡ false → new ≡ mid) → ((life : Life by.said R) → Q life new) → GoesOnAt net by Q exchange.place first from topic story heard (at was now new coming)
-    answered_on Q now old mid new coming exchange exact line door is_first says comes rises needs known frames stays there text_is so =
+    answered_on Q now old mid new coming exchange exact line door is_first says open_now comes rises needs known frames stays there text_is so =
         let others : (other : ℕ) → other ≢ exchange.place → life other (story ++ Answers exchange ∷ []) ≡ life other story = λ other apart. life-other_answers other story exchange apart in
         let same : bound_in (story ++ Answers exchange ∷ []) ≡ bound_in story = bound-answers story exchange in
         let linked : link_in (story ++ Answers exchange ∷ []) ≡ link_answered (link_in story) = link-push story (Answers exchange) in
@@ -472,7 +478,7 @@ module _ {N A R B : Type 0} (net : ConnectionsGhosts N) (by : Ghosts A R B) (hea
           links = ap (λ (l : Link). l.here) linked;
           others = others;
           stands = record {
-            hosts = answered exchange stands.hosts (is_first ∙ stands.knows exchange.place exact.here) says (served_too (terms_of net by from topic) exchange.place story (story ++ Answers exchange ∷ []) others same before (subst (λ (h : ℕ). IsServed (by.text topic) h (life exchange.place (story ++ Answers exchange ∷ []))) (sym (same ∙ stands.hears)) (subst (IsServed (by.text topic) heard) (sym is) (served_exact (by.text topic) heard grown mid coming lines there))));
+            hosts = answered exchange stands.hosts (is_first ∙ stands.knows exchange.place exact.here) says (stands.may open_now) (served_too (terms_of net by from topic) exchange.place story (story ++ Answers exchange ∷ []) others same before (subst (λ (h : ℕ). IsServed (by.text topic) h (life exchange.place (story ++ Answers exchange ∷ []))) (sym (same ∙ stands.hears)) (subst (IsServed (by.text topic) heard) (sym is) (served_exact (by.text topic) heard grown mid coming lines there))));
             link = link_answered stands.link;
             comes = subst (λ (xs : List (Exchange by.said R)). by.comes from xs (link_answered stands.link) now) (sym (exchanges-push story exchange)) comes;
             links = λ there. ap link_answered (stands.links (ap (λ (l : Link). l.here) (sym linked) ∙ there)) ∙ sym linked;
@@ -481,6 +487,7 @@ module _ {N A R B : Type 0} (net : ConnectionsGhosts N) (by : Ghosts A R B) (hea
             hears = same ∙ stands.hears;
             alone = λ is. hold-push story (Answers exchange) ∙ stands.alone is;
             within = subst (All (λ (x : Exchange by.said R). x.needs ≤ by.count now)) (sym (exchanges-push story exchange)) (All-push (λ (x : Exchange by.said R). x.needs ≤ by.count now) (exchanges story) exchange (All-weaker (λ (x : Exchange by.said R). x.needs ≤ by.count by_now) (λ (x : Exchange by.said R). x.needs ≤ by.count now) (λ x within. omega (arith, within, rises)) (exchanges story) stands.within) needs);
+            may = λ no may un. hold-push story (Answers exchange) ∙ stands.may open_now may (sym (joined-push story (Answers exchange)) ∙ un);
             knows = knows_on exchange.place story (story ++ Answers exchange ∷ []) by_now now others frames stands.knows (λ here. known ∙ sym (is_empty-push (life exchange.place story).own exchange) ∙ ap (λ (l : Life by.said R). is_empty l.own) (sym is));
           };
           sits = λ kept. subst (λ (l : Life by.said R). Exact (by.text topic) heard l new coming) (sym is) (subst (λ (seat : SeatState). Exact (by.text topic) heard grown seat coming) (sym (text_is kept)) there);
@@ -515,21 +522,21 @@ module _ {N A R B : Type 0} (net : ConnectionsGhosts N) (by : Ghosts A R B) (hea
       (finished_lost false (record (life place story) { here = false }) seat lost refl)
 
   -- what is known of a place where no one is comes or goes
-  pub keeps_known : (P : Life by.said R → SeatState → Type 0) (place : ℕ) (network : N) (old now : A) (seat : SeatState) (coming : List ℕ) → ((life : Life by.said R) → P life seat → life.here ≡ false) → ((other : ℕ) → other ≢ place → (by.is_new now other ≡ by.is_new old other) × (by.over now other ≡ by.over old other)) → ((from : by.origin) (xs : List (Exchange by.said R)) (link : Link) → by.comes from xs link old → by.comes from xs link now) → by.about now ≡ by.about old → by.count now ≡ by.count old → Keeps net by P P place heard (at network old seat coming) (at network now seat coming)
-  keeps_known P place network old now seat coming gone frames comes same count = λ first from topic story stands sits so. record {
+  pub keeps_known : (P : Life by.said R → SeatState → Type 0) (place : ℕ) (network : N) (old now : A) (seat : SeatState) (coming : List ℕ) → ((life : Life by.said R) → P life seat → life.here ≡ false) → ((other : ℕ) → other ≢ place → (by.is_new now other ≡ by.is_new old other) × (by.over now other ≡ by.over old other)) → ((from : by.origin) (xs : List (Exchange by.said R)) (link : Link) → by.comes from xs link old → by.comes from xs link now) → by.about now ≡ by.about old → by.count now ≡ by.count old → by.waits now ≡ by.waits old → Keeps net by P P place heard (at network old seat coming) (at network now seat coming)
+  keeps_known P place network old now seat coming gone frames comes same count waits = λ first from topic story stands sits so. record {
     later = story;
     onward = onward_same story;
     links = refl;
     others = λ other apart. refl;
-    stands = stands_by first from topic story network old now (λ xs link. comes from xs link) same count (knows_on place story story old now (λ other apart. refl) (λ other apart. (frames other apart).0) stands.knows (λ here. absurd (false≢true (sym (gone (life place story) so) ∙ here)))) stands;
+    stands = stands_by first from topic story network old now (λ xs link. comes from xs link) same count waits (knows_on place story story old now (λ other apart. refl) (λ other apart. (frames other apart).0) stands.knows (λ here. absurd (false≢true (sym (gone (life place story) so) ∙ here)))) stands;
     sits = sits;
     ends = so;
   }
 
   -- a line was answered
-  pub keeps_answered : (place : ℕ) (network : N) (old now : A) (seat new : SeatState) (coming : List ℕ) (shown : Line) (reply : R) → seat.lost ≡ false → ((held : List ℕ) → Holds seat held → Shows shown held) → ((from : by.origin) (link : Link) → AnswersAt (λ (xs : List (Exchange by.said R)). by.comes from xs link) (λ (xs : List (Exchange by.said R)). by.comes from xs (link_answered link)) (by.says (by.about old)) place seat.door shown (by.is_new old place) (by.count now) old now reply) → by.count old ≤ by.count now → by.is_new now place ≡ false → ((other : ℕ) → other ≢ place → (by.is_new now other ≡ by.is_new old other) × (by.over now other ≡ by.over old other)) → by.about now ≡ by.about old → (new.lost ≡ false → IsSaid heard (by.count now) (by.text (by.about old) reply) (emptied seat) new)
+  pub keeps_answered : (place : ℕ) (network : N) (old now : A) (seat new : SeatState) (coming : List ℕ) (shown : Line) (reply : R) → seat.lost ≡ false → ((held : List ℕ) → Holds seat held → Shows shown held) → ((from : by.origin) (link : Link) → AnswersAt (λ (xs : List (Exchange by.said R)). by.comes from xs link) (λ (xs : List (Exchange by.said R)). by.comes from xs (link_answered link)) (by.says (by.about old)) place seat.door shown (by.is_new old place) (by.count now) old now reply) → by.waits old ≡ false → by.count old ≤ by.count now → by.is_new now place ≡ false → ((other : ℕ) → other ≢ place → (by.is_new now other ≡ by.is_new old other) × (by.over now other ≡ by.over old other)) → by.about now ≡ by.about old → (new.lost ≡ false → IsSaid heard (by.count now) (by.text (by.about old) reply) (emptied seat) new)
       → Keeps net by (Freed heard []) (Freed heard []) place heard (at network old seat (10 ∷ coming)) (at network now new coming)
-  keeps_answered place network old now seat new coming shown reply kept shows comes_on rises known frames same text_is = λ first from topic story stands sits so.
+  keeps_answered place network old now seat new coming shown reply kept shows comes_on open_now rises known frames same text_is = λ first from topic story stands sits so.
       let exact = sits kept in
       let next = comes_on from stands.link (exchanges story) exact.held (shows exact.held exact.holds) stands.comes in
       let text_at : by.text (by.about old) reply ≡ by.text topic reply = ap (λ (t : by.subject). by.text t reply) stands.about in
@@ -537,7 +544,7 @@ module _ {N A R B : Type 0} (net : ConnectionsGhosts N) (by : Ghosts A R B) (hea
       let exchange : Exchange by.said R = record { place = place; door = seat.door; first = by.is_new old place; line = exact.held; said = next.0; reply = reply; needs = by.count now } in
       let answered_by : (mid : SeatState) → Exact (by.text topic) heard (record (life place story) { own = (life place story).own ++ exchange ∷ [] }) mid coming → (new.lost ≡ false → new ≡ mid) → GoesOnAt net by (Freed heard []) place first from topic story heard (at network now new coming) = λ mid there same_as.
       answered_on first from topic story network old stands (Freed heard []) now seat mid new coming exchange exact refl refl refl
-      (subst (λ (subject : by.subject). by.says subject (by.is_new old place) seat.door exact.held next.0) stands.about next.1) next.2 rises (omega arith) known (λ other apart. (frames other apart).0) (same ∙ stands.about) there same_as
+      (subst (λ (subject : by.subject). by.says subject (by.is_new old place) seat.door exact.held next.0) stands.about next.1) open_now next.2 rises (omega arith) known (λ other apart. (frames other apart).0) (same ∙ stands.about) there same_as
       (λ life. record { awaits = freed_said heard (by.count now) (by.text topic reply) seat new so.awaits kept said; keeps = stays_said heard (by.count now) (by.text topic reply) [] seat new so.keeps kept said }) in
       elim (cases_Bool new.lost) [
         | inl lost ↦ answered_by (with_held (emptied seat) (by.count now) (by.text topic reply)) (exact_waits (by.text topic) heard (life place story) seat coming exchange exact refl) (λ open_still. absurd (false≢true (sym open_still ∙ lost)))
@@ -642,11 +649,15 @@ module _ {N A R B : Type 0} (net : ConnectionsGhosts N) (by : Ghosts A R B) wher
 
   -- ---- at the link
 
-  pub link_then : (was mid new : Bool) (n1 n2 n3 : N) (a1 a2 a3 : A) → KeepsLink net by was n1 a1 mid n2 a2 → KeepsLink net by mid n2 a2 new n3 a3 → KeepsLink net by was n1 a1 new n3 a3
-  link_then was mid new n1 n2 n3 a1 a2 a3 begun more = λ heard first from topic story stands there.
-      let one = begun heard first from topic story stands there in
-      let two = more heard first from topic one.later one.stands one.there in
+  -- what is kept where so much was heard
+  pub link_then_at : (heard : ℕ) (was mid new : Bool) (n1 n2 n3 : N) (a1 a2 a3 : A) → KeepsLinkAt net by heard was n1 a1 mid n2 a2 → KeepsLinkAt net by heard mid n2 a2 new n3 a3 → KeepsLinkAt net by heard was n1 a1 new n3 a3
+  link_then_at heard was mid new n1 n2 n3 a1 a2 a3 begun more = λ first from topic story stands there.
+      let one = begun first from topic story stands there in
+      let two = more first from topic one.later one.stands one.there in
       record { later = two.later; onward = onward_then story one.later two.later one.onward two.onward; same = λ place. two.same place ∙ one.same place; stands = two.stands; there = two.there }
+
+  pub link_then : (was mid new : Bool) (n1 n2 n3 : N) (a1 a2 a3 : A) → KeepsLink net by was n1 a1 mid n2 a2 → KeepsLink net by mid n2 a2 new n3 a3 → KeepsLink net by was n1 a1 new n3 a3
+  link_then was mid new n1 n2 n3 a1 a2 a3 begun more = λ heard. link_then_at heard was mid new n1 n2 n3 a1 a2 a3 (begun heard) (more heard)
 
   pub link_quiet : (opened : Bool) (was now : N) (by_now : A) → net.did was [] now → KeepsLink net by opened was by_now opened now by_now
   link_quiet opened was now by_now went = λ heard first from topic story stands there. record { later = story; onward = onward_same story; same = λ place. refl; stands = stands_waited net by heard first from topic story was now by_now went stands; there = there }
@@ -654,51 +665,67 @@ module _ {N A R B : Type 0} (net : ConnectionsGhosts N) (by : Ghosts A R B) wher
   pub link_same : (opened : Bool) (network : N) (by_now : A) → KeepsLink net by opened network by_now opened network by_now
   link_same opened network by_now = λ heard first from topic story stands there. record { later = story; onward = onward_same story; same = λ place. refl; stands = stands; there = there }
 
-  pub link_by : (opened : Bool) (network : N) (old now : A) → ((from : by.origin) (xs : List (Exchange by.said R)) (link : Link) → by.comes from xs link old → by.comes from xs link now) → LeavesPlaces by.is_new by.over by.about by.count old now → KeepsLink net by opened network old opened network now
-  link_by opened network old now comes leaves = λ heard first from topic story stands there. record { later = story; onward = onward_same story; same = λ place. refl; stands = stands_by net by heard first from topic story network old now (comes from) leaves.same_about leaves.same_count (λ place here. leaves.same_new place ∙ stands.knows place here) stands; there = there }
+  pub link_by : (opened : Bool) (network : N) (old now : A) → ((from : by.origin) (xs : List (Exchange by.said R)) (link : Link) → by.comes from xs link old → by.comes from xs link now) → LeavesPlaces by.is_new by.over by.about by.count by.waits old now → KeepsLink net by opened network old opened network now
+  link_by opened network old now comes leaves = λ heard first from topic story stands there. record { later = story; onward = onward_same story; same = λ place. refl; stands = stands_by net by heard first from topic story network old now (comes from) leaves.same_about leaves.same_count leaves.same_waits (λ place here. leaves.same_new place ∙ stands.knows place here) stands; there = there }
 
-  leaves_same : (by_now : A) → LeavesPlaces by.is_new by.over by.about by.count by_now by_now
-  leaves_same by_now = record { same_new = λ place. refl; same_over = λ place. refl; same_about = refl; same_count = refl }
+  leaves_same : (by_now : A) → LeavesPlaces by.is_new by.over by.about by.count by.waits by_now by_now
+  leaves_same by_now = record { same_new = λ place. refl; same_over = λ place. refl; same_about = refl; same_count = refl; same_waits = refl }
+
+  -- all places are as they were, whether lines wait or not
+  abbrev Leaves : A → A → Type 0
+  Leaves old now = LeavesPlaces by.is_new by.over by.about by.count (λ (a : A). false) old now
+
+  leaves_too : (old now : A) → LeavesPlaces by.is_new by.over by.about by.count by.waits old now → Leaves old now
+  leaves_too old now leaves = record { same_new = leaves.same_new; same_over = leaves.same_over; same_about = leaves.same_about; same_count = leaves.same_count; same_waits = refl }
+
+  pub leaves_none : (by_now : A) → Leaves by_now by_now
+  leaves_none by_now = leaves_too by_now by_now (leaves_same by_now)
 
   module _ (heard : ℕ) (first : N) (from : by.origin) (topic : by.subject) (story : List (Step by.said R)) (was : N) (by_now : A) (stands : Stands net by first from topic story heard was by_now) where
     -- something happened at the link
-    linked_on : (step : LinkStep) (now : N) (by_new : A) (link : Link) (opened : Bool) → MayLink (link_in story) step → net.did was (Linked step ∷ []) now → IsKeptAtLink (terms_of net by from topic) story was step now → by.comes from (exchanges story) link by_new → ((link_in (story ++ Happens (Linked step) ∷ [])).here ≡ true → link ≡ link_in (story ++ Happens (Linked step) ∷ [])) → link.answered ≡ (link_in (story ++ Happens (Linked step) ∷ [])).answered → LeavesPlaces by.is_new by.over by.about by.count by_now by_new → IsOpen net by opened (story ++ Happens (Linked step) ∷ []) → GoesOnLink net by opened first from topic story heard now by_new
-    linked_on step now by_new link opened free went kept comes links counts leaves there = record {
+    linked_on : (step : LinkStep) (now : N) (by_new : A) (link : Link) (opened : Bool) → MayLink (link_in story) step → net.did was (Linked step ∷ []) now → IsKeptAtLink (terms_of net by from topic) story was step now → by.comes from (exchanges story) link by_new → ((link_in (story ++ Happens (Linked step) ∷ [])).here ≡ true → link ≡ link_in (story ++ Happens (Linked step) ∷ [])) → link.answered ≡ (link_in (story ++ Happens (Linked step) ∷ [])).answered → Leaves by_now by_new → (by.waits by_new ≡ false → MayAnswer (terms_of net by from topic) (story ++ Happens (Linked step) ∷ [])) → IsOpen net by opened (story ++ Happens (Linked step) ∷ []) → GoesOnLink net by opened first from topic story heard now by_new
+    linked_on step now by_new link opened free went kept comes links counts leaves may there = record {
       later = story ++ Happens (Linked step) ∷ [];
       onward = (Happens (Linked step) ∷ [], refl);
       same = λ place. life-linked place step story;
-      stands = stands_on net by heard first from topic story was by_now stands (Linked step) now by_new link free went kept (served_linked (terms_of net by from topic) step story (before net by heard first from topic story was by_now stands)) comes links counts (leaves.same_about ∙ stands.about) leaves.same_count
+      stands = stands_on net by heard first from topic story was by_now stands (Linked step) now by_new link free went kept (served_linked (terms_of net by from topic) step story (before net by heard first from topic story was by_now stands)) comes links counts (leaves.same_about ∙ stands.about) leaves.same_count may
           (λ place. subst (λ (l : Life by.said R). l.here ≡ true → by.is_new by_new place ≡ is_empty l.own) (sym (life-linked place step story)) (λ here. leaves.same_new place ∙ stands.knows place here));
       there = there;
     }
 
+    may_still : (step : LinkStep) (by_new : A) → by.waits by_new ≡ by.waits by_now → joined_in (story ++ Happens (Linked step) ∷ []) ≡ joined_in story → by.waits by_new ≡ false → MayAnswer (terms_of net by from topic) (story ++ Happens (Linked step) ∷ [])
+    may_still step = may_on net by heard first from topic story was by_now stands (Linked step)
+
     pushed : (step : LinkStep) → link_in (story ++ Happens (Linked step) ∷ []) ≡ link_after (link_in story) step
     pushed step = link-push story (Happens (Linked step))
 
-  pub link_opened : (was : Bool) (n1 n2 : N) (a1 a2 : A) (path : List ℕ) → by.standby_at (by.about a1) ≡ Some path → net.did n1 (Linked (Opened path) ∷ []) n2 → ((from : by.origin) (xs : List (Exchange by.said R)) (link : Link) (at : List ℕ) → by.comes from xs link a1 → by.comes from xs (link_after link (Opened at)) a2) → LeavesPlaces by.is_new by.over by.about by.count a1 a2 → KeepsLink net by was n1 a1 true n2 a2
-  link_opened was n1 n2 a1 a2 path is went comes leaves = λ heard first from topic story stands there.
+  -- it was opened, where so much was heard, and lines wait unless the host is alone
+  pub link_opened : (heard : ℕ) (alone was : Bool) (n1 n2 : N) (a1 a2 : A) (path : List ℕ) → (alone ≡ true → heard ≡ bound_of Alone) → (by.goes_alone (by.about a1) ≡ true → by.waits a2 ≡ false → alone ≡ true) → by.standby_at (by.about a1) ≡ Some path → net.did n1 (Linked (Opened path) ∷ []) n2 → ((from : by.origin) (xs : List (Exchange by.said R)) (link : Link) (at : List ℕ) → by.comes from xs link a1 → by.comes from xs (link_after link (Opened at)) a2) → Leaves a1 a2 → KeepsLinkAt net by heard was n1 a1 true n2 a2
+  link_opened heard alone was n1 n2 a1 a2 path most waits is went comes leaves = λ first from topic story stands there.
       let push = pushed heard first from topic story n1 a1 stands (Opened path) in
-      linked_on heard first from topic story n1 a1 stands (Opened path) n2 a2 (new_link stands.link.answered) true tt went (ap (λ (t : by.subject). by.standby_at t) (sym stands.about) ∙ is) (comes from (exchanges story) stands.link path stands.comes) (λ _. ap new_link stands.answered ∙ sym push) (stands.answered ∙ ap (λ (l : Link). l.answered) (sym push)) leaves (λ _. ap (λ (l : Link). l.here) push)
+      linked_on heard first from topic story n1 a1 stands (Opened path) n2 a2 (new_link stands.link.answered) true tt went (ap (λ (t : by.subject). by.standby_at t) (sym stands.about) ∙ is) (comes from (exchanges story) stands.link path stands.comes) (λ _. ap new_link stands.answered ∙ sym push) (stands.answered ∙ ap (λ (l : Link). l.answered) (sym push)) leaves
+      (λ no may un. hold-push story (Happens (Linked (Opened path))) ∙ stands.alone (most (waits (ap (λ (t : by.subject). by.goes_alone t) stands.about ∙ may) no)))
+      (λ _. ap (λ (l : Link). l.here) push)
 
-  pub link_gave : (n1 n2 : N) (a1 a2 : A) (bytes : List ℕ) → net.did n1 (Linked (Gave bytes) ∷ []) n2 → ((from : by.origin) (xs : List (Exchange by.said R)) (link : Link) → by.comes from xs link a1 → by.comes from xs (link_after link (Gave bytes)) a2) → LeavesPlaces by.is_new by.over by.about by.count a1 a2 → KeepsLink net by true n1 a1 true n2 a2
+  pub link_gave : (n1 n2 : N) (a1 a2 : A) (bytes : List ℕ) → net.did n1 (Linked (Gave bytes) ∷ []) n2 → ((from : by.origin) (xs : List (Exchange by.said R)) (link : Link) → by.comes from xs link a1 → by.comes from xs (link_after link (Gave bytes)) a2) → LeavesPlaces by.is_new by.over by.about by.count by.waits a1 a2 → KeepsLink net by true n1 a1 true n2 a2
   link_gave n1 n2 a1 a2 bytes went comes leaves = λ heard first from topic story stands there.
       let push = pushed heard first from topic story n1 a1 stands (Gave bytes) in
       let same = stands.links (there refl) in
-      linked_on heard first from topic story n1 a1 stands (Gave bytes) n2 a2 (link_after stands.link (Gave bytes)) true (there refl) went tt (comes from (exchanges story) stands.link stands.comes) (λ _. ap (λ (l : Link). link_after l (Gave bytes)) same ∙ sym push) (stands.answered ∙ ap (λ (l : Link). l.answered) (sym push)) leaves (λ _. ap (λ (l : Link). l.here) push ∙ there refl)
+      linked_on heard first from topic story n1 a1 stands (Gave bytes) n2 a2 (link_after stands.link (Gave bytes)) true (there refl) went tt (comes from (exchanges story) stands.link stands.comes) (λ _. ap (λ (l : Link). link_after l (Gave bytes)) same ∙ sym push) (stands.answered ∙ ap (λ (l : Link). l.answered) (sym push)) (leaves_too a1 a2 leaves) (may_still heard first from topic story n1 a1 stands (Gave bytes) a2 leaves.same_waits (joined-push story (Happens (Linked (Gave bytes))))) (λ _. ap (λ (l : Link). l.here) push ∙ there refl)
 
-  pub link_took : (n1 n2 : N) (a1 a2 : A) (unsent : List ℕ) (count : ℕ) (kept : B) → net.did n1 (Linked (Took (take count unsent)) ∷ []) n2 → net.saw B n1 kept n2 → ((from : by.origin) (xs : List (Exchange by.said R)) (link : Link) → by.comes from xs link a1 → by.stands from xs kept) → ((from : by.origin) (xs : List (Exchange by.said R)) (link : Link) (many : ℕ) → by.comes from xs link a1 → (heard : Option ℕ) × by.leads from xs (link_after link (Took (take many unsent))) heard) → ((from : by.origin) (xs : List (Exchange by.said R)) (link : Link) → by.comes from xs link a1 → by.comes from xs (link_after link (Took (take count unsent))) a2) → LeavesPlaces by.is_new by.over by.about by.count a1 a2 → KeepsLink net by true n1 a1 true n2 a2
+  pub link_took : (n1 n2 : N) (a1 a2 : A) (unsent : List ℕ) (count : ℕ) (kept : B) → net.did n1 (Linked (Took (take count unsent)) ∷ []) n2 → net.saw B n1 kept n2 → ((from : by.origin) (xs : List (Exchange by.said R)) (link : Link) → by.comes from xs link a1 → by.stands from xs kept) → ((from : by.origin) (xs : List (Exchange by.said R)) (link : Link) (many : ℕ) → by.comes from xs link a1 → (heard : Option ℕ) × by.leads from xs (link_after link (Took (take many unsent))) heard) → ((from : by.origin) (xs : List (Exchange by.said R)) (link : Link) → by.comes from xs link a1 → by.comes from xs (link_after link (Took (take count unsent))) a2) → LeavesPlaces by.is_new by.over by.about by.count by.waits a1 a2 → KeepsLink net by true n1 a1 true n2 a2
   link_took n1 n2 a1 a2 unsent count kept went saw stand leads comes leaves = λ heard first from topic story stands there.
       let push = pushed heard first from topic story n1 a1 stands (Took (take count unsent)) in
       let same = stands.links (there refl) in
       let leads_so = leads from (exchanges story) stands.link count stands.comes in
       linked_on heard first from topic story n1 a1 stands (Took (take count unsent)) n2 a2 (link_after stands.link (Took (take count unsent))) true (there refl) went
       (kept, saw, stand from (exchanges story) stands.link stands.comes, leads_so.0, subst (λ (l : Link). by.leads from (exchanges story) (link_after l (Took (take count unsent))) leads_so.0) same leads_so.1)
-      (comes from (exchanges story) stands.link stands.comes) (λ _. ap (λ (l : Link). link_after l (Took (take count unsent))) same ∙ sym push) (stands.answered ∙ ap (λ (l : Link). l.answered) (sym push)) leaves (λ _. ap (λ (l : Link). l.here) push ∙ there refl)
+      (comes from (exchanges story) stands.link stands.comes) (λ _. ap (λ (l : Link). link_after l (Took (take count unsent))) same ∙ sym push) (stands.answered ∙ ap (λ (l : Link). l.answered) (sym push)) (leaves_too a1 a2 leaves) (may_still heard first from topic story n1 a1 stands (Took (take count unsent)) a2 leaves.same_waits (joined-push story (Happens (Linked (Took (take count unsent)))))) (λ _. ap (λ (l : Link). l.here) push ∙ there refl)
 
   pub link_closed : (was : Bool) (n1 n2 : N) (by_now : A) → net.did n1 (Linked Closed ∷ []) n2 → KeepsLink net by was n1 by_now false n2 by_now
   link_closed was n1 n2 by_now went = λ heard first from topic story stands there.
       let push = pushed heard first from topic story n1 by_now stands Closed in
-      linked_on heard first from topic story n1 by_now stands Closed n2 by_now stands.link false tt went tt stands.comes (λ here. absurd (false≢true (sym (ap (λ (l : Link). l.here) push) ∙ here))) (stands.answered ∙ ap (λ (l : Link). l.answered) (sym push)) (leaves_same by_now) (λ here. absurd (false≢true here))
+      linked_on heard first from topic story n1 by_now stands Closed n2 by_now stands.link false tt went tt stands.comes (λ here. absurd (false≢true (sym (ap (λ (l : Link). l.here) push) ∙ here))) (stands.answered ∙ ap (λ (l : Link). l.answered) (sym push)) (leaves_none by_now) (may_still heard first from topic story n1 by_now stands Closed by_now refl (joined-push story (Happens (Linked Closed)))) (λ here. absurd (false≢true here))
 
   -- ---- with all seats and the link
 
@@ -709,17 +736,20 @@ module _ {N A R B : Type 0} (net : ConnectionsGhosts N) (by : Ghosts A R B) wher
     beyond = λ place past. ap (λ (l : Life by.said R). l.here) (same place) ∙ all.beyond place past;
   }
 
-  pub host_link : (Is : ℕ → ℕ → Life by.said R → SeatState → Type 0) (was opened : Bool) (n1 n2 : N) (a1 a2 : A) (seats : List SeatState) (heard : ℕ) → KeepsLink net by was n1 a1 opened n2 a2 → KeepsHost net by Is Is (housed n1 a1 seats heard was) (housed n2 a2 seats heard opened)
-  host_link Is was opened n1 n2 a1 a2 seats heard keeps = λ first from topic story stands there all.
-      let one = keeps heard first from topic story stands there in
+  host_link_at : (Is : ℕ → ℕ → Life by.said R → SeatState → Type 0) (was opened : Bool) (n1 n2 : N) (a1 a2 : A) (seats : List SeatState) (heard : ℕ) → KeepsLinkAt net by heard was n1 a1 opened n2 a2 → KeepsHost net by Is Is (housed n1 a1 seats heard was) (housed n2 a2 seats heard opened)
+  host_link_at Is was opened n1 n2 a1 a2 seats heard keeps = λ first from topic story stands there all.
+      let one = keeps first from topic story stands there in
       record { later = one.later; onward = one.onward; also = one.there; stands = one.stands; sit = sit_same Is topic heard story one.later seats one.same all }
 
+  pub host_link : (Is : ℕ → ℕ → Life by.said R → SeatState → Type 0) (was opened : Bool) (n1 n2 : N) (a1 a2 : A) (seats : List SeatState) (heard : ℕ) → KeepsLink net by was n1 a1 opened n2 a2 → KeepsHost net by Is Is (housed n1 a1 seats heard was) (housed n2 a2 seats heard opened)
+  host_link Is was opened n1 n2 a1 a2 seats heard keeps = host_link_at Is was opened n1 n2 a1 a2 seats heard (keeps heard)
+
   -- and what is kept of them is the same
-  pub host_near : (Is : ℕ → ℕ → Life by.said R → SeatState → Type 0) (was opened : Bool) (n1 n2 : N) (a1 a2 : A) (seats1 seats2 : List SeatState) (heard1 heard2 : ℕ) → KeepsLink net by was n1 a1 opened n2 a2 → seats2 ≡ seats1 → heard2 ≡ heard1 → KeepsHost net by Is Is (housed n1 a1 seats1 heard1 was) (housed n2 a2 seats2 heard2 opened)
+  pub host_near : (Is : ℕ → ℕ → Life by.said R → SeatState → Type 0) (was opened : Bool) (n1 n2 : N) (a1 a2 : A) (seats1 seats2 : List SeatState) (heard1 heard2 : ℕ) → KeepsLinkAt net by heard1 was n1 a1 opened n2 a2 → seats2 ≡ seats1 → heard2 ≡ heard1 → KeepsHost net by Is Is (housed n1 a1 seats1 heard1 was) (housed n2 a2 seats2 heard2 opened)
   host_near Is was opened n1 n2 a1 a2 seats1 seats2 heard1 heard2 keeps seats heard =
       subst (λ (s : List SeatState). KeepsHost net by Is Is (housed n1 a1 seats1 heard1 was) (housed n2 a2 s heard2 opened)) (sym seats)
       (subst (λ (h : ℕ). KeepsHost net by Is Is (housed n1 a1 seats1 heard1 was) (housed n2 a2 seats1 h opened)) (sym heard)
-      (host_link Is was opened n1 n2 a1 a2 seats1 heard1 keeps))
+      (host_link_at Is was opened n1 n2 a1 a2 seats1 heard1 keeps))
 
   -- a link that is said to be open otherwise
   pub link_to : (was now other : Bool) (n1 n2 : N) (a1 a2 : A) → other ≡ now → KeepsLink net by was n1 a1 now n2 a2 → KeepsLink net by was n1 a1 other n2 a2
@@ -757,28 +787,22 @@ module _ {N A R B : Type 0} (net : ConnectionsGhosts N) (by : Ghosts A R B) wher
   pub asked_parts : (P Q : ℕ → ℕ → Life by.said R → SeatState → Type 0) (one two : Host N A) → KeepsHost net by P Q one two → PartsHost net by parting.Asked P Q one two
   asked_parts P Q one two keeps = λ first from topic story stands there sit. (keeps first from topic story stands there sit, tt)
 
-  -- a reason that its story shows for ever
-  abbrev Lasts : Parting → Type 0
-  Lasts parting.Asked = ⊤
-  Lasts parting.Told = ⊤
-  Lasts parting.Late = ⊤
-  Lasts (parting.Ahead count) = ⊥
+  -- what its story shows it shows from then on
+  parts_later : (why : Parting) (from : by.origin) (topic : by.subject) (story later : List (Step by.said R)) → IsPrefix story later → PartsFor (terms_of net by from topic) story why → PartsFor (terms_of net by from topic) later why
+  parts_later parting.Asked from topic story later onward parts = tt
+  parts_later parting.Told from topic story later onward parts = happened_on story onward.0 later Stopped onward.1 parts
+  parts_later parting.Late from topic story later onward parts = (parts.0, happened_on story onward.0 later (Linked Late) onward.1 parts.1)
+  parts_later (parting.Ahead count) from topic story later onward (before, after, split, is) = (before, after ++ onward.0, sym onward.1 ∙ ap (λ (l : List (Step by.said R)). l ++ onward.0) split ∙ append_assoc before after onward.0, is)
 
-  parts_later : (why : Parting) (from : by.origin) (topic : by.subject) (story later : List (Step by.said R)) → Lasts why → IsPrefix story later → PartsFor (terms_of net by from topic) story why → PartsFor (terms_of net by from topic) later why
-  parts_later parting.Asked from topic story later lasts onward parts = tt
-  parts_later parting.Told from topic story later lasts onward parts = happened_on story onward.0 later Stopped onward.1 parts
-  parts_later parting.Late from topic story later lasts onward parts = (parts.0, happened_on story onward.0 later (Linked Late) onward.1 parts.1)
-  parts_later (parting.Ahead count) from topic story later lasts onward parts = absurd lasts
-
-  pub parts_then : (why : Parting) (P Q S : ℕ → ℕ → Life by.said R → SeatState → Type 0) (one two three : Host N A) → Lasts why → PartsHost net by why P Q one two → KeepsHost net by Q S two three → PartsHost net by why P S one three
-  parts_then why P Q S one two three lasts begun more = λ first from topic story stands there sit.
+  pub parts_then : (why : Parting) (P Q S : ℕ → ℕ → Life by.said R → SeatState → Type 0) (one two three : Host N A) → PartsHost net by why P Q one two → KeepsHost net by Q S two three → PartsHost net by why P S one three
+  parts_then why P Q S one two three begun more = λ first from topic story stands there sit.
       let then = begun first from topic story stands there sit in
       let last = more first from topic then.0.later then.0.stands then.0.also then.0.sit in
-      (record { later = last.later; onward = onward_then story then.0.later last.later then.0.onward last.onward; also = last.also; stands = last.stands; sit = last.sit }, parts_later why from topic then.0.later last.later lasts last.onward then.1)
+      (record { later = last.later; onward = onward_then story then.0.later last.later then.0.onward last.onward; also = last.also; stands = last.stands; sit = last.sit }, parts_later why from topic then.0.later last.later last.onward then.1)
 
   -- something was told to the host, which leaves all connections and the link
-  parts_told : (happening : Happening) (why : Parting) (Is : ℕ → ℕ → Life by.said R → SeatState → Type 0) (n1 n2 : N) (by_now : A) (seats : List SeatState) (heard : ℕ) (opened : Bool) → ((place : ℕ) (story : List (Step by.said R)) → life place (story ++ Happens happening ∷ []) ≡ life place story) → ((story : List (Step by.said R)) → link_in (story ++ Happens happening ∷ []) ≡ link_in story) → ((story : List (Step by.said R)) → MayHappen story happening) → ((from : by.origin) (topic : by.subject) (story : List (Step by.said R)) → IsKept (terms_of net by from topic) story n1 happening n2) → net.did n1 (happening ∷ []) n2 → ((from : by.origin) (topic : by.subject) (story : List (Step by.said R)) → by.about by_now ≡ topic → PartsFor (terms_of net by from topic) (story ++ Happens happening ∷ []) why) → PartsHost net by why Is Is (housed n1 by_now seats heard opened) (housed n2 by_now seats heard opened)
-  parts_told happening why Is n1 n2 by_now seats heard opened same links free kept went parts = λ first from topic story stands there all.
+  parts_told : (happening : Happening) (why : Parting) (Is : ℕ → ℕ → Life by.said R → SeatState → Type 0) (n1 n2 : N) (by_now : A) (seats : List SeatState) (heard : ℕ) (opened : Bool) → ((place : ℕ) (story : List (Step by.said R)) → life place (story ++ Happens happening ∷ []) ≡ life place story) → ((story : List (Step by.said R)) → link_in (story ++ Happens happening ∷ []) ≡ link_in story) → ((story : List (Step by.said R)) → joined_in (story ++ Happens happening ∷ []) ≡ joined_in story) → ((story : List (Step by.said R)) → MayHappen story happening) → ((from : by.origin) (topic : by.subject) (story : List (Step by.said R)) → IsKept (terms_of net by from topic) story n1 happening n2) → net.did n1 (happening ∷ []) n2 → ((from : by.origin) (topic : by.subject) (story : List (Step by.said R)) → by.about by_now ≡ topic → PartsFor (terms_of net by from topic) (story ++ Happens happening ∷ []) why) → PartsHost net by why Is Is (housed n1 by_now seats heard opened) (housed n2 by_now seats heard opened)
+  parts_told happening why Is n1 n2 by_now seats heard opened same links joined free kept went parts = λ first from topic story stands there all.
       let later = story ++ Happens happening ∷ [] in (
         record {
           later = later;
@@ -786,7 +810,7 @@ module _ {N A R B : Type 0} (net : ConnectionsGhosts N) (by : Ghosts A R B) wher
           also = λ is. ap (λ (l : Link). l.here) (links story) ∙ there is;
           stands = stands_on net by heard first from topic story n1 by_now stands happening n2 by_now stands.link (free story) went (kept from topic story)
               (λ place. subst (λ (h : ℕ). IsServed (by.text topic) h (life place later)) (sym (bound-happens story happening)) (subst (IsServed (by.text topic) (bound_in story)) (sym (same place story)) (before net by heard first from topic story n1 by_now stands place)))
-              stands.comes (λ is. stands.links (ap (λ (l : Link). l.here) (sym (links story)) ∙ is) ∙ sym (links story)) (stands.answered ∙ ap (λ (l : Link). l.answered) (sym (links story))) stands.about refl
+              stands.comes (λ is. stands.links (ap (λ (l : Link). l.here) (sym (links story)) ∙ is) ∙ sym (links story)) (stands.answered ∙ ap (λ (l : Link). l.answered) (sym (links story))) stands.about refl (may_on net by heard first from topic story n1 by_now stands happening by_now refl (joined story))
               (λ place. subst (λ (l : Life by.said R). l.here ≡ true → by.is_new by_now place ≡ is_empty l.own) (sym (same place story)) (stands.knows place));
           sit = sit_same Is topic heard story later seats (λ place. same place story) all;
         },
@@ -795,27 +819,27 @@ module _ {N A R B : Type 0} (net : ConnectionsGhosts N) (by : Ghosts A R B) wher
 
   -- the host was told to stop
   pub parts_stopped : (Is : ℕ → ℕ → Life by.said R → SeatState → Type 0) (n1 n2 : N) (by_now : A) (seats : List SeatState) (heard : ℕ) (opened : Bool) → net.did n1 (Stopped ∷ []) n2 → PartsHost net by parting.Told Is Is (housed n1 by_now seats heard opened) (housed n2 by_now seats heard opened)
-  parts_stopped Is n1 n2 by_now seats heard opened went = parts_told Stopped parting.Told Is n1 n2 by_now seats heard opened (λ place story. life-stopped place story) (λ story. link-push story (Happens Stopped)) (λ story. tt) (λ from topic story. tt) went (λ from topic story about. happened_now story Stopped)
+  parts_stopped Is n1 n2 by_now seats heard opened went = parts_told Stopped parting.Told Is n1 n2 by_now seats heard opened (λ place story. life-stopped place story) (λ story. link-push story (Happens Stopped)) (λ story. joined-push story (Happens Stopped)) (λ story. tt) (λ from topic story. tt) went (λ from topic story about. happened_now story Stopped)
 
   -- nothing was heard of the standby, and it may not go on alone
   pub parts_late : (Is : ℕ → ℕ → Life by.said R → SeatState → Type 0) (n1 n2 : N) (by_now : A) (seats : List SeatState) (heard : ℕ) (opened : Bool) → by.goes_alone (by.about by_now) ≡ false → net.did n1 (Linked Late ∷ []) n2 → PartsHost net by parting.Late Is Is (housed n1 by_now seats heard opened) (housed n2 by_now seats heard opened)
-  parts_late Is n1 n2 by_now seats heard opened may_not went = parts_told (Linked Late) parting.Late Is n1 n2 by_now seats heard opened (λ place story. life-linked place Late story) (λ story. link-push story (Happens (Linked Late))) (λ story. tt) (λ from topic story. tt) went (λ from topic story about. (ap (λ (t : by.subject). by.goes_alone t) (sym about) ∙ may_not, happened_now story (Linked Late)))
+  parts_late Is n1 n2 by_now seats heard opened may_not went = parts_told (Linked Late) parting.Late Is n1 n2 by_now seats heard opened (λ place story. life-linked place Late story) (λ story. link-push story (Happens (Linked Late))) (λ story. joined-push story (Happens (Linked Late))) (λ story. tt) (λ from topic story. tt) went (λ from topic story about. (ap (λ (t : by.subject). by.goes_alone t) (sym about) ∙ may_not, happened_now story (Linked Late)))
 
   -- and it may, or has no more to do
   pub host_late : (Is : ℕ → ℕ → Life by.said R → SeatState → Type 0) (n1 n2 : N) (by_now : A) (seats : List SeatState) (heard : ℕ) (opened : Bool) → net.did n1 (Linked Late ∷ []) n2 → KeepsHost net by Is Is (housed n1 by_now seats heard opened) (housed n2 by_now seats heard opened)
   host_late Is n1 n2 by_now seats heard opened went = parts_keeps parting.Asked Is Is (housed n1 by_now seats heard opened) (housed n2 by_now seats heard opened)
-      (parts_told (Linked Late) parting.Asked Is n1 n2 by_now seats heard opened (λ place story. life-linked place Late story) (λ story. link-push story (Happens (Linked Late))) (λ story. tt) (λ from topic story. tt) went (λ from topic story about. tt))
+      (parts_told (Linked Late) parting.Asked Is n1 n2 by_now seats heard opened (λ place story. life-linked place Late story) (λ story. link-push story (Happens (Linked Late))) (λ story. joined-push story (Happens (Linked Late))) (λ story. tt) (λ from topic story. tt) went (λ from topic story about. tt))
 
   -- the standby has more entries than the host
   pub parts_ahead : (Is : ℕ → ℕ → Life by.said R → SeatState → Type 0) (count : ℕ) (network : N) (by_now : A) (seats : List SeatState) (heard : ℕ) (opened : Bool) → opened ≡ true → ((from : by.origin) (xs : List (Exchange by.said R)) (link : Link) → by.comes from xs link by_now → by.is_ahead from xs link count) → PartsHost net by (parting.Ahead count) Is Is (housed network by_now seats heard opened) (housed network by_now seats heard opened)
   parts_ahead Is count network by_now seats heard opened is ahead = λ first from topic story stands there all. (
     record { later = story; onward = onward_same story; also = there; stands = stands; sit = all },
-    subst (λ (l : Link). by.is_ahead from (exchanges story) l count) (stands.links (there is)) (ahead from (exchanges story) stands.link stands.comes),
+    (story, [], sym (append-nil story), subst (λ (l : Link). by.is_ahead from (exchanges story) l count) (stands.links (there is)) (ahead from (exchanges story) stands.link stands.comes)),
   )
 
   -- replies are held otherwise from now on
-  host_held : (Was : ℕ → ℕ → Life by.said R → SeatState → Type 0) (hold : Hold) (was now : ℕ) (network : N) (by_now : A) (seats : List SeatState) (opened : Bool) → ((place : ℕ) (life : Life by.said R) (seat : SeatState) → Was place was life seat → Gone life seat) → bound_of hold ≡ now → (now ≡ bound_of Alone → hold ≡ Alone) → ((first : N) (from : by.origin) (topic : by.subject) (story : List (Step by.said R)) → Stands net by first from topic story was network by_now → IsOpen net by opened story → MayHold (terms_of net by from topic) story hold × ((was ≤ now) ⊎ All (λ (x : Exchange by.said R). x.needs ≤ now) (exchanges story))) → KeepsHost net by Was (FreedBelow 0) (housed network by_now seats was opened) (housed network by_now seats now opened)
-  host_held Was hold was now network by_now seats opened gone is alone may = λ first from topic story stands there all.
+  host_held : (Was : ℕ → ℕ → Life by.said R → SeatState → Type 0) (hold : Hold) (was now : ℕ) (network : N) (by_now by_new : A) (seats : List SeatState) (opened : Bool) → ((place : ℕ) (life : Life by.said R) (seat : SeatState) → Was place was life seat → Gone life seat) → ((from : by.origin) (xs : List (Exchange by.said R)) (link : Link) → by.comes from xs link by_now → by.comes from xs link by_new) → Leaves by_now by_new → bound_of hold ≡ now → (now ≡ bound_of Alone → hold ≡ Alone) → ((first : N) (from : by.origin) (topic : by.subject) (story : List (Step by.said R)) → Stands net by first from topic story was network by_now → IsOpen net by opened story → MayHold (terms_of net by from topic) story hold × ((was ≤ now) ⊎ All (λ (x : Exchange by.said R). x.needs ≤ now) (exchanges story))) → KeepsHost net by Was (FreedBelow 0) (housed network by_now seats was opened) (housed network by_new seats now opened)
+  host_held Was hold was now network by_now by_new seats opened gone comes leaves is alone may = λ first from topic story stands there all.
       let later = story ++ HoldsSo hold ∷ [] in
       let how = may first from topic story stands there in
       let own : (place : ℕ) → (was ≤ now) ⊎ All (λ (x : Exchange by.said R). x.needs ≤ now) (life place story).own = λ place. ⊎_elim (λ less. inl less) (λ many. inr (own_on (λ (x : Exchange by.said R). x.needs ≤ now) place nobody story (All-nil (λ (x : Exchange by.said R). x.needs ≤ now)) many)) how.1 in
@@ -827,14 +851,15 @@ module _ {N A R B : Type 0} (net : ConnectionsGhosts N) (by : Ghosts A R B) wher
         stands = record {
           hosts = is_held hold stands.hosts how.0 (served_holds (terms_of net by from topic) hold story (λ place. subst (λ (h : ℕ). IsServed (by.text topic) h (life place story)) (sym is) (served_held (by.text topic) was now (life place story) (own place) (served_here net by was first from topic story network by_now stands place))));
           link = stands.link;
-          comes = subst (λ (xs : List (Exchange by.said R)). by.comes from xs stands.link by_now) (sym (exchanges-holds story hold)) stands.comes;
+          comes = subst (λ (xs : List (Exchange by.said R)). by.comes from xs stands.link by_new) (sym (exchanges-holds story hold)) (comes from (exchanges story) stands.link stands.comes);
           links = λ here. stands.links (ap (λ (l : Link). l.here) (sym push) ∙ here) ∙ sym push;
           answered = stands.answered ∙ ap (λ (l : Link). l.answered) (sym push);
-          about = stands.about;
+          about = leaves.same_about ∙ stands.about;
           hears = bound-holds story hold ∙ is;
           alone = λ most. hold-push story (HoldsSo hold) ∙ alone most;
-          within = subst (All (λ (x : Exchange by.said R). x.needs ≤ by.count by_now)) (sym (exchanges-holds story hold)) stands.within;
-          knows = λ place. subst (λ (l : Life by.said R). l.here ≡ true → by.is_new by_now place ≡ is_empty l.own) (sym (life-holds place hold story)) (stands.knows place);
+          within = subst (λ (n : ℕ). All (λ (x : Exchange by.said R). x.needs ≤ n) (exchanges later)) (sym leaves.same_count) (subst (All (λ (x : Exchange by.said R). x.needs ≤ by.count by_now)) (sym (exchanges-holds story hold)) stands.within);
+          may = λ no may un. absurd (false≢true (sym un ∙ joined-push story (HoldsSo hold)));
+          knows = λ place. subst (λ (l : Life by.said R). l.here ≡ true → by.is_new by_new place ≡ is_empty l.own) (sym (life-holds place hold story)) (λ here. leaves.same_new place ∙ stands.knows place here);
         };
         sit = record {
           sit = λ place seat below kept. subst (λ (l : Life by.said R). Exact (by.text topic) now l (slice_index_or seats place seat) (slice_index_or seats place seat).kept) (sym (life-holds place hold story)) (exact_held (by.text topic) was now (life place story) (slice_index_or seats place seat) (slice_index_or seats place seat).kept (own place) (all.sit place seat below kept));
@@ -844,19 +869,19 @@ module _ {N A R B : Type 0} (net : ConnectionsGhosts N) (by : Ghosts A R B) wher
       }
 
   -- a standby is heard to have more than before, or all that there is
-  pub host_joins : (Was : ℕ → ℕ → Life by.said R → SeatState → Type 0) (was count : ℕ) (network : N) (by_now : A) (seats : List SeatState) (opened : Bool) → ((place : ℕ) (life : Life by.said R) (seat : SeatState) → Was place was life seat → Gone life seat) → opened ≡ true → count < bound_of Alone → (was < count) ⊎ ((was ≡ bound_of Alone) × (by.count by_now ≤ count)) → ((from : by.origin) (xs : List (Exchange by.said R)) (link : Link) → by.comes from xs link by_now → by.leads from xs link (Some count)) → KeepsHost net by Was (FreedBelow 0) (housed network by_now seats was opened) (housed network by_now seats count opened)
-  host_joins Was was count network by_now seats opened gone is less joins leads = host_held Was (Upto count) was count network by_now seats opened gone refl (λ most. absurd (omega (arith, most, less))) (λ first from topic story stands there.
+  pub host_joins : (Was : ℕ → ℕ → Life by.said R → SeatState → Type 0) (was count : ℕ) (network : N) (by_now by_new : A) (seats : List SeatState) (opened : Bool) → ((place : ℕ) (life : Life by.said R) (seat : SeatState) → Was place was life seat → Gone life seat) → ((from : by.origin) (xs : List (Exchange by.said R)) (link : Link) → by.comes from xs link by_now → by.comes from xs link by_new) → Leaves by_now by_new → opened ≡ true → count < bound_of Alone → (was ≤ count) ⊎ ((was ≡ bound_of Alone) × (by.count by_now ≤ count)) → ((from : by.origin) (xs : List (Exchange by.said R)) (link : Link) → by.comes from xs link by_now → by.leads from xs link (Some count)) → KeepsHost net by Was (FreedBelow 0) (housed network by_now seats was opened) (housed network by_new seats count opened)
+  host_joins Was was count network by_now by_new seats opened gone comes leaves is less joins leads = host_held Was (Upto count) was count network by_now by_new seats opened gone comes leaves refl (λ most. absurd (omega (arith, most, less))) (λ first from topic story stands there.
       let leads_so = subst (λ (l : Link). by.leads from (exchanges story) l (Some count)) (stands.links (there is)) (leads from (exchanges story) stands.link stands.comes) in
       ⊎_elim
-      (λ more. ((leads_so, joins_more (hold_in story) was count (exchanges story) stands.hears more less), inl (omega (arith, more))))
+      (λ more. ((leads_so, joins_more (hold_in story) was count (exchanges story) stands.hears more less), inl more))
       (λ alone.
       let all : All (λ (x : Exchange by.said R). x.needs ≤ count) (exchanges story) = All-weaker (λ (x : Exchange by.said R). x.needs ≤ by.count by_now) (λ (x : Exchange by.said R). x.needs ≤ count) (λ x within. omega (arith, within, alone.1)) (exchanges story) stands.within in
       ((leads_so, subst (λ (h : Hold). Joins h count (exchanges story)) (sym (stands.alone alone.0)) all), inr all))
       joins)
 
   -- the host goes on alone
-  pub host_alone : (Was : ℕ → ℕ → Life by.said R → SeatState → Type 0) (was : ℕ) (network : N) (by_now : A) (seats : List SeatState) (opened : Bool) → ((place : ℕ) (life : Life by.said R) (seat : SeatState) → Was place was life seat → Gone life seat) → was ≤ bound_of Alone → by.goes_alone (by.about by_now) ≡ true → KeepsHost net by Was (FreedBelow 0) (housed network by_now seats was opened) (housed network by_now seats (bound_of Alone) opened)
-  host_alone Was was network by_now seats opened gone less may = host_held Was Alone was (bound_of Alone) network by_now seats opened gone refl (λ most. refl) (λ first from topic story stands there. (ap (λ (t : by.subject). by.goes_alone t) (sym stands.about) ∙ may, inl less))
+  pub host_alone : (Was : ℕ → ℕ → Life by.said R → SeatState → Type 0) (was : ℕ) (network : N) (by_now by_new : A) (seats : List SeatState) (opened : Bool) → ((place : ℕ) (life : Life by.said R) (seat : SeatState) → Was place was life seat → Gone life seat) → ((from : by.origin) (xs : List (Exchange by.said R)) (link : Link) → by.comes from xs link by_now → by.comes from xs link by_new) → Leaves by_now by_new → was ≤ bound_of Alone → by.goes_alone (by.about by_now) ≡ true → KeepsHost net by Was (FreedBelow 0) (housed network by_now seats was opened) (housed network by_new seats (bound_of Alone) opened)
+  host_alone Was was network by_now by_new seats opened gone comes leaves less may = host_held Was Alone was (bound_of Alone) network by_now by_new seats opened gone comes leaves refl (λ most. refl) (λ first from topic story stands there. (ap (λ (t : by.subject). by.goes_alone t) (sym stands.about) ∙ may, inl less))
 
   -- how connections are between rounds
   pub round_gone : (ended : Bool) (place heard : ℕ) (life : Life by.said R) (seat : SeatState) → InRound ended place heard life seat → Gone life seat
@@ -868,7 +893,7 @@ module _ {N A R B : Type 0} (net : ConnectionsGhosts N) (by : Ghosts A R B) wher
   finished_round true place heard life seat so = so
 
   -- all that may be sent is sent, now that replies are held otherwise, which is told
-  pub host_freed : (ended : Bool) (heard : ℕ) (n1 n2 : N) (a1 a2 a3 : A) (seats freed : List SeatState) (opened : Bool) → ((from : by.origin) (xs : List (Exchange by.said R)) (link : Link) → by.comes from xs link a1 → by.comes from xs link a2) → LeavesPlaces by.is_new by.over by.about by.count a1 a2 → KeepsAll net by (FreedBelow 0) (AllFinished true) (hall n1 a2 seats heard) (hall n2 a3 freed heard) → KeepsHost net by (FreedBelow 0) (InRound ended) (housed n1 a1 seats heard opened) (housed n2 a3 freed heard opened)
+  pub host_freed : (ended : Bool) (heard : ℕ) (n1 n2 : N) (a1 a2 a3 : A) (seats freed : List SeatState) (opened : Bool) → ((from : by.origin) (xs : List (Exchange by.said R)) (link : Link) → by.comes from xs link a1 → by.comes from xs link a2) → LeavesPlaces by.is_new by.over by.about by.count by.waits a1 a2 → KeepsAll net by (FreedBelow 0) (AllFinished true) (hall n1 a2 seats heard) (hall n2 a3 freed heard) → KeepsHost net by (FreedBelow 0) (InRound ended) (housed n1 a1 seats heard opened) (housed n2 a3 freed heard opened)
   host_freed ended heard n1 n2 a1 a2 a3 seats freed opened comes leaves keeps =
       let first = housed n1 a1 seats heard opened in
       let told = housed n1 a2 seats heard opened in
@@ -882,11 +907,6 @@ module _ {N A R B : Type 0} (net : ConnectionsGhosts N) (by : Ghosts A R B) wher
   pub parts_told_ahead : (Is : ℕ → ℕ → Life by.said R → SeatState → Type 0) (result : Option ℕ) (network : N) (by_now : A) (seats : List SeatState) (heard : ℕ) (opened : Bool) → opened ≡ true → ((from : by.origin) (xs : List (Exchange by.said R)) (link : Link) → by.comes from xs link by_now → IfSome result (λ count. by.is_ahead from xs link count)) → IfSome result (λ count. PartsHost net by (parting.Ahead count) Is Is (housed network by_now seats heard opened) (housed network by_now seats heard opened))
   parts_told_ahead Is None network by_now seats heard opened is ahead = tt
   parts_told_ahead Is (Some count) network by_now seats heard opened is ahead = parts_ahead Is count network by_now seats heard opened is ahead
-
-  -- connections that are finished are at rest
-  pub host_rests : (one two : Host N A) → KeepsHost net by Resting (AllFinished true) one two → KeepsHost net by Resting Resting one two
-  host_rests one two keeps = host_then Resting (AllFinished true) Resting one two two keeps
-      (host_all (AllFinished true) Resting two.opened two.hall two.hall (all_weaker net by two.hall.heard (AllFinished true) Resting two.hall.network two.hall.by two.hall.seats (λ place life seat below so. finished_rest net by two.hall.heard true life seat so)))
 
   -- places of which there is none yet
   pub host_first : (network : N) (by_now : A) (seats : List SeatState) (heard : ℕ) (opened : Bool) (now : Host N A) → seats ≡ [] → heard ≡ 0 → opened ≡ false → KeepsHost net by Resting Resting (housed network by_now seats heard opened) now → KeepsHost net by Resting Resting (housed network by_now [] 0 false) now
@@ -909,7 +929,7 @@ module _ {N A R B : Type 0} (net : ConnectionsGhosts N) (by : Ghosts A R B) wher
   -- a whole run
   module _ (heard : ℕ) (opened : Bool) (first last : N) (old now : A) (seats : List SeatState) (from : by.origin) (comes : by.comes from [] no_link old) where
     begins : Stands net by first from (by.about old) [] 0 first old
-    begins = record { hosts = began; link = no_link; comes = comes; links = λ here. refl; answered = refl; about = refl; hears = refl; alone = λ is. absurd (omega (arith, is)); within = All-nil (λ (x : Exchange by.said R). x.needs ≤ by.count old); knows = λ place here. absurd (false≢true here) }
+    begins = record { hosts = began; link = no_link; comes = comes; links = λ here. refl; answered = refl; about = refl; hears = refl; alone = λ is. absurd (omega (arith, is)); within = All-nil (λ (x : Exchange by.said R). x.needs ≤ by.count old); may = λ no may un. absurd (false≢true (sym un)); knows = λ place here. absurd (false≢true here) }
 
     none_sits : AllSit net by Resting (by.about old) 0 [] []
     none_sits = record { sit = λ place seat below. absurd (omega (arith, below)); rest = λ place seat below. absurd (omega (arith, below)); beyond = λ place past. refl }

@@ -75,6 +75,9 @@ pub trait HostAnswers {
     /// No line of anyone is answered any more.
     ghost ends: { Self → Bool };
 
+    /// No line of anyone is answered for now: a link was opened, and its standby has not joined.
+    ghost waits: { Self → Bool };
+
     /// How much is to be heard of a standby before a reply is sent that is given now.
     ghost count: { Self → ℕ };
 
@@ -92,6 +95,7 @@ pub trait HostAnswers {
             → comes from exchanges link self.old → comes from exchanges link self.new }
         ensures about { about self.new ≡ about self.old }
         ensures ends { ends self.new ≡ ends self.old }
+        ensures waits { waits self.new ≡ waits self.old }
         ensures count { count self.new ≡ count self.old };
 
     /// Who was at this place is gone: what is known of it is given up.
@@ -103,6 +107,7 @@ pub trait HostAnswers {
             → comes from exchanges link self.old → comes from exchanges link self.new }
         ensures about { about self.new ≡ about self.old }
         ensures ends { ends self.new ≡ ends self.old }
+        ensures waits { waits self.new ≡ waits self.old }
         ensures count { count self.new ≡ count self.old };
 
     /// The reply to a line of who came by a door and is at this place.
@@ -143,6 +148,10 @@ pub trait HostAnswers {
     fn is_ending(&self) -> bool
         ensures { result ≡ ends self.now };
 
+    /// No line of anyone is answered for now.
+    fn waits(&self) -> bool
+        ensures { result ≡ waits self.now };
+
     /// The path of the standby's Unix socket, if there is a standby.
     fn standby(&self) -> Option<&str>
         ensures { option_map (λ path. path.now) result ≡ standby_at (about self.now) };
@@ -155,15 +164,28 @@ pub trait HostAnswers {
     /// link that was just opened may take to its first answer.
     fn patience(&self) -> (u64, u64);
 
-    /// A link to the standby was opened.
-    fn link_opened(&mut self)
+    /// A link to the standby was opened, where the host is alone or not. Where it is not, and may
+    /// go on alone, no line is answered until the standby at the link has joined: the one that was
+    /// heard before may be another one.
+    fn link_opened(&mut self, alone: bool)
         requires { fits self.old }
         ensures fits { fits self.new }
         ensures comes { (from : origin) (exchanges : List (Exchange said Self.Reply)) (link : Link)
             (path : List ℕ) → comes from exchanges link self.old
             → comes from exchanges (link_after link (Opened path)) self.new }
         ensures ends { ends self.new ≡ ends self.old }
-        ensures leaves { LeavesPlaces is_new over about count self.old self.new };
+        ensures waits { goes_alone (about self.old) ≡ true → waits self.new ≡ false
+            → alone ≡ true }
+        ensures leaves { LeavesPlaces is_new over about count (λ _. false) self.old self.new };
+
+    /// Lines are answered again: it is told how replies are held from now on.
+    fn go_on(&mut self)
+        requires { fits self.old }
+        ensures fits { fits self.new }
+        ensures comes { (from : origin) (exchanges : List (Exchange said Self.Reply)) (link : Link)
+            → comes from exchanges link self.old → comes from exchanges link self.new }
+        ensures ends { ends self.new ≡ ends self.old }
+        ensures leaves { LeavesPlaces is_new over about count (λ _. false) self.old self.new };
 
     /// Takes in bytes that the link gave.
     fn take_in(&mut self, bytes: &[u8])
@@ -173,7 +195,7 @@ pub trait HostAnswers {
             → comes from exchanges link self.old
             → comes from exchanges (link_after link (Gave bytes.now)) self.new }
         ensures ends { ends self.new ≡ ends self.old }
-        ensures leaves { LeavesPlaces is_new over about count self.old self.new };
+        ensures leaves { LeavesPlaces is_new over about count waits self.old self.new };
 
     /// Gathers what is to be sent to the standby next. Where `asks`, it is asked for a sign of
     /// life.
@@ -183,7 +205,7 @@ pub trait HostAnswers {
         ensures comes { (from : origin) (exchanges : List (Exchange said Self.Reply)) (link : Link)
             → comes from exchanges link self.old → comes from exchanges link self.new }
         ensures ends { ends self.new ≡ ends self.old }
-        ensures leaves { LeavesPlaces is_new over about count self.old self.new };
+        ensures leaves { LeavesPlaces is_new over about count waits self.old self.new };
 
     /// What is to be sent to the standby next.
     fn unsent(&self) -> &[u8]
@@ -202,7 +224,7 @@ pub trait HostAnswers {
             → comes from exchanges link self.old → comes from exchanges
             (link_after link (Took (take sent (unsent self.old)))) self.new }
         ensures ends { ends self.new ≡ ends self.old }
-        ensures leaves { LeavesPlaces is_new over about count self.old self.new };
+        ensures leaves { LeavesPlaces is_new over about count waits self.old self.new };
 
     /// How much is heard of the standby, by the link.
     fn heard(&self) -> Option<u64>
@@ -230,5 +252,5 @@ pub trait HostAnswers {
         ensures comes { (from : origin) (exchanges : List (Exchange said Self.Reply)) (link : Link)
             → comes from exchanges link self.old → comes from exchanges link self.new }
         ensures ends { ends self.new ≡ ends self.old }
-        ensures leaves { LeavesPlaces is_new over about count self.old self.new };
+        ensures leaves { LeavesPlaces is_new over about count waits self.old self.new };
 }

@@ -1,12 +1,12 @@
 // How a host ends.
 ghost use Rattle.std.specs.Bool.{MatchBool};
-ghost use Rattle.std.specs.Prelude.{◌≡◌, ◌+◌, ℕ, [], true, false, length, IfSome, MatchOption};
+ghost use Rattle.std.specs.Prelude.{◌≡◌, ◌+◌, ℕ, [], true, false, length};
 ghost use Rattle.hose_net.specs.Story.{leaves_lines};
 ghost use Rattle.hose_net.specs.declared.hold.Parting.TheVariants.{Asked, Told};
 ghost use Rattle.hose_host.specs.steps.Keeping.{Host, Keeps, KeepsAll, KeepsHost, PartsHost, at, hall, host_of};
 ghost use Rattle.hose_host.specs.steps.Seats.{AllFinished, AtRest, Finished, FinishedBelow, Resting};
 
-use crate::linking::{bring, go_alone, listen, pass_second, told_ahead};
+use crate::linking::{bring, go_alone, listen, pass_second};
 use crate::sending::{free_all, leave, let_go, send};
 use crate::serving::take_kept;
 use crate::{HostAnswers, Places, Seat};
@@ -15,49 +15,44 @@ use hose_net::{Connections, Parting, Ready};
 /// How many times at most the network is asked at the end who takes more of what is to be sent.
 pub const LAST_ROUNDS: usize = 1_000_000;
 
-// Ends a host for this reason: what may be sent is sent to those who take it. It says why it ended,
-// or, where the standby is not there any more that had more entries, nothing.
+// Ends a host for this reason: what may be sent is sent to those who take it. It says why it ended:
+// where it was told to stop, and no line is answered any more, it was asked to.
 pub fn end<N: Connections, A: HostAnswers>(
     network: &mut N,
     answers: &mut A,
     places: &mut Places,
     piece: &mut [u8],
     why: Parting,
-) -> Option<Parting>
+) -> Parting
     requires fits { A.fits answers.old }
     requires asked { why ≡ Asked → A.ends answers.old ≡ true }
     ensures keeps { (first : Host N A) → PartsHost N.Connections A.HostAnswers why Resting Resting
-        first (host_of network.old answers.old places.old) → MatchOption result
-        (KeepsHost N.Connections A.HostAnswers Resting Resting
-        first (host_of network.new answers.new places.new))
-        (λ now. PartsHost N.Connections A.HostAnswers now Resting (AllFinished (leaves_lines now))
-        first (host_of network.new answers.new places.new)) }
-    ensures asked { IfSome result (λ now. now ≡ Asked → A.ends answers.new ≡ true) }
-    ensures told { IfSome result (λ now. now ≡ Told → A.ends answers.new ≡ false) }
+        first (host_of network.old answers.old places.old)
+        → PartsHost N.Connections A.HostAnswers result Resting (AllFinished (leaves_lines result))
+        first (host_of network.new answers.new places.new) }
+    ensures asked { result ≡ Asked → A.ends answers.new ≡ true }
+    ensures told { result ≡ Told → A.ends answers.new ≡ false }
     ensures fits { A.fits answers.new }
 {
     match why {
         Parting::Asked => {
             finish(network, answers, places, piece);
-            Some(Parting::Asked)
+            Parting::Asked
         }
         Parting::Told => {
             finish(network, answers, places, piece);
             if answers.is_ending() {
-                return Some(Parting::Asked);
+                return Parting::Asked;
             }
-            Some(Parting::Told)
+            Parting::Told
         }
         Parting::Late => {
             write_all(network, answers, places, piece);
-            Some(Parting::Late)
+            Parting::Late
         }
-        Parting::Ahead(_) => {
+        Parting::Ahead(count) => {
             write_all(network, answers, places, piece);
-            let Some(count) = told_ahead(network, answers, places) else {
-                return None;
-            };
-            Some(Parting::Ahead(count))
+            Parting::Ahead(count)
         }
     }
 }
@@ -97,7 +92,14 @@ fn write_all<N: Connections, A: HostAnswers>(
     ensures fits { A.fits answers.new }
 {
     let heard = places.heard;
-    free_all(network, answers, &mut places.seats, &mut places.free, heard);
+    free_all(
+        network,
+        answers,
+        &mut places.seats,
+        &mut places.free,
+        heard,
+        false,
+    );
     write_out(network, answers, places, piece);
 }
 

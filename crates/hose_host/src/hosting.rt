@@ -79,7 +79,7 @@ fn round<N: Connections, A: HostAnswers>(
     let Some(why) = turn(alloc, network, answers, places, piece) else {
         return None;
     };
-    end(network, answers, places, piece, why)
+    Some(end(network, answers, places, piece, why))
 }
 
 /// Waits for what is ready and does what is to be done there, or says why the host is to end: a

@@ -5,7 +5,7 @@ ghost use Rattle.hose_net.specs.Story.{Exchange, Link, bound_of};
 ghost use Rattle.hose_net.specs.declared.hold.Hold.TheVariants.{Alone};
 ghost use Rattle.hose_net.specs.declared.hold.Parting.TheVariants.{Ahead};
 ghost use Rattle.hose_host.specs.steps.Answering.{LeavesPlaces};
-ghost use Rattle.hose_host.specs.steps.Keeping.{KeepsHost, KeepsLink, PartsHost, host_of};
+ghost use Rattle.hose_host.specs.steps.Keeping.{KeepsHost, KeepsLink, KeepsLinkAt, PartsHost, host_of};
 ghost use Rattle.hose_host.specs.steps.Seats.{InRound, Resting};
 
 use crate::sending::free_all;
@@ -52,7 +52,7 @@ pub fn pass_second<N: Connections, A: HostAnswers>(
         send_more(network, answers, true);
         return;
     }
-    if open_link(network, answers) {
+    if open_link(network, answers, places.heard) {
         places.opened = true;
         expect_start(network, answers, places);
     }
@@ -64,7 +64,7 @@ fn tell_alone<A: HostAnswers>(answers: &mut A, places: &mut Places)
     ensures comes { (from : A.origin) (exchanges : List (Exchange A.said A.Reply)) (link : Link)
         → A.comes from exchanges link answers.old → A.comes from exchanges link answers.new }
     ensures ends { A.ends answers.new ≡ A.ends answers.old }
-    ensures leaves { LeavesPlaces A.is_new A.over A.about A.count answers.old answers.new }
+    ensures leaves { LeavesPlaces A.is_new A.over A.about A.count A.waits answers.old answers.new }
     ensures fits { A.fits answers.new }
     ensures seats { places.new.seats.items ≡ places.old.seats.items }
     ensures heard { places.new.heard ≡ places.old.heard }
@@ -81,13 +81,13 @@ fn tell_alone<A: HostAnswers>(answers: &mut A, places: &mut Places)
     answers.tell_hold(Hold::Alone);
 }
 
-// Opens the link, and says whether it did.
-fn open_link<N: Connections, A: HostAnswers>(network: &mut N, answers: &mut A) -> bool
+// Opens the link, where so much was heard, and says whether it did.
+fn open_link<N: Connections, A: HostAnswers>(network: &mut N, answers: &mut A, heard: u64) -> bool
     requires { A.fits answers.old }
     ensures keeps { (was : Bool) → MatchBool result
-        (KeepsLink N.Connections A.HostAnswers was network.old answers.old true network.new
+        (KeepsLinkAt N.Connections A.HostAnswers heard was network.old answers.old true network.new
         answers.new)
-        (KeepsLink N.Connections A.HostAnswers was network.old answers.old was network.new
+        (KeepsLinkAt N.Connections A.HostAnswers heard was network.old answers.old was network.new
         answers.new) }
     ensures ends { A.ends answers.new ≡ A.ends answers.old }
     ensures fits { A.fits answers.new }
@@ -98,9 +98,16 @@ fn open_link<N: Connections, A: HostAnswers>(network: &mut N, answers: &mut A) -
     if !network.open_link(path) {
         return false;
     }
-    answers.link_opened();
+    answers.link_opened(is_alone(heard));
     send_more(network, answers, false);
     true
+}
+
+// Whether the host is alone, where so much was heard.
+fn is_alone(heard: u64) -> bool
+    ensures { result ≡ true → heard ≡ bound_of Alone }
+{
+    heard == ALONE
 }
 
 // Gives the first link that was opened its time to the first answer.
@@ -295,20 +302,30 @@ fn join<N: Connections, A: HostAnswers>(
     ensures fits { A.fits answers.new }
 {
     let was = places.heard;
+    let waited = answers.waits();
     if !joins(answers, was, count) {
         return;
     }
     places.heard = count;
-    tell_joined(answers, was, count);
-    free_all(network, answers, &mut places.seats, &mut places.free, count);
+    answers.go_on();
+    tell_joined(answers, was, count, waited);
+    free_all(
+        network,
+        answers,
+        &mut places.seats,
+        &mut places.free,
+        count,
+        waited,
+    );
 }
 
 // Whether replies are held from now on until as much is heard of a standby as they need, of which
-// so much is heard: more than before, or all that any reply needs, where the host went on alone.
+// so much is heard: more than before; as much, where lines wait for the standby at a link that was
+// opened; or all that any reply needs, where the host went on alone.
 fn joins<A: HostAnswers>(answers: &A, heard: u64, count: u64) -> bool
     ensures less { result ≡ true → count < bound_of Alone }
     ensures joins { result ≡ true
-        → (heard < count) ⊎ ((heard ≡ bound_of Alone) × (A.count answers.now ≤ count)) }
+        → (heard ≤ count) ⊎ ((heard ≡ bound_of Alone) × (A.count answers.now ≤ count)) }
 {
     if count == ALONE {
         return false;
@@ -316,19 +333,22 @@ fn joins<A: HostAnswers>(answers: &A, heard: u64, count: u64) -> bool
     if heard == ALONE {
         return answers.counted() <= count;
     }
+    if answers.waits() {
+        return heard <= count;
+    }
     heard < count
 }
 
-// Tells that a standby has joined, where none had before.
-fn tell_joined<A: HostAnswers>(answers: &mut A, was: u64, count: u64)
+// Tells that a standby has joined, where none had before, or lines waited for it.
+fn tell_joined<A: HostAnswers>(answers: &mut A, was: u64, count: u64, waited: bool)
     requires { A.fits answers.old }
     ensures comes { (from : A.origin) (exchanges : List (Exchange A.said A.Reply)) (link : Link)
         → A.comes from exchanges link answers.old → A.comes from exchanges link answers.new }
     ensures ends { A.ends answers.new ≡ A.ends answers.old }
-    ensures leaves { LeavesPlaces A.is_new A.over A.about A.count answers.old answers.new }
+    ensures leaves { LeavesPlaces A.is_new A.over A.about A.count A.waits answers.old answers.new }
     ensures fits { A.fits answers.new }
 {
-    if was == 0 || was == ALONE {
+    if was == 0 || was == ALONE || waited {
         answers.tell_hold(Hold::Upto(count));
     }
 }
@@ -352,8 +372,17 @@ pub fn go_alone<N: Connections, A: HostAnswers>(
     }
     places.heard = ALONE;
     places.seconds = 0;
+    let waited = answers.waits();
+    answers.go_on();
     answers.tell_hold(Hold::Alone);
-    free_all(network, answers, &mut places.seats, &mut places.free, ALONE);
+    free_all(
+        network,
+        answers,
+        &mut places.seats,
+        &mut places.free,
+        ALONE,
+        waited,
+    );
 }
 
 // How many entries the standby has, where they are more than the host has.

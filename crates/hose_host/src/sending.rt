@@ -114,13 +114,15 @@ fn is_to_go<A: HostAnswers>(answers: &A, place: usize, seat: &Seat) -> bool
     (seat.has_ended() || answers.is_over(place)) && seat.unsent().is_empty() && seat.waiting() == 0
 }
 
-// Has what may be sent, now that so much was heard, sent at all places.
+// Has what may be sent, now that so much was heard, sent at all places. Where `waited`, lines had
+// to wait, and each place is told again.
 pub fn free_all<N: Connections, A: HostAnswers>(
     network: &mut N,
     answers: &mut A,
     seats: &mut Vec<Seat>,
     free: &mut Vec<usize>,
     heard: u64,
+    waited: bool,
 )
     requires { A.fits answers.old }
     ensures keeps { KeepsAll N.Connections A.HostAnswers (FreedBelow 0) (AllFinished true)
@@ -130,7 +132,7 @@ pub fn free_all<N: Connections, A: HostAnswers>(
     ensures fits { A.fits answers.new }
 {
     for place in 0..seats.len() {
-        free_at(network, answers, seats, free, heard, place);
+        free_at(network, answers, seats, free, heard, waited, place);
     }
 }
 
@@ -141,6 +143,7 @@ fn free_at<N: Connections, A: HostAnswers>(
     seats: &mut Vec<Seat>,
     free: &mut Vec<usize>,
     heard: u64,
+    waited: bool,
     place: usize,
 )
     requires { A.fits answers.old }
@@ -154,7 +157,7 @@ fn free_at<N: Connections, A: HostAnswers>(
     let Some(seat) = seats.get_mut(place) else {
         return;
     };
-    if free_seat(network, answers, heard, place, seat) {
+    if free_seat(network, answers, heard, waited, place, seat) {
         let _ = free.push(place);
     }
 }
@@ -165,6 +168,7 @@ fn free_seat<N: Connections, A: HostAnswers>(
     network: &mut N,
     answers: &mut A,
     heard: u64,
+    waited: bool,
     place: usize,
     seat: &mut Seat,
 ) -> bool
@@ -178,14 +182,14 @@ fn free_seat<N: Connections, A: HostAnswers>(
     if seat.is_lost() {
         return false;
     }
-    let full = seat.waiting() >= WAITING || seat.has_kept();
+    let full = waited || seat.waiting() >= WAITING || seat.has_kept();
     release(network, answers, heard, place, seat);
     send(network, answers, place, seat);
     ask_if(network, answers, full, place, seat);
     let_go(network, answers, place, seat)
 }
 
-// Has a place told again that was not read while too much waited there.
+// Has a place told again that was not read while too much waited there, or all waited.
 fn ask_if<N: Connections, A: HostAnswers>(
     network: &mut N,
     _answers: &A,

@@ -112,13 +112,14 @@ fn read<N: Connections, A: HostAnswers>(
     end_turn(network, answers, place, seat);
 }
 
-// Whether lines of a connection may be answered, or it may be read.
+// Whether lines of a connection may be answered, or it may be read. While all lines wait a piece is
+// read and kept.
 fn has_turn<A: HostAnswers>(answers: &A, place: usize, seat: &Seat) -> bool {
-    if !takes_lines(answers, place) || seat.waiting() >= WAITING {
+    if answers.is_over(place) || answers.is_ending() || seat.waiting() >= WAITING {
         return false;
     }
     if seat.has_kept() {
-        return seat.size() < OUTPUT;
+        return !answers.waits() && seat.size() < OUTPUT;
     }
     is_read(seat)
 }
@@ -132,9 +133,10 @@ fn is_read(seat: &Seat) -> bool
 
 // Whether a line of who is at a place is answered.
 pub fn takes_lines<A: HostAnswers>(answers: &A, place: usize) -> bool
-    ensures { result ≡ true → (A.over answers.now place ≡ false) × (A.ends answers.now ≡ false) }
+    ensures { result ≡ true → (A.over answers.now place ≡ false) × (A.ends answers.now ≡ false)
+        × (A.waits answers.now ≡ false) }
 {
-    !answers.is_over(place) && !answers.is_ending()
+    !answers.is_over(place) && !answers.is_ending() && !answers.waits()
 }
 
 // Answers lines of the bytes that are kept, or of the piece that is read where none are.
@@ -320,6 +322,7 @@ fn take_line<N: Connections, A: HostAnswers>(
     requires fits { A.fits answers.old }
     requires open { A.over answers.old place ≡ false }
     requires goes_on { A.ends answers.old ≡ false }
+    requires now { A.waits answers.old ≡ false }
     ensures keeps { Keeps N.Connections A.HostAnswers (Freed heard []) (Freed heard []) place heard
         (at network.now answers.old seat.old bytes.now)
         (at network.now answers.new seat.new (drop result bytes.now)) }
@@ -346,6 +349,7 @@ fn answer_line<N: Connections, A: HostAnswers>(
     requires fits { A.fits answers.old }
     requires open { A.over answers.old place ≡ false }
     requires goes_on { A.ends answers.old ≡ false }
+    requires now { A.waits answers.old ≡ false }
     ensures keeps { (coming : List ℕ)
         → Keeps N.Connections A.HostAnswers (Freed heard []) (Freed heard []) place heard
         (at _network.now answers.old seat.old (10 ∷ coming))

@@ -71,7 +71,7 @@ module _ {N B L R : Type 0} (terms : Terms N B L R) (first : N) where
   law_first _ _ began place = tt
   law_first _ _ (waited before did) place = law_first _ _ before place
   law_first _ _ (happened {story} happening free before did kept served) place = subst (λ (l : Life L R). IsSession l.own) (sym (life-push place story (Happens happening))) (session_happens place (life place story) happening (law_first _ _ before place))
-  law_first _ _ (answered {story} exchange before is_first says served) place = ⊎_elim
+  law_first _ _ (answered {story} exchange before is_first says may served) place = ⊎_elim
       (λ same. subst (λ (p : ℕ). IsSession (life p (story ++ Answers exchange ∷ [])).own) (sym same) (subst (λ (l : Life L R). IsSession l.own) (sym (life-answers exchange story)) (session_push (life exchange.place story).own exchange is_first (law_first _ _ before exchange.place))))
       (λ apart. subst (λ (l : Life L R). IsSession l.own) (sym (life-other_answers place story exchange apart)) (law_first _ _ before place))
       (cases_eq place exchange.place)
@@ -89,7 +89,7 @@ module _ {N B L R : Type 0} (terms : Terms N B L R) (first : N) where
   all_such Such is _ _ began = All-nil (λ (x : Exchange L R). Such x.door x.said)
   all_such Such is _ _ (waited before did) = all_such Such is _ _ before
   all_such Such is _ _ (happened {story} happening free before did kept served) = subst (All (λ (x : Exchange L R). Such x.door x.said)) (sym (exchanges-happens story happening)) (all_such Such is _ _ before)
-  all_such Such is _ _ (answered {story} exchange before is_first says served) = subst (All (λ (x : Exchange L R). Such x.door x.said)) (sym (exchanges-push story exchange)) (All-push (λ (x : Exchange L R). Such x.door x.said) (exchanges story) exchange (all_such Such is _ _ before) (is exchange.first exchange.door exchange.line exchange.said says))
+  all_such Such is _ _ (answered {story} exchange before is_first says may served) = subst (All (λ (x : Exchange L R). Such x.door x.said)) (sym (exchanges-push story exchange)) (All-push (λ (x : Exchange L R). Such x.door x.said) (exchanges story) exchange (all_such Such is _ _ before) (is exchange.first exchange.door exchange.line exchange.said says))
   all_such Such is _ _ (held {story} hold before may served) = subst (All (λ (x : Exchange L R). Such x.door x.said)) (sym (exchanges-holds story hold)) (all_such Such is _ _ before)
 
   -- and so is each exchange of a connection, by the door by which it came
@@ -130,7 +130,7 @@ module _ {N B L R : Type 0} (terms : Terms N B L R) (first : N) where
   hosts_on Stands to _ _ began = began
   hosts_on Stands to _ _ (waited {story} {was} before did) = waited (hosts_on Stands to story was before) did
   hosts_on Stands to _ now (happened {story} {was} happening free before did kept served) = happened happening free (hosts_on Stands to story was before) did (kept_on Stands to story was now happening kept) served
-  hosts_on Stands to _ _ (answered {story} {now} exchange before is_first says served) = answered exchange (hosts_on Stands to story now before) is_first says served
+  hosts_on Stands to _ _ (answered {story} {now} exchange before is_first says may served) = answered exchange (hosts_on Stands to story now before) is_first says may served
   hosts_on Stands to _ _ (held {story} {now} hold before may served) = held hold (hosts_on Stands to story now before) (may_on Stands story hold may) served
 
   -- the same story, which comes to something weaker, of which something weaker is said of what is

@@ -6,7 +6,7 @@ use Rattle.std.proofs.lemmas.List.Sums.{fold-append}
 use Rattle.hose_net.specs.Happening.{Came, Got, Happening, Left, LinkStep, Linked, Refused, Sent, Stopped}
 use Rattle.hose_net.specs.declared.hold.Hold.{Hold}
 use Rattle.hose_net.specs.declared.hold.Hold.TheVariants.{Upto}
-use Rattle.hose_net.specs.Story.{Answers, Exchange, Happens, HasHappened, Holds, AllServed, Hosts, IsByDoor, IsServed, Life, Step, Terms, began, waited, happened, answered, held, bound_in, bound_of, exchanges, hold_in, holds, life, link_in, links, lives, newcomer, no_link, nobody}
+use Rattle.hose_net.specs.Story.{Answers, Exchange, Happens, HasHappened, Holds, AllServed, Hosts, IsByDoor, IsServed, Life, Step, Terms, began, waited, happened, answered, held, bound_in, bound_of, exchanges, hold_in, holds, joined_after, joined_in, life, link_in, links, lives, newcomer, no_link, nobody}
 
 -- something happened at a place
 abbrev pub IsAt : ℕ → Happening → Type 0
@@ -88,6 +88,19 @@ module _ {L R : Type 0} where
   link-same place story (Linked step) here = absurd here
   link-same place story Stopped here = absurd here
 
+  pub joined-push : (story : List (Step L R)) (step : Step L R) → joined_in (story ++ step ∷ []) ≡ joined_after (joined_in story) step
+  joined-push story step = fold-append joined_after true story (step ∷ [])
+
+  -- and whether its standby has joined
+  pub joined-same : (place : ℕ) (story : List (Step L R)) (happening : Happening) → IsAt place happening → joined_in (story ++ Happens happening ∷ []) ≡ joined_in story
+  joined-same place story (Came door at) here = joined-push story _
+  joined-same place story (Got at bytes) here = joined-push story _
+  joined-same place story (Sent at bytes) here = joined-push story _
+  joined-same place story (Refused at) here = joined-push story _
+  joined-same place story (Left at) here = joined-push story _
+  joined-same place story (Linked step) here = absurd here
+  joined-same place story Stopped here = absurd here
+
   -- at its own place
   pub life-came : (door place : ℕ) (story : List (Step L R)) → life place (story ++ Happens (Came door place) ∷ []) ≡ newcomer door
   life-came door place story = life-push place story _ ∙ ap (λ (b : Bool). cond b (newcomer door) (life place story)) (eq-eqb place place refl)
@@ -130,7 +143,7 @@ module _ {N B L R : Type 0} (terms : Terms N B L R) where
   served_now _ _ _ began place = served_first
   served_now _ _ _ (waited before did) place = served_now _ _ _ before place
   served_now _ _ _ (happened happening free before did kept served) place = served place
-  served_now _ _ _ (answered exchange before is_first says served) place = served place
+  served_now _ _ _ (answered exchange before is_first says may served) place = served place
   served_now _ _ _ (held hold before may served) place = served place
 
   -- more may be sent

@@ -136,6 +136,26 @@ holds hold (Holds now) = now
 abbrev pub hold_in : {L R : Type 0} → List (Step L R) → Hold
 hold_in story = fold holds (Upto 0) story
 
+-- whether it was told how replies are held since a link was opened last, after a step
+abbrev pub joined_after : {L R : Type 0} → Bool → Step L R → Bool
+joined_after was (Happens (Came door place)) = was
+joined_after was (Happens (Got place bytes)) = was
+joined_after was (Happens (Sent place bytes)) = was
+joined_after was (Happens (Refused place)) = was
+joined_after was (Happens (Left place)) = was
+joined_after was (Happens (Linked (Opened path))) = false
+joined_after was (Happens (Linked (Gave bytes))) = was
+joined_after was (Happens (Linked (Took bytes))) = was
+joined_after was (Happens (Linked Closed)) = was
+joined_after was (Happens (Linked Late)) = was
+joined_after was (Happens Stopped) = was
+joined_after was (Answers exchange) = was
+joined_after was (Holds hold) = true
+
+-- and after a story, at whose beginning no link was opened
+abbrev pub joined_in : {L R : Type 0} → List (Step L R) → Bool
+joined_in story = fold joined_after true story
+
 -- how much a reply may need that is sent; no reply needs more than the first of these
 abbrev pub bound_of : Hold → ℕ
 bound_of Alone = 2 ^ 64 - 1
@@ -229,6 +249,13 @@ IsKeptAtLink {N} {B} terms story was (Took bytes) now = (kept : B) × terms.saw 
 IsKeptAtLink terms story was Closed now = ⊤
 IsKeptAtLink terms story was Late now = ⊤
 
+-- A line is answered where it is told how replies are held since a link was opened last, or the
+-- host, which may go on alone, is alone. Where no reply is told without a standby, each reply waits
+-- in any case.
+abbrev pub MayAnswer : {N B L R : Type 0} → Terms N B L R → List (Step L R) → Type 0
+MayAnswer terms story =
+    terms.may_be_alone ≡ true → joined_in story ≡ false → hold_in story ≡ Alone
+
 -- Where bytes were sent, all lines that were answered before stood in what was kept then.
 abbrev pub IsKept : {N B L R : Type 0} → Terms N B L R → List (Step L R) → N → Happening → N
     → Type 0
@@ -275,6 +302,7 @@ pub data Hosts {N B L R : Type 0} (terms : Terms N B L R) (first : N)
       → Hosts terms first story now
       → exchange.first ≡ is_empty (life exchange.place story).own
       → terms.says exchange.first exchange.door exchange.line exchange.said
+      → MayAnswer terms story
       → AllServed terms (story ++ Answers exchange ∷ [])
       → Hosts terms first (story ++ Answers exchange ∷ []) now
   held : {story : List (Step L R)} {now : N} (hold : Hold)
@@ -320,14 +348,14 @@ leaves_lines parting.Late = true
 leaves_lines (parting.Ahead count) = true
 
 -- Why a host ends, which its story shows: it was asked to; its network told it to stop; nothing was
--- heard of the standby for as long as was said, and it may not go on alone; or the standby has so
--- many entries, more than the host.
+-- heard of the standby for as long as was said, and it may not go on alone; or the standby had so
+-- many entries at a moment, more than the host.
 abbrev pub PartsFor : {N B L R : Type 0} → Terms N B L R → List (Step L R) → Parting → Type 0
 PartsFor terms story parting.Asked = ⊤
 PartsFor terms story parting.Told = HasHappened story Stopped
 PartsFor terms story parting.Late = (terms.may_be_alone ≡ false) × HasHappened story (Linked Late)
-PartsFor terms story (parting.Ahead count) =
-    terms.is_ahead (exchanges story) (link_in story) count
+PartsFor {N} {B} {L} {R} terms story (parting.Ahead count) = (before after : List (Step L R))
+    × (story ≡ before ++ after) × terms.is_ahead (exchanges before) (link_in before) count
 
 -- A host came from one network to another by a story, whose exchanges, all of them in their order,
 -- come to this; and it came to rest, for this reason.

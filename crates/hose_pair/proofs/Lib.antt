@@ -7,6 +7,7 @@ pub mod Lines
 pub mod Linked
 pub mod OneAnswer
 pub mod OneState
+pub mod Present
 pub mod Standby
 pub mod Together
 pub mod Values

@@ -176,7 +176,7 @@ module _ {N B : Type 0} (about : About N B) (since : List Entry) where
   link_led first _ _ (happened {story} {was} {now} happening free before did kept served) =
       moved (exchanges (story ++ Happens happening ∷ [])) (exchanges story) (link_in (story ++ Happens happening ∷ [])) (links {L = HostLine} {R = HostReply} (link_in story) (Happens happening)) (exchanges-happens story happening) (link-push story (Happens happening))
       (happens_on story was now happening kept (link_led first story was before))
-  link_led first _ _ (answered {story} {now} exchange before is_first says served) =
+  link_led first _ _ (answered {story} {now} exchange before is_first says may served) =
       moved (exchanges (story ++ Answers exchange ∷ [])) (exchanges story ++ exchange ∷ []) (link_in (story ++ Answers exchange ∷ [])) (links {L = HostLine} {R = HostReply} (link_in story) (Answers exchange)) (exchanges-push story exchange) (link-push story (Answers exchange))
       (answered_on about.network about.required since (exchanges story) exchange (link_in story).given (link_in story).sent (link_led first story now before))
   link_led first _ _ (held {story} {now} hold before may served) =
@@ -190,7 +190,7 @@ module _ {N B : Type 0} (about : About N B) (since : List Entry) where
   last_held first _ story hold _ began same = absurd (no_end story (Holds hold) same)
   last_held first _ story hold _ (waited {story = whole} {was} before did) same = last_held first whole story hold was before same
   last_held first _ story hold _ (happened {story = other} happening free before did kept served) same = let last = push_same other story (Happens happening) (Holds hold) same in absurd (cc last.1)
-  last_held first _ story hold _ (answered {story = other} exchange before is_first says served) same = let last = push_same other story (Answers exchange) (Holds hold) same in absurd (cc last.1)
+  last_held first _ story hold _ (answered {story = other} exchange before is_first says may served) same = let last = push_same other story (Answers exchange) (Holds hold) same in absurd (cc last.1)
   last_held first _ story hold _ (held {story = other} given before may served) same =
       let last = push_same other story (Holds given) (Holds hold) same in
       let one : given ≡ hold = cc last.1 in
@@ -245,8 +245,8 @@ module _ {N B : Type 0} (about : About N B) (since : List Entry) where
         (λ whole. now_begun first (story ++ Happens happening ∷ []) now count (happened happening free before did kept served) whole is)
         (λ part. begun_low first story was before part.0 part.1 count (sym (hold-push story (Happens happening)) ∙ is))
         (cut_last story early later (Happens happening) same)
-    begun_low first _ now (answered {story} exchange before is_first says served) later same count is = ⊎_elim
-        (λ whole. now_begun first (story ++ Answers exchange ∷ []) now count (answered exchange before is_first says served) whole is)
+    begun_low first _ now (answered {story} exchange before is_first says may served) later same count is = ⊎_elim
+        (λ whole. now_begun first (story ++ Answers exchange ∷ []) now count (answered exchange before is_first says may served) whole is)
         (λ part. begun_low first story now before part.0 part.1 count (sym (hold-push story (Answers exchange)) ∙ is))
         (cut_last story early later (Answers exchange) same)
     begun_low first _ now (held {story} hold before may served) later same count is = ⊎_elim

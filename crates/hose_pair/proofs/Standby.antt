@@ -174,8 +174,8 @@ module _ {N B : Type 0} (about : About N B) (since : List Entry) (first : N) whe
       (λ whole. (now, subst (λ (s : List (Step HostLine HostReply)). Hosts (terms_of about since) first s now) (sym whole) (happened happening free before did kept served)))
       (λ part. earlier story was before early part.0 part.1)
       (cut_last story early later (Happens happening) same)
-  earlier _ last (answered {story} {now} exchange before is_first says served) early later same = ⊎_elim
-      (λ whole. (now, subst (λ (s : List (Step HostLine HostReply)). Hosts (terms_of about since) first s now) (sym whole) (answered exchange before is_first says served)))
+  earlier _ last (answered {story} {now} exchange before is_first says may served) early later same = ⊎_elim
+      (λ whole. (now, subst (λ (s : List (Step HostLine HostReply)). Hosts (terms_of about since) first s now) (sym whole) (answered exchange before is_first says may served)))
       (λ part. earlier story now before early part.0 part.1)
       (cut_last story early later (Answers exchange) same)
   earlier _ last (held {story} {now} hold before may served) early later same = ⊎_elim

@@ -33,7 +33,7 @@ ghost use Rattle.hose_clerk.specs.Hosting.{HostState};
 ghost use Rattle.hose_clerk.specs.declared.doors.DoorRule.{DoorRule};
 ghost use Rattle.hose_clerk.specs.declared.replies.HostReply.{HostReply};
 ghost use Rattle.hose_pair.specs.steps.Orders.{HasOrders};
-ghost use Rattle.hose_pair.specs.steps.Standing.{AnsweredSince, Goes, HasStory, IsFresh, MayLeave, Standing, WasTold, about_of};
+ghost use Rattle.hose_pair.specs.steps.Standing.{AnsweredSince, Goes, HasStory, IsFresh, MayLeave, ServesAtLink, Standing, WasTold, about_of};
 ghost use Rattle.hose_pair.specs.steps.Written.{IsWritten};
 
 use hose_disk::Disk;
@@ -120,6 +120,18 @@ pub fn law_standby<N: Connections, D: Disk, K>(top: &Topology)
         IsOfLeader top.now end.host.history count image
         ⊎ Collide sha256 (hashed (digest_of top.now) own
         ++ hashed (digest_of top.now) (take (length own) end.host.history)) }
+    // Where a host that may go on alone is not alone, and answered a line since its link to the
+    // follower was opened, how replies are held is what it last heard of that follower: so what was
+    // told by then, whomever it was heard of before, is there from then on. An earlier link counts
+    // for nothing at a later one.
+    ensures present { (rules : List DoorRule) → (standby : Option (List ℕ)) →
+        (may_be_alone required : Bool) → (own : List Entry) → (start now : Standing D) →
+        IsFresh (about_of N.did (N.saw K) top.now rules standby may_be_alone required) D.Disk
+        own start →
+        Goes (about_of N.did (N.saw K) top.now rules standby may_be_alone required) D.Disk
+        start now →
+        ServesAtLink (about_of N.did (N.saw K) top.now rules standby may_be_alone required) now →
+        now.decides ≡ true }
     // Where a standby is required, the follower answered a packet after each line of whose reply a
     // byte was sent, a question's too: so it was that host's standby still.
     ensures behind { (rules : List DoorRule) → (standby : Option (List ℕ)) →

@@ -4,13 +4,14 @@ use Rattle.cases_host.specs.declared.counter.Stage.{Stage}
 use Rattle.cases_host.specs.declared.counter.Stage.TheVariants as stage
 
 -- how many lines it has answered, what it knows of each place, whether it answers no more, the path
--- of its standby, and what is to be sent to the standby
+-- of its standby, what is to be sent to the standby, and whether lines wait for that
 pub record Numbering : Type 0 where
   pub count : ℕ
   pub stages : List Stage
   pub ended : Bool
   pub standby : Option (List ℕ)
   pub unsent : List ℕ
+  pub waits : Bool
 
 -- what is known of who is at a place
 abbrev pub stage_at : List Stage → ℕ → Stage

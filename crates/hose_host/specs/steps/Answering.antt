@@ -26,10 +26,11 @@ abbrev pub LeavesOthers : {A : Type 0} → (A → ℕ → Bool) → (A → ℕ �
 LeavesOthers is_new over place old new = (other : ℕ) → other ≢ place
     → (is_new new other ≡ is_new old other) × (over new other ≡ over old other)
 
--- all places are as they were, what lines are about and how much a reply needs
+-- all places are as they were, what lines are about, how much a reply needs, and whether lines wait
 pub record LeavesPlaces {A S : Type 0} (is_new over : A → ℕ → Bool) (about : A → S)
-    (count : A → ℕ) (old new : A) : Type 0 where
+    (count : A → ℕ) (waits : A → Bool) (old new : A) : Type 0 where
   pub same_new : (place : ℕ) → is_new new place ≡ is_new old place
   pub same_over : (place : ℕ) → over new place ≡ over old place
   pub same_about : about new ≡ about old
   pub same_count : count new ≡ count old
+  pub same_waits : waits new ≡ waits old

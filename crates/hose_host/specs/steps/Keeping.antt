@@ -5,7 +5,7 @@ use Rattle.hose_net.specs.declared.connections.Connections.{Ghosts as Connection
 use mathlib.Core.List.{IsPrefix}
 use Rattle.hose_net.specs.declared.hold.Hold.TheVariants.{Alone}
 use Rattle.hose_net.specs.declared.hold.Parting.{Parting}
-use Rattle.hose_net.specs.Story.{Hosts, Life, Link, PartsFor, Step, Terms, bound_in, bound_of, exchanges, hold_in, is_empty, life, link_in}
+use Rattle.hose_net.specs.Story.{Hosts, Life, Link, MayAnswer, PartsFor, Step, Terms, bound_in, bound_of, exchanges, hold_in, is_empty, life, link_in}
 use Rattle.hose_host.specs.declared.places.Places.{Places}
 use Rattle.hose_host.specs.steps.Seats.{SeatState, Sits}
 
@@ -75,6 +75,7 @@ module _ {N A R B : Type 0} (net : ConnectionsGhosts N) (by : Ghosts A R B) wher
     pub hears : bound_in story ≡ heard
     pub alone : heard ≡ bound_of Alone → hold_in story ≡ Alone
     pub within : All (λ exchange. exchange.needs ≤ by.count answers) (exchanges story)
+    pub may : by.waits answers ≡ false → MayAnswer (terms_of from topic) story
     pub knows : (place : ℕ) → (life place story).here ≡ true
         → by.is_new answers place ≡ is_empty (life place story).own
 
@@ -160,9 +161,14 @@ module _ {N A R B : Type 0} (net : ConnectionsGhosts N) (by : Ghosts A R B) wher
     pub stands : Stands first from topic later heard network answers
     pub there : IsOpen opened later
 
-  -- a call keeps what a host is, and things happen at the link alone
-  abbrev pub KeepsLink : Bool → N → A → Bool → N → A → Type 0
-  KeepsLink was old by_old opened new by_new = (heard : ℕ) (first : N) (from : by.origin)
+  -- a call keeps what a host is, where so much was heard, and things happen at the link alone
+  abbrev pub KeepsLinkAt : ℕ → Bool → N → A → Bool → N → A → Type 0
+  KeepsLinkAt heard was old by_old opened new by_new = (first : N) (from : by.origin)
       (topic : by.subject) (story : List (Step by.said R))
       → Stands first from topic story heard old by_old → IsOpen was story
       → GoesOnLink opened first from topic story heard new by_new
+
+  -- and whatever was heard
+  abbrev pub KeepsLink : Bool → N → A → Bool → N → A → Type 0
+  KeepsLink was old by_old opened new by_new =
+      (heard : ℕ) → KeepsLinkAt heard was old by_old opened new by_new

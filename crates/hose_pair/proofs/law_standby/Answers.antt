@@ -3,6 +3,7 @@ use Rattle.hose_law.proofs.Fronts.{prefix_same}
 use Rattle.hose_store.proofs.OneMeaning.{recovered_once}
 use Rattle.hose_pair.specs.steps.Standing.{about_of}
 use Rattle.hose_pair.proofs.Behind.{answered_since}
+use Rattle.hose_pair.proofs.Present.{decides_now}
 use Rattle.hose_pair.proofs.Standby.{heard_there, told_there}
 use Rattle.hose_pair.proofs.Together.{grows_on}
 use Rattle.hose_pair.proofs.law_standby.Goals as goal
@@ -18,6 +19,11 @@ returns-clause-heard g c = λ rules standby may_be_alone own start told end coun
     let about = about_of g.N.Connections.did (g.N.Connections.saw g.row.K.Denot) c.args.top.now rules standby may_be_alone false in
     let law = c.law_following.ensures in
     heard_there about g.D.Disk end.host.history leader (recovered_once c.args.top.now) g.met.D.Disk.only_now law.stays law.images own start told end count image refl fresh before decides hold goes (prefix_same end.host.history) may
+
+pub returns-clause-present : goal.returns-clause-present
+returns-clause-present g c = λ rules standby may_be_alone required own start now fresh goes serves.
+    let about = about_of g.N.Connections.did (g.N.Connections.saw g.row.K.Denot) c.args.top.now rules standby may_be_alone required in
+    decides_now about g.D.Disk own start fresh now goes serves
 
 pub returns-clause-behind : goal.returns-clause-behind
 returns-clause-behind g c = λ rules standby may_be_alone own start told exchange state was leader.

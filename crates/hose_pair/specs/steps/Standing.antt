@@ -1,5 +1,6 @@
 -- A host and a follower at the other end of its link, in one time.
-use Rattle.std.specs.Prelude.{◌≡◌, ℕ, ◌-◌, ◌^◌, Bool, true, false, ⊤, if◌then◌else◌, ◌<◌, List, [], ◌∷◌, ◌++◌, length, All, Option, None}
+use Rattle.std.specs.Prelude.{◌≡◌, ◌≢◌, ℕ, ◌-◌, ◌^◌, Bool, true, false, ⊤, if◌then◌else◌, ◌<◌, List, [], ◌∷◌, ◌++◌, length, All, Option, None, Some, option_map}
+use Rattle.std.specs.List.{fold}
 use mathlib.Core.List.{IsPrefix}
 use Rattle.hose_graph.specs.Network.{Network}
 use Rattle.hose_graph.specs.declared.entry.Entry.{Entry}
@@ -10,8 +11,8 @@ use Rattle.hose_follow.specs.Packet.{IsPacket, Packet, packets_bytes}
 use Rattle.hose_follow.specs.steps.Offering.{IsOffered}
 use Rattle.hose_follow.specs.steps.Replication.{IsReopened, MayBeLeft, Replication}
 use Rattle.hose_follow.specs.declared.answers.Offered.{Offered}
-use Rattle.hose_net.specs.Happening.{Happening, Linked, Opened}
-use Rattle.hose_net.specs.Story.{Answers, Exchange, Happens, Holds, Hosts, Link, Step, Terms, exchanges, life, link_in, links, no_link, texts_of}
+use Rattle.hose_net.specs.Happening.{Came, Closed, Gave, Got, Happening, Late, Left, Linked, Opened, Refused, Sent, Stopped, Took}
+use Rattle.hose_net.specs.Story.{Answers, Exchange, Happens, Holds, Hosts, Link, Step, Terms, exchanges, hold_in, life, link_in, links, no_link, texts_of}
 use Rattle.hose_net.specs.declared.hold.Hold.{Hold}
 use Rattle.hose_net.specs.declared.hold.Hold.TheVariants.{Alone, Upto}
 use Rattle.hose_clerk.specs.HostLines.{HostLine, SaysAt}
@@ -113,6 +114,27 @@ pub record Standing (D : Type 0) : Type 0 where
 abbrev pub opens : {L R : Type 0} → Step L R → Bool
 opens (Happens (Linked (Opened path))) = true
 opens step = false
+
+-- whether a line was answered since the host's link was opened last, where one was opened, after a
+-- step
+abbrev pub served_after : {L R : Type 0} → Option Bool → Step L R → Option Bool
+served_after was (Happens (Came door place)) = was
+served_after was (Happens (Got place bytes)) = was
+served_after was (Happens (Sent place bytes)) = was
+served_after was (Happens (Refused place)) = was
+served_after was (Happens (Left place)) = was
+served_after was (Happens (Linked (Opened path))) = Some false
+served_after was (Happens (Linked (Gave bytes))) = was
+served_after was (Happens (Linked (Took bytes))) = was
+served_after was (Happens (Linked Closed)) = was
+served_after was (Happens (Linked Late)) = was
+served_after was (Happens Stopped) = was
+served_after was (Answers exchange) = option_map (λ served. true) was
+served_after was (Holds hold) = was
+
+-- and after a story
+abbrev pub served_in : {L R : Type 0} → List (Step L R) → Option Bool
+served_in story = fold served_after None story
 
 -- how replies are held is what was heard by this connection, where it is how they are held now
 abbrev pub decides_by : Bool → Hold → Bool
@@ -219,6 +241,14 @@ pub record IsFresh {N B D : Type 0} (about : About N B) (disk : Ghosts D) (own :
   pub decides : start.decides ≡ false
   pub packets : start.packets ≡ []
   pub said : start.said ≡ []
+
+-- A host that may go on alone is not alone, and answered a line since its link was opened, which
+-- the follower has still.
+pub record ServesAtLink {N B D : Type 0} (about : About N B) (now : Standing D) : Type 0 where
+  pub may : about.may_be_alone ≡ true
+  pub is_link : now.is_link ≡ true
+  pub held : hold_in now.story ≢ Alone
+  pub served : served_in now.story ≡ Some true
 
 -- ---- replies
 

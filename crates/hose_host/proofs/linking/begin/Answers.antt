@@ -3,7 +3,7 @@ use Rattle.hose_net.specs.Story.{bound_of}
 use Rattle.hose_net.specs.declared.hold.Hold.TheVariants.{Alone}
 use Rattle.hose_host.specs.steps.Keeping.{housed}
 use Rattle.hose_host.specs.steps.Seats.{FreedBelow, Resting}
-use Rattle.hose_host.proofs.Keepings.{all_weaker, host_all, host_alone, host_link, host_then, link_quiet}
+use Rattle.hose_host.proofs.Keepings.{all_weaker, host_all, host_alone, host_link, host_then, leaves_none, link_quiet}
 use Rattle.hose_host.proofs.linking.begin.Goals as goal
 
 pub returns-in-None : goal.returns-in-None
@@ -12,7 +12,7 @@ returns-in-None g c =
     let first = housed c.args.network.now c.args.answers.now places.seats.items places.heard places.opened in
     let last = housed c.args.network.now c.args.answers.now places.seats.items (bound_of Alone) places.opened in
     host_then g.N.Connections g.A.HostAnswers Resting (FreedBelow 0) Resting first last last
-    (host_alone g.N.Connections g.A.HostAnswers Resting places.heard c.args.network.now c.args.answers.now places.seats.items places.opened (λ place life seat so. so.gone) (omega (arith, c.requires.heard)) (c.requires.alone (sym (rw c.in-None.is at c.standby.ensures))))
+    (host_alone g.N.Connections g.A.HostAnswers Resting places.heard c.args.network.now c.args.answers.now c.args.answers.now places.seats.items places.opened (λ place life seat so. so.gone) (λ from xs link has. has) (leaves_none g.N.Connections g.A.HostAnswers c.args.answers.now) (omega (arith, c.requires.heard)) (c.requires.alone (sym (rw c.in-None.is at c.standby.ensures))))
     (host_all g.N.Connections g.A.HostAnswers (FreedBelow 0) Resting places.opened last.hall last.hall (all_weaker g.N.Connections g.A.HostAnswers (bound_of Alone) (FreedBelow 0) Resting c.args.network.now c.args.answers.now places.seats.items (λ place life seat below so. absurd (omega (arith, below, ap length c.requires.none)))))
 
 pub returns-in-Some : goal.returns-in-Some

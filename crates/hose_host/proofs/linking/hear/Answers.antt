@@ -7,7 +7,7 @@ pub returns-then-is_useless-clause-keeps : goal.returns-then-is_useless-clause-k
 returns-then-is_useless-clause-keeps g c = λ ended.
     let was = c.args.places.now in
     let now = c.close.new.places in
-    host_near g.N.Connections g.A.HostAnswers (InRound ended) was.opened now.opened c.args.network.now c.close.new.network c.args.answers.now c.args.answers.now was.seats.items now.seats.items was.heard now.heard c.close.ensures.keeps c.close.ensures.seats c.close.ensures.heard
+    host_near g.N.Connections g.A.HostAnswers (InRound ended) was.opened now.opened c.args.network.now c.close.new.network c.args.answers.now c.args.answers.now was.seats.items now.seats.items was.heard now.heard (c.close.ensures.keeps was.heard) c.close.ensures.seats c.close.ensures.heard
 
 pub returns-in_default-clause-keeps : goal.returns-in_default-clause-keeps
 returns-in_default-clause-keeps g c = λ ended.

@@ -26,4 +26,4 @@ returns-in-Err-Over-clause-keeps g c = λ ended.
     let was = c.args.places.now in
     let now = c.close.new.places in
     host_near g.N.Connections g.A.HostAnswers (InRound ended) was.opened now.opened c.args.network.now c.close.new.network c.args.answers.now c.read_link.new.answers was.seats.items now.seats.items was.heard now.heard
-    (link_then g.N.Connections g.A.HostAnswers was.opened was.opened now.opened c.args.network.now c.read_link.new.network c.close.new.network c.args.answers.now c.read_link.new.answers c.read_link.new.answers (link_open g.N.Connections g.A.HostAnswers was.opened c.args.network.now c.read_link.new.network c.args.answers.now c.read_link.new.answers c.if-not-places.false c.read_link.ensures.keeps) c.close.ensures.keeps) c.close.ensures.seats c.close.ensures.heard
+    (link_then g.N.Connections g.A.HostAnswers was.opened was.opened now.opened c.args.network.now c.read_link.new.network c.close.new.network c.args.answers.now c.read_link.new.answers c.read_link.new.answers (link_open g.N.Connections g.A.HostAnswers was.opened c.args.network.now c.read_link.new.network c.args.answers.now c.read_link.new.answers c.if-not-places.false c.read_link.ensures.keeps) c.close.ensures.keeps was.heard) c.close.ensures.seats c.close.ensures.heard
