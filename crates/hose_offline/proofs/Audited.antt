@@ -26,11 +26,11 @@ use Rattle.hose_offline.specs.steps.Journal.{ClosesJournal, OpensJournal, Touche
 use Rattle.hose_offline.specs.OnDisk.{CabinetFailed, JournalIsTold, OthersStay}
 use Rattle.hose_offline.specs.Parts.{Parts, Tellings}
 use Rattle.hose_offline.specs.Run.{IsRefusedText}
-use Rattle.hose_offline.specs.ServingOnDisk.{IsNotServed, first_of}
+use Rattle.hose_offline.specs.Unopened.{OpensNoJournal, first_of}
 use Rattle.hose_offline.specs.TopologyTold.{limit_of, notation_of}
 use Rattle.hose_offline.specs.declared.fault.Fault.{Fault}
 use Rattle.hose_offline.specs.declared.fault.Fault.TheVariants.{Words, Topology, Text, Other, Damaged, Cabinet, Memory, TooLong}
-use Rattle.hose_offline.proofs.Audits.{has_before, held_before, not_served_before}
+use Rattle.hose_offline.proofs.Audits.{has_before, held_before, opens_none_before}
 use Rattle.hose_offline.proofs.Journals.{audit_text_of, audits_in, not_too_long}
 use Rattle.hose_offline.proofs.Outcomes.{clash, no_network_read, no_text, not_long, not_refused, of_read}
 
@@ -97,14 +97,14 @@ module _ {I O C E : Type 0} (tells : Tellings I O C E) (names : PricedNames) (be
   }
 
   pub no_store : (read : C) (network : Network) (why : Fault) → ReadsTopology tells.cabinet before.cabinet read names.prices names.topology (Ok network) → TouchesOnly tells.cabinet names.journal read after.cabinet
-      → IsNotServed tells.cabinet tells.disk names.journal read after.cabinet network (Err why) → ReadsNothing tells names before after why
+      → OpensNoJournal tells.cabinet tells.disk names.journal read after.cabinet network (Err why) → ReadsNothing tells names before after why
   no_store read network why reads same not = record {
     taken = reads.taken;
     left = reads.left;
     gives = reads.gives;
     limit = reads.limit;
     too_long = ((λ is. absurd (not_too_long tells.cabinet tells.disk names.journal read after.cabinet network why not is)), λ more. absurd (cc (reads.too_long.1 more)));
-    not_read = inr (record { network = network; text = reads.text.2; is = not_served_before tells.cabinet tells.disk before.cabinet read after.cabinet reads.only_texts reads.text.1 names.journal network why not });
+    not_read = inr (record { network = network; text = reads.text.2; is = opens_none_before tells.cabinet tells.disk before.cabinet read after.cabinet reads.only_texts reads.text.1 names.journal network why not });
     absent = λ told some. same.absent ∙ reads.absent told some;
     not_there = λ told none. absurd (cc (reads.not_there told none));
     others = others_read tells.cabinet names.journal before.cabinet read after.cabinet reads.only_texts same;

@@ -41,7 +41,7 @@ use Rattle.hose_words.proofs.OnReading.{WhereTold-map}
 use Rattle.hose_words.proofs.Saying.{rose_now}
 use Rattle.hose_offline.proofs.Running.{not_read, stopped_told, text_told, wrong_told}
 use Rattle.hose_offline.proofs.Texts.{HasAsked-next, HasAsked-none}
-use Rattle.hose_offline.specs.ServingOnDisk.{IsNotServed}
+use Rattle.hose_offline.specs.Unopened.{OpensNoJournal}
 use Rattle.hose_offline.specs.declared.fault.Fault.{Fault}
 use Rattle.hose_offline.specs.declared.fault.Fault.TheVariants as fault
 
@@ -296,9 +296,9 @@ module _ {C E : Type 0} (cabinet : CabinetGhosts C E) (disk : DiskGhosts E) (old
   }
 
   -- where no call of the cabinet failed before
-  pub not_served_before : CabinetWorked cabinet old mid → (name : List ℕ) (network : Network) (why : Fault) → IsNotServed cabinet disk name mid new network (Err why) → IsNotServed cabinet disk name old new network (Err why)
-  not_served_before same name network fault.Cabinet not = (unopened_before network name not.0, subst (λ (f : Frame). Rose f (object_of (cabinet.frame new))) same not.1)
-  not_served_before same name network (fault.Other kept given) not = (not.0, refused_before network name (other kept) not.1)
-  not_served_before same name network (fault.Damaged at) not = refused_before network name (damaged at) not
-  not_served_before same name network fault.Memory not = unopened_before network name not
-  not_served_before same name network another not = absurd not
+  pub opens_none_before : CabinetWorked cabinet old mid → (name : List ℕ) (network : Network) (why : Fault) → OpensNoJournal cabinet disk name mid new network (Err why) → OpensNoJournal cabinet disk name old new network (Err why)
+  opens_none_before same name network fault.Cabinet not = (unopened_before network name not.0, subst (λ (f : Frame). Rose f (object_of (cabinet.frame new))) same not.1)
+  opens_none_before same name network (fault.Other kept given) not = (not.0, refused_before network name (other kept) not.1)
+  opens_none_before same name network (fault.Damaged at) not = refused_before network name (damaged at) not
+  opens_none_before same name network fault.Memory not = unopened_before network name not
+  opens_none_before same name network another not = absurd not

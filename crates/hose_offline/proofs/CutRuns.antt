@@ -117,10 +117,7 @@ module _ (prices : Network → Network → Type 0) (keeping : Keeping) (old new 
     script = run.script;
     decided = run.decided;
     keeps = run.keeps;
-    none_oversold = run.none_oversold;
-    held = run.held;
-    kept = run.kept;
-    cheapest = run.cheapest;
+    provides = run.provides;
   }
 
 -- what is told of a borrow is told of the source behind it

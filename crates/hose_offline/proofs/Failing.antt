@@ -16,7 +16,7 @@ use Rattle.hose_offline.specs.Following.{following_done}
 use Rattle.hose_offline.specs.Moving.{MoveNames, MovesNamed}
 use Rattle.hose_offline.specs.OnDisk.{OthersStay}
 use Rattle.hose_offline.specs.Parts.{Parts, Tellings}
-use Rattle.hose_offline.specs.ServingOnDisk.{IsNotServed, first_of}
+use Rattle.hose_offline.specs.Unopened.{OpensNoJournal, first_of}
 use Rattle.hose_offline.specs.ShipOutcome.{ShipsJournal}
 use Rattle.hose_offline.specs.declared.fault.Fault.{Fault}
 use Rattle.hose_offline.specs.declared.fault.Fault.TheVariants.{Cabinet, Text, Write}
@@ -33,7 +33,7 @@ use Rattle.hose_offline.specs.steps.LastLine.{why_of}
 
 module _ {C E : Type 0} (cabinet : CabinetGhosts C E) (disk : DiskGhosts E) where
   -- no store was opened
-  pub unopened_fails : (name : List ℕ) (old new : C) (network : Network) (why : Fault) → IsNotServed cabinet disk name old new network (Err why) → FailsOpened cabinet old new (Stopped why)
+  pub unopened_fails : (name : List ℕ) (old new : C) (network : Network) (why : Fault) → OpensNoJournal cabinet disk name old new network (Err why) → FailsOpened cabinet old new (Stopped why)
   unopened_fails name old new network Text not = absurd not
   unopened_fails name old new network Cabinet not = not.1
   unopened_fails name old new network another not = tt

@@ -21,7 +21,7 @@ use Rattle.hose_offline.specs.Following.{HasFollowed, following_done}
 use Rattle.hose_offline.specs.steps.Following.{FollowsJournal}
 use Rattle.hose_offline.specs.steps.Journal.{TouchesOnly}
 use Rattle.hose_offline.specs.Parts.{Parts, Tellings}
-use Rattle.hose_offline.specs.ServingOnDisk.{IsNotServed, first_of}
+use Rattle.hose_offline.specs.Unopened.{OpensNoJournal, first_of}
 use Rattle.hose_offline.specs.TopologyTold.{limit_of, notation_of}
 use Rattle.hose_offline.specs.declared.fault.Fault.{Fault}
 use Rattle.hose_offline.specs.declared.fault.Fault.TheVariants as fault
@@ -198,7 +198,7 @@ module _ {I O C E : Type 0} (tells : Tellings I O C E) (names : PricedNames) (be
       pub is_followed : (done : Result ⊤ Fault) → FollowsJournal tells names.journal (record before { cabinet = read }) (record after { output = left }) network done → status ≡ status_of_done done → IsLastLine tells.sink left after.output done → FollowOutcome tells names before after status
       is_followed done (inl (not, untouched, same)) is out = at done not is out
         where
-          at : (one : Result ⊤ Fault) → IsNotServed tells.cabinet tells.disk names.journal read after.cabinet network one → status ≡ status_of_done one → IsLastLine tells.sink left after.output one → FollowOutcome tells names before after status
+          at : (one : Result ⊤ Fault) → OpensNoJournal tells.cabinet tells.disk names.journal read after.cabinet network one → status ≡ status_of_done one → IsLastLine tells.sink left after.output one → FollowOutcome tells names before after status
           at (Ok value) not is out = absurd not
           at (Err why) not is out = not_followed why status (no_store tells names before after read network why reads alone not) is (subst (λ (o : O). IsOut tells.sink o after.output (last_line why)) same out) untouched
       is_followed done (inr (ended, closing, has, told)) is out =

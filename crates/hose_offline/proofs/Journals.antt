@@ -39,11 +39,11 @@ use Rattle.hose_talk.specs.Talk.{talk}
 use Rattle.hose_offline.specs.Talking.{IsAskedBy, TellsDisks}
 use Rattle.hose_offline.specs.steps.Talking.{Talks, TalkTellings, talk_tellings}
 use Rattle.hose_offline.specs.steps.TalkingOnDisk.{HasTalkedInCabinet}
-use Rattle.hose_offline.specs.ServingOnDisk.{IsNotServed, first_of}
-use Rattle.hose_offline.specs.steps.ServingOnDisk.{IsNotOpened}
+use Rattle.hose_offline.specs.Unopened.{OpensNoJournal, first_of}
+use Rattle.hose_offline.specs.steps.Unopened.{IsNotOpened}
 use Rattle.hose_offline.specs.declared.fault.Fault.{Fault}
 use Rattle.hose_offline.specs.declared.fault.Fault.TheVariants.{Memory, TooLong}
-use Rattle.hose_offline.proofs.PutBack.{IsPutBack, TakenFrom, at_opening, counts, held_as, left_as, left_as_kind, not_served}
+use Rattle.hose_offline.proofs.PutBack.{IsPutBack, TakenFrom, at_opening, counts, held_as, left_as, left_as_kind, opens_none}
 
 -- ---- on a disk
 
@@ -137,9 +137,9 @@ module _ {E : Type 0} (disk : DiskGhosts E) (network : Network) (old left : E) w
   not_opened (store.Damaged at) one run refused = record { why = not_listed network (damaged at) (λ history same. cc same) one (disk.content old) refused.1; images = run }
   not_opened store.Memory one run refused = record { why = tt; images = run }
 
--- a fault for which nothing was served is not that of an input too long
-pub not_too_long : {C E : Type 0} (cabinet : CabinetGhosts C E) (disk : DiskGhosts E) (name : List ℕ) (old new : C) (network : Network) (why : Fault) → IsNotServed cabinet disk name old new network (Err why) → why ≡ TooLong → ⊥
-not_too_long cabinet disk name old new network why not is = subst (λ (fault : Fault). IsNotServed cabinet disk name old new network (Err fault)) is not
+-- a fault for which no journal was opened is not that of an input too long
+pub not_too_long : {C E : Type 0} (cabinet : CabinetGhosts C E) (disk : DiskGhosts E) (name : List ℕ) (old new : C) (network : Network) (why : Fault) → OpensNoJournal cabinet disk name old new network (Err why) → why ≡ TooLong → ⊥
+not_too_long cabinet disk name old new network why not is = subst (λ (fault : Fault). OpensNoJournal cabinet disk name old new network (Err fault)) is not
 
 -- a core begins with a sound history where its store does
 pub first_sound : {E : Type 0} (first store : KeptStore E) (history : List Entry) → first ≡ store → IsSound store.ledger.network 0 history → IsSound first.ledger.network 0 history
@@ -152,8 +152,8 @@ module _ {C E : Type 0} (cabinet : CabinetGhosts C E) (disk : DiskGhosts E) (nam
   put_back Kind opens last closing closes = record { out = opens.taken; in_place = closes.back }
 
   -- the store was closed before anything was asked of it, for want of memory
-  pub unused_in : (Kind : EntryKind) (closing : Result ⊤ Failed) → OpensJournal cabinet disk Kind name old mid network store → ClosesJournal cabinet disk mid new store closing → IsNotServed cabinet disk name old new network (Err Memory)
-  unused_in Kind closing opens closes = not_served cabinet disk name old mid new network opens.was closes.left (put_back Kind opens store closing closes) (Err Memory)
+  pub unused_in : (Kind : EntryKind) (closing : Result ⊤ Failed) → OpensJournal cabinet disk Kind name old mid network store → ClosesJournal cabinet disk mid new store closing → OpensNoJournal cabinet disk name old new network (Err Memory)
+  unused_in Kind closing opens closes = opens_none cabinet disk name old mid new network opens.was closes.left (put_back Kind opens store closing closes) (Err Memory)
       (closed_unused disk Kind network opens.was closes.left store closing opens.opens closes.closes)
 
   -- ---- a run

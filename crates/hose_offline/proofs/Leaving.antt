@@ -23,7 +23,7 @@ use Rattle.hose_offline.specs.steps.TalkingOnDisk.{HasTalkedInCabinet, TalksInCa
 use Rattle.hose_offline.specs.TopologyTold.{TellsPriced}
 use Rattle.hose_offline.specs.declared.notation.Notation.TheVariants.{Lines}
 use Rattle.hose_words.proofs.OnReading.{WhereTold-map}
-use Rattle.hose_offline.specs.ServingOnDisk.{IsNotServed, first_of}
+use Rattle.hose_offline.specs.Unopened.{OpensNoJournal, first_of}
 use Rattle.hose_offline.specs.declared.fault.Fault.{Fault}
 use Rattle.hose_offline.specs.declared.fault.Fault.TheVariants as fault
 use Rattle.hose_offline.proofs.Borrowed.{held_behind, rose_behind}
@@ -84,16 +84,16 @@ module _ (prices : Network → Network → Type 0) {S O C E : Type 0} (source : 
         (λ run out held. (inr (Err failed, run, out), held))
         (λ run held rose. ((Err failed, run), held, rose)) served has.talks
 
-    not_served : (done : Result ⊤ Fault) → last ≡ middle → output' ≡ output → IsNotServed cabinet disk name place place' network done → Leaves (Some name) place' done
-    not_served (Ok tt) stays same why = absurd why
-    not_served (Err (fault.Other kept given)) stays same why = (has_read _ stays why, input_held stays, same)
-    not_served (Err (fault.Damaged at)) stays same why = (has_read _ stays (tt, why), input_held stays, same)
-    not_served (Err fault.Cabinet) stays same why = (inl (has_read _ stays why.0, input_held stays, same), why.1)
-    not_served (Err fault.Memory) stays same why = (inr (inr (has_read _ stays why)), input_held stays, same)
-    not_served (Err another) stays same why = absurd why
+    opens_none : (done : Result ⊤ Fault) → last ≡ middle → output' ≡ output → OpensNoJournal cabinet disk name place place' network done → Leaves (Some name) place' done
+    opens_none (Ok tt) stays same why = absurd why
+    opens_none (Err (fault.Other kept given)) stays same why = (has_read _ stays why, input_held stays, same)
+    opens_none (Err (fault.Damaged at)) stays same why = (has_read _ stays (tt, why), input_held stays, same)
+    opens_none (Err fault.Cabinet) stays same why = (inl (has_read _ stays why.0, input_held stays, same), why.1)
+    opens_none (Err fault.Memory) stays same why = (inr (inr (has_read _ stays why)), input_held stays, same)
+    opens_none (Err another) stays same why = absurd why
 
     pub leaves_in_cabinet : (done : Result ⊤ Fault) → ReadsOn source middle last → TalksInCabinet (tellings source sink cabinet disk) name (parts middle output place) (parts last output' place') network done → Leaves (Some name) place' done
-    leaves_in_cabinet done more (inl (why, stays, same)) = not_served done stays same why
+    leaves_in_cabinet done more (inl (why, stays, same)) = opens_none done stays same why
     leaves_in_cabinet done more (inr (served, closing, has, told)) = subst (Leaves (Some name) place') (sym told) (served_leaves served closing more has)
 
 -- the text of a network was read, and then there was no memory

@@ -30,6 +30,7 @@ pub mod Outcomes
 mod Packets
 mod Priced
 mod Proved
+pub mod Provided
 pub mod PutBack
 mod RunEnds
 pub mod Running

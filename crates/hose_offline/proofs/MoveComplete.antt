@@ -13,7 +13,7 @@ use Rattle.hose_disk.specs.declared.cabinet.Cabinet.{Ghosts as CabinetGhosts}
 use Rattle.hose_disk.specs.declared.disk.Disk.{Ghosts as DiskGhosts}
 use Rattle.hose_journal.specs.Image.{Meaning, damaged, listed, other}
 use Rattle.hose_move.specs.Changing.{GoesOnFrom, IsFirstChange}
-use Rattle.hose_move.specs.Moving.{Moves, OnlyMoves, StandsForPart}
+use Rattle.hose_move.specs.Moving.{StandsForPart}
 use Rattle.hose_move.specs.Stating.{Suffice, stated_entries}
 use Rattle.hose_move.specs.declared.changing.NetworkChange.{NetworkChange}
 use Rattle.hose_move.specs.declared.changing.NetworkChange.TheVariants as change
@@ -30,7 +30,7 @@ use Rattle.hose_offline.specs.Ending.{IsOut, OutputWorked}
 use Rattle.hose_offline.specs.Fault.{status_of}
 use Rattle.hose_offline.specs.MoveEnd.{EndsMoved, moved_done, stop_status}
 use Rattle.hose_offline.specs.MoveOutcome.{CanTake, EachNamed, FitsMoved, IsMovable}
-use Rattle.hose_offline.specs.Moving.{AreApart, EntersEnough, IsComplete, IsLent, LendsDisk, LendsOld, MoveNames, MovedJournals, MovesApart, MovesFrom, read_done, to_move, to_read}
+use Rattle.hose_offline.specs.Moving.{AreApart, EntersDisk, EntersEnough, EntersNew, IsLent, MoveNames, MovedJournals, MovesApart, MovesFrom, ReadsDisk, ReadsOld, read_done}
 use Rattle.hose_offline.specs.OnDisk.{CabinetFailed, JournalIsTold}
 use Rattle.hose_offline.specs.Parts.{Parts, Tellings}
 use Rattle.hose_offline.specs.Run.{IsFor, IsServable}
@@ -127,7 +127,7 @@ module _ {C E : Type 0} (cabinet : CabinetGhosts C E) (disk : DiskGhosts E) wher
     module _ (name : List ℕ) (which : Scope) (old new : C) (Is : List Entry → Type 0) (told : JournalIsTold cabinet disk old (Some name) (λ bytes. (history : List Entry) × IsHistoryOf network history bytes × Is history)) where
       -- a journal that stands for a history is not read for want of memory alone
       read_refused : (why : Fault) (read : Result Stated StoreFault) → Err why ≡ read_done read → Stays (object_of (cabinet.frame first)) (object_of (cabinet.frame old)) → ¬ CabinetFailed cabinet first new
-          → IsLent cabinet disk name old new ((to_read disk network which).IsDone read) → status_of why ≡ 7
+          → IsLent cabinet disk name old new (ReadsDisk disk network which read) → status_of why ≡ 7
       read_refused why (Ok stated) same stays none lent = absurd (cc same)
       read_refused why (Err store.Disk) same stays none lent = absurd (none (Rose-later _ _ _ stays (lent_failed name old new _ lent lent.done.0.told)))
       read_refused why (Err (store.Other kept given)) same stays none lent =
@@ -141,7 +141,7 @@ module _ {C E : Type 0} (cabinet : CabinetGhosts C E) (disk : DiskGhosts E) wher
           ap status_of is
 
       -- what is stated is of the history that was told
-      read_stated : (stated : Stated) (read : Result Stated StoreFault) → Ok stated ≡ read_done read → IsLent cabinet disk name old new ((to_read disk network which).IsDone read)
+      read_stated : (stated : Stated) (read : Result Stated StoreFault) → Ok stated ≡ read_done read → IsLent cabinet disk name old new (ReadsDisk disk network which read)
           → (history : List Entry) × (stated.entries.items ≡ stated_entries which network history) × Is history
       read_stated stated (Ok found) same lent =
           let is = told_read name old new _ lent _ told in
@@ -152,7 +152,7 @@ module _ {C E : Type 0} (cabinet : CabinetGhosts C E) (disk : DiskGhosts E) wher
       read_stated stated (Err why) same lent = absurd (cc same)
 
     old_journal : (name : List ℕ) (which : Scope) (old new : C) (Is : List Entry → Type 0) (why : Fault) → JournalIsTold cabinet disk old (Some name) (λ bytes. (history : List Entry) × IsHistoryOf network history bytes × Is history) → Stays (object_of (cabinet.frame first)) (object_of (cabinet.frame old))
-        → ¬ CabinetFailed cabinet first new → LendsOld cabinet disk name old new (to_read disk network which) (Err why) → status_of why ≡ 7
+        → ¬ CabinetFailed cabinet first new → ReadsOld cabinet disk network which name old new (Err why) → status_of why ≡ 7
     old_journal name which old new Is why told stays none (inl (same, not)) = absurd (none (Rose-later _ _ _ stays not.failed))
     old_journal name which old new Is why told stays none (inr (found, looked, inl (same, not))) = absurd (none (Rose-later _ _ _ (Stays-next stays looked.only_texts.stays) not.failed))
     old_journal name which old new Is why told stays none (inr (found, looked, inr (read, same, lent))) =
@@ -162,7 +162,7 @@ module _ {C E : Type 0} (cabinet : CabinetGhosts C E) (disk : DiskGhosts E) wher
 
   module _ (name : List ℕ) (first old new : C) (network : Network) (entries : List Entry) (Holds : Type 0) (holds : Holds) (stays : Stays (object_of (cabinet.frame first)) (object_of (cabinet.frame old))) (none : ¬ CabinetFailed cabinet first new)
       (sound : IsSound network 0 entries) (told : JournalIsTold cabinet disk old (Some name) (StandsForPart network entries)) where
-    moved_ends : (moved : Result ℕ MoveFault) → IsLent cabinet disk name old new (λ opened left. Moves disk opened network entries left moved × OnlyMoves disk opened network entries left × IsComplete disk opened network entries moved) → Ends Holds (moved_done (length entries) moved)
+    moved_ends : (moved : Result ℕ MoveFault) → IsLent cabinet disk name old new (EntersDisk disk network entries moved) → Ends Holds (moved_done (length entries) moved)
     moved_ends (Ok live) lent = holds
     moved_ends (Err (moving.Store store.Disk)) lent = absurd (none (Rose-later _ _ _ stays (lent_failed name old new _ lent lent.done.0.0.told)))
     moved_ends (Err (moving.Store (store.Other kept given))) lent =
@@ -181,7 +181,7 @@ module _ {C E : Type 0} (cabinet : CabinetGhosts C E) (disk : DiskGhosts E) wher
     moved_ends (Err moving.Disk) lent = absurd (none (Rose-later _ _ _ stays (lent_failed name old new _ lent lent.done.0.told)))
     moved_ends (Err moving.Memory) lent = refl
 
-    new_ends : (result : Result Moved MoveStop) → LendsDisk cabinet disk name old new (to_move disk network entries) result → Ends Holds result
+    new_ends : (result : Result Moved MoveStop) → EntersNew cabinet disk network entries name old new result → Ends Holds result
     new_ends result (inl (same, not)) = absurd (none (Rose-later _ _ _ stays not.failed))
     new_ends result (inr (moved, same, lent)) = subst (Ends Holds) (sym same) (moved_ends moved lent)
 
@@ -207,7 +207,7 @@ module _ {I O C E : Type 0} (tells : Tellings I O C E) (journals : MovedJournals
     told_1 = after_texts tells.cabinet tells.disk journals.old before.cabinet c1 _ seen.only_texts (still journals.old _ can)
 
     module _ (stated : Stated) (c3 c4 : C) (looked : OnlyTextsRead tells.cabinet c1 c3) (read : Result Stated StoreFault) (same : Ok stated ≡ read_done read)
-        (lent : IsLent tells.cabinet tells.disk journals.old c3 c4 ((to_read tells.disk old journals.scope).IsDone read)) where
+        (lent : IsLent tells.cabinet tells.disk journals.old c3 c4 (ReadsDisk tells.disk old journals.scope read)) where
       stays_4 : Stays (object_of (tells.cabinet.frame first)) (object_of (tells.cabinet.frame c4))
       stays_4 = Stays-next (Stays-next stays_1 looked.stays) (lent_stays tells.cabinet tells.disk journals.old c3 c4 _ lent)
 

@@ -14,7 +14,7 @@ use Rattle.hose_store.specs.declared.fault.StoreFault.TheVariants as store
 use Rattle.hose_offline.specs.Fault.{of_store, status_of}
 use Rattle.hose_offline.specs.MoveEnd.{EndsMoved, moved_done, stop_status}
 use Rattle.hose_offline.specs.MoveOutcome.{MoveOutcome}
-use Rattle.hose_offline.specs.Moving.{EntersEnough, EntersStated, LendsDisk, LendsOld, MoveNames, MovedJournals, MovesApart, MovesBetween, MovesFrom, MovesNamed, MovesStated, read_done, to_move, to_read}
+use Rattle.hose_offline.specs.Moving.{EntersEnough, EntersNew, EntersStated, MoveNames, MovedJournals, MovesApart, MovesBetween, MovesFrom, MovesNamed, MovesStated, ReadsOld, read_done}
 use Rattle.hose_offline.specs.Parts.{Parts, Tellings}
 use Rattle.hose_offline.specs.declared.fault.Fault.{Fault}
 use Rattle.hose_offline.specs.declared.move_end.MoveStop.{MoveStop}
@@ -50,15 +50,12 @@ moved_not_1 entries (Err moving.Disk) one = omega (arith, one)
 moved_not_1 entries (Err moving.Memory) one = omega (arith, one)
 
 module _ {C E : Type 0} (cabinet : CabinetGhosts C E) (disk : DiskGhosts E) where
-  there_not_1 : (name : List ℕ) (which : Scope) (old new : C) (network : Network) (result : Result Stated Fault) → LendsDisk cabinet disk name old new (to_read disk network which) result → read_status result ≡ 1 → ⊥
-  there_not_1 name which old new network result (inl (same, none)) one = omega (arith, sym (ap read_status same) ∙ one)
-  there_not_1 name which old new network result (inr (read, same, lent)) one = read_not_1 read (sym (ap read_status same) ∙ one)
-
-  old_not_1 : (name : List ℕ) (which : Scope) (old new : C) (network : Network) (result : Result Stated Fault) → LendsOld cabinet disk name old new (to_read disk network which) result → read_status result ≡ 1 → ⊥
+  old_not_1 : (name : List ℕ) (which : Scope) (old new : C) (network : Network) (result : Result Stated Fault) → ReadsOld cabinet disk network which name old new result → read_status result ≡ 1 → ⊥
   old_not_1 name which old new network result (inl (same, none)) one = omega (arith, sym (ap read_status same) ∙ one)
-  old_not_1 name which old new network result (inr (found, looked, there)) one = there_not_1 name which found new network result there one
+  old_not_1 name which old new network result (inr (found, looked, inl (same, none))) one = omega (arith, sym (ap read_status same) ∙ one)
+  old_not_1 name which old new network result (inr (found, looked, inr (read, same, lent))) one = read_not_1 read (sym (ap read_status same) ∙ one)
 
-  new_not_1 : (name : List ℕ) (old new : C) (network : Network) (entries : List Entry) (result : Result Moved MoveStop) → LendsDisk cabinet disk name old new (to_move disk network entries) result → done_status result ≡ 1 → ⊥
+  new_not_1 : (name : List ℕ) (old new : C) (network : Network) (entries : List Entry) (result : Result Moved MoveStop) → EntersNew cabinet disk network entries name old new result → done_status result ≡ 1 → ⊥
   new_not_1 name old new network entries result (inl (same, none)) one = omega (arith, sym (ap done_status same) ∙ one)
   new_not_1 name old new network entries result (inr (moved, same, lent)) one = moved_not_1 (length entries) moved (sym (ap done_status same) ∙ one)
 

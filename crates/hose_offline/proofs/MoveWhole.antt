@@ -12,7 +12,6 @@ use Rattle.hose_disk.specs.Cabinet.{CabinetFrame, Has, where_told}
 use Rattle.hose_disk.specs.declared.cabinet.Cabinet.{Ghosts as CabinetGhosts}
 use Rattle.hose_disk.specs.declared.disk.Disk.{Ghosts as DiskGhosts}
 use Rattle.hose_journal.specs.Moments.{Images}
-use Rattle.hose_move.specs.Moving.{Moves, OnlyMoves}
 use Rattle.hose_move.specs.Stating.{Suffice, stated_entries}
 use Rattle.hose_move.specs.declared.fault.MoveFault.{MoveFault}
 use Rattle.hose_move.specs.declared.fault.MoveFault.TheVariants as moving
@@ -25,7 +24,7 @@ use Rattle.hose_offline.specs.CabinetText.{OnlyTextsRead, whole_text}
 use Rattle.hose_offline.specs.Fault.{status_of}
 use Rattle.hose_offline.specs.MoveEnd.{EndsMoved, moved_done, stop_status}
 use Rattle.hose_offline.specs.MoveOutcome.{IsMoved, IsOnlyRead}
-use Rattle.hose_offline.specs.Moving.{EntersEnough, IsComplete, IsLent, LendsOld, MoveNames, MovedJournals, MovesApart, MovesNamed, read_done, to_read}
+use Rattle.hose_offline.specs.Moving.{EntersDisk, EntersEnough, IsLent, MoveNames, MovedJournals, MovesApart, MovesNamed, ReadsDisk, ReadsOld, read_done}
 use Rattle.hose_offline.specs.OnDisk.{HadContent}
 use Rattle.hose_offline.specs.Parts.{Parts, Tellings}
 use Rattle.hose_offline.specs.TopologyTold.{TellsPriced, notation_of}
@@ -145,7 +144,7 @@ module _ {C E : Type 0} (cabinet : CabinetGhosts C E) (disk : DiskGhosts E) wher
     pub entries : stated.entries.items ≡ stated_entries which network history
 
   pub was_stated : (name : List ℕ) (which : Scope) (old new : C) (network : Network) (stated : Stated) (read : Result Stated StoreFault) → Ok stated ≡ read_done read
-      → IsLent cabinet disk name old new ((to_read disk network which).IsDone read) → WasStated name which old new network stated
+      → IsLent cabinet disk name old new (ReadsDisk disk network which read) → WasStated name which old new network stated
   was_stated name which old new network stated (Ok other) same lent =
       let is : stated ≡ other = cc same in
       record {
@@ -161,7 +160,7 @@ module _ {C E : Type 0} (cabinet : CabinetGhosts C E) (disk : DiskGhosts E) wher
     pub images : Has (cabinet.frame new).tells (cabinet.held new name) (λ left. Images disk left (IsHistoryOf network entries))
 
   was_moved : (name : List ℕ) (old new : C) (network : Network) (entries : List Entry) (done : Moved) (moved : Result ℕ MoveFault) → Ok done ≡ moved_done (length entries) moved
-      → IsLent cabinet disk name old new (λ opened left. Moves disk opened network entries left moved × OnlyMoves disk opened network entries left × IsComplete disk opened network entries moved) → WasMoved name new network entries
+      → IsLent cabinet disk name old new (EntersDisk disk network entries moved) → WasMoved name new network entries
   was_moved name old new network entries done (Ok live) same lent =
       let all : take (length entries) entries ≡ entries = take_all (length entries) entries (omega arith) in
       record {
@@ -267,7 +266,7 @@ module _ {I O C E : Type 0} (tells : Tellings I O C E) (journals : MovedJournals
     all_alike : (one other : C) → tells.cabinet.held other ≡ tells.cabinet.held one → Alike one other
     all_alike one other same = ap (λ (held : List ℕ → Option E). held name) same
 
-    read_alike : (one other : C) (result : Result Stated Fault) → LendsOld tells.cabinet tells.disk journals.old one other (to_read tells.disk old journals.scope) result → Alike one other
+    read_alike : (one other : C) (result : Result Stated Fault) → ReadsOld tells.cabinet tells.disk old journals.scope journals.old one other result → Alike one other
     read_alike one other result (inl (same, none)) = all_alike one other none.only_texts.disks
     read_alike one other result (inr (found, looked, inl (same, none))) = all_alike found other none.same ∙ all_alike one found looked.only_texts.disks
     read_alike one other result (inr (found, looked, inr (read, same, lent))) = lent.others name not_old ∙ all_alike one found looked.only_texts.disks

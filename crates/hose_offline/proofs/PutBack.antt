@@ -19,8 +19,8 @@ use Rattle.hose_store.specs.Opening.{IsAtOpening}
 use Rattle.hose_store.specs.Recovery.{IsHistoryOf, IsRecoveredAs}
 use Rattle.hose_offline.specs.Journal.{IsPutIn, IsTakenOut}
 use Rattle.hose_offline.specs.OnDisk.{HadContent, IsRefusedOnDisk, IsUnopened, opening_of}
-use Rattle.hose_offline.specs.ServingOnDisk.{IsNotServed}
-use Rattle.hose_offline.specs.steps.ServingOnDisk.{IsNotOpened, Refuses}
+use Rattle.hose_offline.specs.Unopened.{OpensNoJournal}
+use Rattle.hose_offline.specs.steps.Unopened.{IsNotOpened, Refuses}
 use Rattle.hose_offline.specs.declared.fault.Fault.{Fault}
 use Rattle.hose_offline.specs.declared.fault.Fault.TheVariants as fault
 
@@ -132,13 +132,13 @@ module _ {C E : Type 0} (cabinet : CabinetGhosts C E) (disk : DiskGhosts E) (nam
       second_of (Some bytes) is = is.1
 
   -- no store was opened
-  pub not_served : (done : Result ⊤ Fault) → IsNotOpened disk opened left network done → IsNotServed cabinet disk name old new network done
-  not_served (Ok done) not = absurd not.why
-  not_served (Err (fault.Other old_one given)) not = (not.why.0, refuses (other old_one) (unopened not.images) not.why.1)
-  not_served (Err (fault.Damaged at)) not = refuses (damaged at) (unopened not.images) not.why
-  not_served (Err fault.Cabinet) not = (unopened not.images, risen not.why)
-  not_served (Err fault.Memory) not = unopened not.images
-  not_served (Err another) not = absurd not.why
+  pub opens_none : (done : Result ⊤ Fault) → IsNotOpened disk opened left network done → OpensNoJournal cabinet disk name old new network done
+  opens_none (Ok done) not = absurd not.why
+  opens_none (Err (fault.Other old_one given)) not = (not.why.0, refuses (other old_one) (unopened not.images) not.why.1)
+  opens_none (Err (fault.Damaged at)) not = refuses (damaged at) (unopened not.images) not.why
+  opens_none (Err fault.Cabinet) not = (unopened not.images, risen not.why)
+  opens_none (Err fault.Memory) not = unopened not.images
+  opens_none (Err another) not = absurd not.why
 
   -- what was so of the disk when it was opened was so when the cabinet held it
   had_before : (Kind : EntryKind) (since history : List Entry) (closing : Result ⊤ Failed) (was : E) → TakenFrom was → HasLeft disk Kind (disk.may_leave opened) (opening_of disk network since opened) history left closing

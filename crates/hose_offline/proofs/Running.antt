@@ -1,5 +1,5 @@
 -- A run as a whole, from its topology and the exchanges behind it.
-use Rattle.std.proofs.Common.{◌≡◌, ◌≢◌, ◌∙◌, ℕ, List, [], ◌∷◌, ◌++◌, length, IsFalse, Option, Some, None, Result, Ok, Err, inl, inr, refl, sym, ap, subst, arith}
+use Rattle.std.proofs.Common.{◌≡◌, ◌≢◌, ◌∙◌, ℕ, List, [], ◌∷◌, ◌++◌, IsFalse, Option, Some, None, Result, Ok, Err, inl, inr, refl, sym, ap, subst, arith}
 use Rattle.std.specs.Prelude.{⊤}
 use Rattle.std.proofs.lemmas.List.Elements.{All-cons, All-nil}
 use Rattle.hose_io.specs.Stream.{Stream, Grows}
@@ -16,9 +16,6 @@ use Rattle.hose_graph.specs.declared.entry.Entry.{Entry}
 use Rattle.hose_graph.specs.declared.command.Reply.{Reply}
 use Rattle.hose_graph.specs.declared.command.Reply.TheVariants.{Disk}
 use Rattle.hose_law.specs.Script.{IsForDisk, ReadLine, WithoutDisk, one_if_disk}
-use Rattle.hose_law.proofs.Cheapest.{decided_cheapest}
-use Rattle.hose_law.proofs.Lives.{live_held, stays_live}
-use Rattle.hose_law.proofs.Sold.{sold}
 use Rattle.hose_io.specs.Frame.{Rose}
 use Rattle.hose_book.specs.steps.GoingOn.{GoesOn}
 use Rattle.hose_book.specs.declared.books.Books.{Ghosts as BooksGhosts}
@@ -37,6 +34,7 @@ use Rattle.hose_offline.specs.steps.Fault.{of_topology}
 use Rattle.hose_talk.specs.Talk.{talk}
 use Rattle.hose_offline.specs.Talking.{IsAskedBy, Says, TellsDisks}
 use Rattle.hose_offline.specs.steps.Talking.{Talks, talk_tellings, book_terms}
+use Rattle.hose_offline.proofs.Provided.{decided_provides}
 use Rattle.hose_offline.proofs.CutRuns.{cut_in_run}
 use Rattle.hose_talk.specs.Talk.{AllOut, IsCutNear, LastCut, TalksTo, TalksUpTo}
 use Rattle.hose_talk.specs.steps.Talk.{IsCutByReader, KeepsFault}
@@ -185,10 +183,7 @@ module _ (prices : Network → Network → Type 0) {S O : Type 0} (source : Ghos
       script = talks.comes.script;
       decided = talks.comes.decided;
       keeps = keeps talks.comes.history talks.lines talks.replies talks.comes.goes_on talks.comes.disks;
-      none_oversold = λ place l. sold network 0 talks.comes.history place l talks.comes.decided.sound;
-      held = live_held 0 talks.comes.history;
-      kept = stays_live 0 talks.comes.history;
-      cheapest = decided_cheapest network is 0 (length since) talks.comes.history talks.comes.decided;
+      provides = decided_provides network is since talks.comes.history talks.comes.decided;
     }
 
     -- each line after the topology says one thing

@@ -10,8 +10,7 @@ use Rattle.hose_graph.specs.Network.{Network}
 use Rattle.hose_graph.specs.declared.entry.Entry.{Entry}
 use Rattle.hose_disk.specs.Cabinet.{CabinetFrame}
 use Rattle.hose_disk.specs.Disk.{DiskFrame}
-use Rattle.hose_journal.specs.Entries.{front_of}
-use Rattle.hose_journal.specs.Image.{IsClosed, IsUnbegun, Meaning}
+use Rattle.hose_journal.specs.Image.{IsClosed, IsUnbegun, Meaning, front_of}
 use Rattle.hose_journal.specs.Layout.{chained_version}
 use Rattle.hose_journal.specs.Moments.{LeavesOnly}
 use Rattle.hose_journal.specs.Opening.{AddsNoRecord}
@@ -31,16 +30,16 @@ use Rattle.hose_offline.specs.Fault.{of_store}
 use Rattle.hose_offline.specs.steps.Journal.{TouchesOnly}
 use Rattle.hose_offline.specs.OnDisk.{CabinetFailed, HadContent, IsUnopened, JournalIsTold}
 use Rattle.hose_offline.specs.Parts.{Parts, Tellings}
-use Rattle.hose_offline.specs.ServingOnDisk.{IsNotServed}
+use Rattle.hose_offline.specs.Unopened.{OpensNoJournal}
 use Rattle.hose_offline.specs.ShipOutcome.{AreAllBeforeDamage, IsLeftWithoutRecord, IsReadAsBefore, ShipOutcome, ShipsBefore, ShipsJournal, ShipsPart, to_ship}
 use Rattle.hose_offline.specs.steps.ShipOutcome.{shipping_done}
 use Rattle.hose_offline.specs.declared.fault.Fault.{Fault}
 use Rattle.hose_offline.specs.declared.fault.Fault.TheVariants as fault
 use Rattle.hose_offline.proofs.Audited.{named_not_1, named_read}
-use Rattle.hose_offline.proofs.Audits.{has_before, held_before, not_served_before, unopened_before}
+use Rattle.hose_offline.proofs.Audits.{has_before, held_before, opens_none_before, unopened_before}
 use Rattle.hose_offline.proofs.Journals.{not_opened}
 use Rattle.hose_offline.proofs.Outcomes.{clash}
-use Rattle.hose_offline.proofs.PutBack.{IsPutBack, held_as, left_as, not_served}
+use Rattle.hose_offline.proofs.PutBack.{IsPutBack, held_as, left_as, opens_none}
 
 -- ---- in a cabinet
 
@@ -94,9 +93,9 @@ module _ {I O C E : Type 0} (tells : Tellings I O C E) (name : List ℕ) (from :
         (λ was taken. subst (λ (content : Option (List ℕ)). AddsNoRecord content (tells.disk.content left) (digest_of network)) taken.0 adds))
 
     module _ (one : (image : List ℕ) (one two : Meaning Entry) → IsRecoveredAs network image one → IsRecoveredAs network image two → one ≡ two) (run : LeavesOnly tells.disk opened left (IsAtOpening tells.disk opened network)) where
-      not_shipped : (why : StoreFault) → Ships tells.sink tells.disk before.output after.output (shipment opened network from) left (Err (Store why)) → IsNotServed tells.cabinet tells.disk name before.cabinet after.cabinet network (Err (of_store why))
+      not_shipped : (why : StoreFault) → Ships tells.sink tells.disk before.output after.output (shipment opened network from) left (Err (Store why)) → OpensNoJournal tells.cabinet tells.disk name before.cabinet after.cabinet network (Err (of_store why))
       not_shipped why ships =
-          not_served tells.cabinet tells.disk name before.cabinet mid after.cabinet network opened left back (Err (of_store why)) (not_opened tells.disk network opened left why one run ships.2)
+          opens_none tells.cabinet tells.disk name before.cabinet mid after.cabinet network opened left back (Err (of_store why)) (not_opened tells.disk network opened left why one run ships.2)
 
       pub ships_in : (shipped : Result ℕ ShipFault) → Ships tells.sink tells.disk before.output after.output (shipment opened network from) left shipped → ShipsJournal tells name from before after network (shipping_done shipped)
       ships_in (Ok count) ships = record {
@@ -139,8 +138,8 @@ module _ {I O C E : Type 0} (tells : Tellings I O C E) (from : ℕ) where
       unfolding part_before
       all_too why all is = record { part = part_before _ is.part; all = all is.part.entries is.all }
 
-      not_before : (why : Fault) → IsNotServed tells.cabinet tells.disk names.journal read after.cabinet network (Err why) → IsNotServed tells.cabinet tells.disk names.journal before.cabinet after.cabinet network (Err why)
-      not_before why not = not_served_before tells.cabinet tells.disk before.cabinet read after.cabinet reads.only_texts reads.text.1 names.journal network why not
+      not_before : (why : Fault) → OpensNoJournal tells.cabinet tells.disk names.journal read after.cabinet network (Err why) → OpensNoJournal tells.cabinet tells.disk names.journal before.cabinet after.cabinet network (Err why)
+      not_before why not = opens_none_before tells.cabinet tells.disk before.cabinet read after.cabinet reads.only_texts reads.text.1 names.journal network why not
 
       without_before : IsLeftWithoutRecord tells names.journal from (record before { cabinet = read }) after network → IsLeftWithoutRecord tells names.journal from before after network
       without_before (inl same) = inl (same ∙ reads.only_texts.disks)

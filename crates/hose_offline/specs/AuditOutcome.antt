@@ -13,7 +13,7 @@ use Rattle.hose_offline.specs.Fault.{last_line, status_of}
 use Rattle.hose_offline.specs.OnDisk.{CabinetFailed, JournalIsTold, OthersStay}
 use Rattle.hose_offline.specs.Parts.{Parts, Tellings}
 use Rattle.hose_offline.specs.Run.{HasNetwork, IsFor, IsRefusedText}
-use Rattle.hose_offline.specs.ServingOnDisk.{first_of}
+use Rattle.hose_offline.specs.Unopened.{first_of}
 use Rattle.hose_offline.specs.TopologyTold.{notation_of}
 use Rattle.hose_offline.specs.declared.fault.Fault.{Fault}
 

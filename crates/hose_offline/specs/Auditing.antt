@@ -17,7 +17,7 @@ use Rattle.hose_offline.specs.Journal.{IsLeftWith}
 use Rattle.hose_offline.specs.OnDisk.{CabinetFailed, CabinetWorked, HadContent, OfHeld}
 use Rattle.hose_offline.specs.Parts.{Parts, Tellings}
 use Rattle.hose_offline.specs.Run.{HasNetwork, HasText, IsServable, TellsNoNetwork}
-use Rattle.hose_offline.specs.ServingOnDisk.{IsNotServed}
+use Rattle.hose_offline.specs.Unopened.{OpensNoJournal}
 use Rattle.hose_offline.specs.TopologyTold.{TellsPriced, limit_of, notation_of}
 use Rattle.hose_offline.specs.declared.fault.Fault.{Fault}
 use Rattle.hose_offline.specs.declared.notation.Notation.{Notation}
@@ -125,5 +125,5 @@ module _ {I O C E : Type 0} (tells : Tellings I O C E) (names : PricedNames)
       (notation_of names.topology) named_text left why
       × (tells.cabinet.held after.cabinet ≡ tells.cabinet.held before.cabinet))
       ⊎ HasNetwork (notation_of names.topology) names.prices named_text left (λ network.
-      IsNotServed tells.cabinet tells.disk names.journal before.cabinet after.cabinet network
+      OpensNoJournal tells.cabinet tells.disk names.journal before.cabinet after.cabinet network
       (Err why))

@@ -14,7 +14,7 @@ use Rattle.hose_offline.specs.Auditing.{IsTextServable, PricedNames, named_text}
 use Rattle.hose_offline.specs.Ending.{EndsAfter, NoneFailed}
 use Rattle.hose_offline.specs.Following.{HasFollowed, following_done}
 use Rattle.hose_offline.specs.Parts.{Parts, Tellings}
-use Rattle.hose_offline.specs.ServingOnDisk.{first_of}
+use Rattle.hose_offline.specs.Unopened.{first_of}
 use Rattle.hose_offline.specs.TopologyTold.{limit_of, notation_of}
 
 -- the input is told and not too long, and is packets, one after the other

@@ -23,11 +23,11 @@ pub mod ProveOutcome
 pub mod Run
 pub mod RunOutcome
 pub mod ScriptLine
-pub mod ServingOnDisk
 pub mod SheetLine
 pub mod ShipOutcome
 pub mod Talking
 pub mod Tally
 pub mod TopologyTold
+pub mod Unopened
 pub mod Why
 pub mod steps

@@ -79,13 +79,6 @@ IsComplete disk opened network entries moved = (bytes : List ℕ)
 
 -- ---- the disks of a cabinet
 
--- How the disk of a journal is used that a cabinet lends: what it comes to where it is not taken
--- out, how what was done is told, and what that does to the disk.
-pub record Lending (E R T : Type 0) : Type 1 where
-  pub refused : R
-  pub told : T → R
-  pub IsDone : T → E → E → Type 0
-
 module _ {C E : Type 0} (cabinet : CabinetGhosts C E) where
   -- no disk was taken out, and the cabinet failed
   pub record IsNotLent (old new : C) : Type 0 where
@@ -125,42 +118,36 @@ module _ {C E : Type 0} (cabinet : CabinetGhosts C E) (disk : DiskGhosts E) wher
         → cabinet.held new other ≡ cabinet.held old other
     pub texts : cabinet.text new ≡ cabinet.text old
 
-  -- What lending the disk of a name comes to: it is not taken out; or it is lent, and this is done.
-  abbrev pub LendsDisk : {R T : Type 0} → List ℕ → C → C → Lending E R T → R → Type 0
-  LendsDisk {T = T} name old new lending result =
-      ((result ≡ lending.refused) × IsNotLent cabinet old new)
-      ⊎ ((done : T) × (result ≡ lending.told done)
-      × IsLent name old new (lending.IsDone done))
-
-  -- What lending the disk of a name comes to, which has to be there.
-  abbrev pub LendsOld : {R T : Type 0} → List ℕ → C → C → Lending E (Result R Fault) T
-      → Result R Fault → Type 0
-  LendsOld name old new lending result = ((result ≡ Err Cabinet) × IsNotFound cabinet old new)
-      ⊎ ((found : C) × IsLookedFor cabinet name old found
-      × LendsDisk name found new lending result)
-
 module _ {E : Type 0} (disk : DiskGhosts E) (network : Network) where
   -- A journal is read: its disk's images are as before at each moment, what is read of it is as
   -- before, and it states entries or is refused.
-  abbrev pub to_read : Scope → Lending E (Result Stated Fault) (Result Stated StoreFault)
-  to_read which = record {
-    refused = Err Cabinet;
-    told = read_done;
-    IsDone = λ read opened left.
-        ReadsJournal disk opened left network which read × IsUnchanged disk opened left
-        × (disk.content left ≡ disk.content opened);
-  }
+  abbrev pub ReadsDisk : Scope → Result Stated StoreFault → E → E → Type 0
+  ReadsDisk which read opened left = ReadsJournal disk opened left network which read
+      × IsUnchanged disk opened left × (disk.content left ≡ disk.content opened)
 
   -- Entries are moved into a journal: its disk's images at each moment are of the move, and all
   -- entries are in it or it is told why not.
-  abbrev pub to_move : List Entry → Lending E (Result Moved MoveStop) (Result ℕ MoveFault)
-  to_move entries = record {
-    refused = Err (New Cabinet);
-    told = moved_done (length entries);
-    IsDone = λ moved opened left. Moves disk opened network entries left moved
-        × OnlyMoves disk opened network entries left
-        × IsComplete disk opened network entries moved;
-  }
+  abbrev pub EntersDisk : List Entry → Result ℕ MoveFault → E → E → Type 0
+  EntersDisk entries moved opened left = Moves disk opened network entries left moved
+      × OnlyMoves disk opened network entries left
+      × IsComplete disk opened network entries moved
+
+module _ {C E : Type 0} (cabinet : CabinetGhosts C E) (disk : DiskGhosts E) (network : Network) where
+  -- The journal of a name was read, which has to be there; or it was not found among the texts, or
+  -- its disk was not taken out.
+  abbrev pub ReadsOld : Scope → List ℕ → C → C → Result Stated Fault → Type 0
+  ReadsOld which name old new result = ((result ≡ Err Cabinet) × IsNotFound cabinet old new)
+      ⊎ ((found : C) × IsLookedFor cabinet name old found
+      × (((result ≡ Err Cabinet) × IsNotLent cabinet found new)
+      ⊎ ((read : Result Stated StoreFault) × (result ≡ read_done read)
+      × IsLent cabinet disk name found new (ReadsDisk disk network which read))))
+
+  -- Entries were moved into the journal of a name; or its disk was not taken out.
+  abbrev pub EntersNew : List Entry → List ℕ → C → C → Result Moved MoveStop → Type 0
+  EntersNew entries name old new result =
+      ((result ≡ Err (New Cabinet)) × IsNotLent cabinet old new)
+      ⊎ ((moved : Result ℕ MoveFault) × (result ≡ moved_done (length entries) moved)
+      × IsLent cabinet disk name old new (EntersDisk disk network entries moved))
 
 -- ---- step by step
 
@@ -175,8 +162,8 @@ module _ {I O C E : Type 0} (tells : Tellings I O C E) where
       (number_lines stated.numbers.items) × (after.cabinet ≡ before.cabinet))
       ⊎ (Grows (tells.sink.content before.output) (tells.sink.content after.output)
       (number_lines stated.numbers.items) × OutputWorked tells.sink before.output after.output
-      × LendsDisk tells.cabinet tells.disk name before.cabinet after.cabinet
-      (to_move tells.disk network stated.entries.items) result)
+      × EntersNew tells.cabinet tells.disk network stated.entries.items name before.cabinet
+      after.cabinet result)
 
   -- What was stated is as much as was asked for, and was entered; or it is less, which is told, and
   -- nothing else was done.
@@ -194,12 +181,11 @@ module _ {I O C E : Type 0} (tells : Tellings I O C E) where
   abbrev pub MovesStated : MovedJournals → Parts I O C → Parts I O C → Network → Network
       → Result Moved MoveStop → Type 0
   MovesStated journals before after old new result = ((why : Fault) × (result ≡ Err (Old why))
-      × LendsOld tells.cabinet tells.disk journals.old before.cabinet after.cabinet
-      (to_read tells.disk old journals.scope) (Err why)
-      × (after.output ≡ before.output))
+      × ReadsOld tells.cabinet tells.disk old journals.scope journals.old before.cabinet
+      after.cabinet (Err why) × (after.output ≡ before.output))
       ⊎ ((stated : Stated) × (read : C)
-      × LendsOld tells.cabinet tells.disk journals.old before.cabinet read
-      (to_read tells.disk old journals.scope) (Ok stated)
+      × ReadsOld tells.cabinet tells.disk old journals.scope journals.old before.cabinet read
+      (Ok stated)
       × EntersEnough journals (record before { cabinet = read }) after new stated result)
 
   -- The journals are of two disks, and the old one was moved; or they are not, and nothing was

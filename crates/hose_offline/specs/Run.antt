@@ -69,14 +69,22 @@ pub record IsRightFor (prices : Network → Network → Type 0) (network : Netwo
   pub disk : WithoutDisk replies
   pub out : output ≡ texts_of network replies
 
+-- What a history of a network provides, which began with another one. At each place of it no link
+-- is oversold, and exactly those VPNs are live that were admitted before it and not released since,
+-- each as it was admitted. What each admission after the beginning reserves carries every matrix
+-- within the rates of its hose, and no tree over the links allowed at the book before it carries
+-- them at less cost.
+pub record Provides (network : Network) (since history : List Entry) : Type 0 where
+  pub none_oversold : (place l : ℕ) → ¬ IsOversold network (book_of 0 (take place history)) l
+  pub held : (place : ℕ) → place ≤ length history → AreLiveUnreleased 0 history place
+  pub kept : (place : ℕ) → StaysLive 0 history place
+  pub cheapest : AreCheapest network 0 (length since) history
+
 -- The input is the text of a network, of which prices make this one, and then lines that were
 -- answered: the replies are those of the script of the lines from the history with which the book
--- began, where no customer holds a quote. The history that it leads to goes on from there and is
--- sound, and decided from there on. At each place of it no link is oversold, and exactly those VPNs
--- are live that were admitted before it and not released since, each as it was admitted. What each
--- admission after the beginning reserves carries every matrix within the rates of its hose, and no
--- tree over the links allowed at the book before it carries them at less cost. `stops` says how the
--- input stands to what comes after the lines and to what is left.
+-- began, where no customer holds a quote. The history that it leads to goes on from there, is sound,
+-- and decided from there on, and provides what it is to. `stops` says how the input stands to what
+-- comes after the lines and to what is left.
 pub record HasRun (prices : Network → Network → Type 0) (keeping : Keeping)
     (old new : Option Stream) (stops : List ℕ → List ℕ → List ℕ → Type 0) : Type 0 where
   pub told : Network
@@ -96,10 +104,7 @@ pub record HasRun (prices : Network → Network → Type 0) (keeping : Keeping)
       (script_state history left)
   pub decided : IsDecided network 0 (length since) history
   pub keeps : keeping.Keeps (script_run network since history lines replies)
-  pub none_oversold : (place l : ℕ) → ¬ IsOversold network (book_of 0 (take place history)) l
-  pub held : (place : ℕ) → place ≤ length history → AreLiveUnreleased 0 history place
-  pub kept : (place : ℕ) → StaysLive 0 history place
-  pub cheapest : AreCheapest network 0 (length since) history
+  pub provides : Provides network since history
 
 -- The input was read to its end, and the output has the replies to its lines. Without a reply for
 -- want of memory or for a failure of a disk no other output is right for the input and the history

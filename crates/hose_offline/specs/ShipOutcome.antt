@@ -16,7 +16,7 @@ use Rattle.hose_offline.specs.Auditing.{PricedNames}
 use Rattle.hose_offline.specs.Ending.{EndsAfter, OutputWorked}
 use Rattle.hose_offline.specs.OnDisk.{HadContent, IsUnopened, OfHeld}
 use Rattle.hose_offline.specs.Parts.{Parts, Tellings}
-use Rattle.hose_offline.specs.ServingOnDisk.{IsNotServed}
+use Rattle.hose_offline.specs.Unopened.{OpensNoJournal}
 use Rattle.hose_offline.specs.declared.fault.Fault.{Fault}
 use Rattle.hose_offline.specs.declared.fault.Fault.TheVariants.{Damaged, Write}
 
@@ -80,7 +80,7 @@ module _ {I O C E : Type 0} (tells : Tellings I O C E) (journal : List ℕ) (fro
       (GrowsInPart (tells.sink.content before.output) (tells.sink.content after.output))
       × Rose (tells.sink.frame before.output) (tells.sink.frame after.output)
       × IsReadAsBefore network
-  ShipsJournal network (Err why) = IsNotServed tells.cabinet tells.disk journal
+  ShipsJournal network (Err why) = OpensNoJournal tells.cabinet tells.disk journal
       before.cabinet after.cabinet network (Err why)
       × ShipsBefore network why × OutputWorked tells.sink before.output after.output
       × IsLeftWithoutRecord network

@@ -13,9 +13,9 @@ pub mod LastLine
 pub mod Moving
 pub mod Parts
 pub mod ProveOutcome
-pub mod ServingOnDisk
 pub mod SheetLine
 pub mod ShipOutcome
 pub mod Talking
 pub mod TalkingOnDisk
 pub mod Tally
+pub mod Unopened

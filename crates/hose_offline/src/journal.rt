@@ -2,8 +2,8 @@
 ghost use Rattle.std.specs.Prelude.{◌≡◌, IfErr, IfOk, IfSome, IsSome, Err, None};
 ghost use Rattle.hose_offline.specs.OnDisk.{OthersStay};
 ghost use Rattle.hose_offline.specs.steps.Journal.{ClosesJournal, IsJustOpened, IsOpenCall, OpensJournal};
-ghost use Rattle.hose_offline.specs.ServingOnDisk.{IsNotServed, first_of};
-ghost use Rattle.hose_offline.specs.steps.ServingOnDisk.{IsNotOpened};
+ghost use Rattle.hose_offline.specs.Unopened.{OpensNoJournal, first_of};
+ghost use Rattle.hose_offline.specs.steps.Unopened.{IsNotOpened};
 
 use crate::fault::Fault;
 use hose_book::Book;
@@ -24,7 +24,7 @@ pub fn open_journal<C: Cabinet, P: Premises>(
     requires { (C.frame cabinet.old).out ≡ None }
     ensures opens { IfOk result (OpensJournal C.Cabinet C.Disk.Disk P.kind name.now
         cabinet.old cabinet.new topology) }
-    ensures refused { IfErr result (λ why. IsNotServed C.Cabinet C.Disk.Disk name.now
+    ensures refused { IfErr result (λ why. OpensNoJournal C.Cabinet C.Disk.Disk name.now
         cabinet.old cabinet.new topology (Err why)) }
     ensures others { OthersStay C.Cabinet name.now cabinet.old cabinet.new }
     ensures call { IsOpenCall name.now (C.frame cabinet.old) (C.frame cabinet.new) result }

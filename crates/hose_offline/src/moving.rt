@@ -7,7 +7,7 @@ ghost use Rattle.hose_offline.specs.CutOutcome.{CutOutcome};
 ghost use Rattle.hose_offline.specs.Failing.{FailsCut, FailsMoved};
 ghost use Rattle.hose_offline.specs.steps.Journal.{IsBack};
 ghost use Rattle.hose_offline.specs.MoveOutcome.{MoveOutcome};
-ghost use Rattle.hose_offline.specs.Moving.{EntersEnough, EntersStated, LendsDisk, LendsOld, MovesApart, MovesFrom, MovesBetween, MovesStated, read_done, scope_of, to_move, to_read};
+ghost use Rattle.hose_offline.specs.Moving.{EntersEnough, EntersNew, EntersStated, MovesApart, MovesFrom, MovesBetween, MovesStated, ReadsOld, read_done, scope_of};
 ghost use Rattle.hose_offline.specs.steps.Moving.{cut_of, journals_at, journals_of, names_of};
 ghost use Rattle.hose_offline.specs.Parts.{tellings};
 ghost use Rattle.hose_offline.specs.steps.Parts.{ComesTo, KeepsAll, held};
@@ -268,8 +268,8 @@ fn read_old<C: Cabinet>(
     cabinet: &mut C,
 ) -> Result<Stated, Fault>
     requires { (C.frame cabinet.old).out ≡ None }
-    ensures reads { LendsOld C.Cabinet C.Disk.Disk name.now cabinet.old cabinet.new
-        (to_read C.Disk.Disk old.now scope) result }
+    ensures reads { ReadsOld C.Cabinet C.Disk.Disk old.now scope name.now
+        cabinet.old cabinet.new result }
     ensures ranges { IfOk result (λ stated. All IsInRanges stated.entries.items) }
     ensures back { IsBack (C.frame cabinet.old) (C.frame cabinet.new) }
 {
@@ -312,8 +312,8 @@ fn move_new<C: Cabinet>(
 ) -> Result<Moved, MoveStop>
     requires none_out { (C.frame cabinet.old).out ≡ None }
     requires ranges { All IsInRanges entries.now }
-    ensures moves { LendsDisk C.Cabinet C.Disk.Disk name.now cabinet.old cabinet.new
-        (to_move C.Disk.Disk new.now entries.now) result }
+    ensures moves { EntersNew C.Cabinet C.Disk.Disk new.now entries.now name.now
+        cabinet.old cabinet.new result }
     ensures back { IsBack (C.frame cabinet.old) (C.frame cabinet.new) }
 {
     let Ok(disk) = cabinet.disk(name) else {

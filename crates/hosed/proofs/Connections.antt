@@ -1,13 +1,10 @@
 -- Connections that were served, by the cabinet that holds the disk of the journal.
-use Rattle.std.proofs.Common.{◌≡◌, refl, List, [], ◌∷◌, Result, Ok, Err, length, sym, ap, subst}
+use Rattle.std.proofs.Common.{◌≡◌, refl, List, [], ◌∷◌, Result, Ok, Err, sym, ap, subst}
 use Rattle.std.specs.Prelude.{ℕ, ⊤}
 use Rattle.hose_io.specs.Frame.{Frame, Met}
 use Rattle.hose_io.specs.declared.Failed.{Failed}
 use Rattle.hose_graph.specs.Network.{IsNetwork, Network}
 use Rattle.hose_graph.specs.declared.entry.Entry.{Entry}
-use Rattle.hose_law.proofs.Cheapest.{decided_cheapest}
-use Rattle.hose_law.proofs.Lives.{live_held, stays_live}
-use Rattle.hose_law.proofs.Sold.{sold}
 use Rattle.hose_disk.specs.Cabinet.{CabinetFrame, object_of}
 use Rattle.hose_store.specs.Recovery.{IsHistoryOf}
 use Rattle.hose_turn.specs.declared.view.Tried.{Tried}
@@ -17,6 +14,7 @@ use Rattle.hose_offline.specs.CabinetText.{OnlyTextsRead}
 use Rattle.hose_offline.specs.OnDisk.{CabinetWorked}
 use Rattle.hose_offline.specs.Parts.{Tellings}
 use Rattle.hose_offline.specs.declared.fault.Fault.{Fault}
+use Rattle.hose_offline.proofs.Provided.{decided_provides}
 use Rattle.hose_offline.proofs.Audits.{has_before, held_before}
 use Rattle.hose_offline.proofs.PutBack.{IsPutBack, counts, held_as, left_as_kind}
 use Rattle.hosed.specs.ServerDoor.{IsKeptIn, IsMadeAlong, ServerProgress, ServesBook, ServesByJournal, from_to}
@@ -50,10 +48,7 @@ module _ {I O C E : Type 0} (tells : Tellings I O C E) (name : List ℕ) (old mi
     decided = has.decided;
     met = counts tells.cabinet tells.disk name old mid new network opened left back closing has.told;
     left = left_as_kind tells.cabinet tells.disk name old mid new network opened left back (IsTried history tries) since history closing has.leaves;
-    none_oversold = λ place l. sold network 0 history place l has.decided.sound;
-    held = live_held 0 history;
-    kept = stays_live 0 history;
-    cheapest = decided_cheapest network is 0 (length since) history has.decided;
+    provides = decided_provides network is since history has.decided;
   }
 
   -- the disk is back
@@ -69,10 +64,7 @@ module _ {I O C E : Type 0} (tells : Tellings I O C E) (old mid new : C) (only :
     decided = has.decided;
     met = subst (λ (f : Frame). Met f (object_of (tells.cabinet.frame new)) closing) same has.met;
     left = has_before tells.cabinet tells.disk old mid new only name _ has.left;
-    none_oversold = has.none_oversold;
-    held = has.held;
-    kept = has.kept;
-    cheapest = has.cheapest;
+    provides = has.provides;
   }
 
   pub served_before : (Along : Known → Result ⊤ Failed → Type 0) (came : Result ServerEnd Fault) → ServesByJournal tells name mid new network Along came → ServesByJournal tells name old new network Along came

@@ -15,7 +15,7 @@ use Rattle.hose_offline.specs.Fault.{last_line, status_of}
 use Rattle.hose_offline.specs.steps.Journal.{TouchesOnly}
 use Rattle.hose_offline.specs.OnDisk.{CabinetFailed, JournalIsTold}
 use Rattle.hose_offline.specs.Parts.{Tellings}
-use Rattle.hose_offline.specs.ServingOnDisk.{IsNotServed}
+use Rattle.hose_offline.specs.Unopened.{OpensNoJournal}
 use Rattle.hose_offline.specs.steps.Ending.{IsWhyAfter}
 use Rattle.hose_offline.specs.steps.Failing.{FailsOpened}
 use Rattle.hose_offline.specs.declared.why.Why.{Why}
@@ -95,7 +95,7 @@ module _ {I O C E : Type 0} (tells : Tellings I O C E) (names : PricedNames) (ta
   module _ (read : C) (network : Network) (status : ℕ) (reads : ReadsTopology tells.cabinet before.others.cabinet read names.prices names.topology (Ok network)) (alone : TouchesOnly tells.cabinet names.journal read after.others.cabinet)
       (same_input : after.others.input ≡ before.others.input) where
     -- no store was opened
-    pub not_opened : (why : Fault) → IsNotServed tells.cabinet tells.disk names.journal read after.others.cabinet network (Err why) → status ≡ status_of why → IsOut tells.sink before.others.output after.others.output (last_line why) → after.door ≡ before.door → ServeOutcome tells names task before after status
+    pub not_opened : (why : Fault) → OpensNoJournal tells.cabinet tells.disk names.journal read after.others.cabinet network (Err why) → status ≡ status_of why → IsOut tells.sink before.others.output after.others.output (last_line why) → after.door ≡ before.door → ServeOutcome tells names task before after status
     not_opened why not is out same_door = named_not_read tells names before.others after.others purpose why status (no_store tells names before.others after.others read network why reads alone not) is out same_door same_input
 
     abbrev Failing : Type 0

@@ -1,5 +1,5 @@
 -- What serving the connections of a door comes to, and what it does to the journal.
-use Rattle.std.specs.Prelude.{◌≡◌, ◌⊎◌, ℕ, ◌≤◌, List, [], codes, length, take, Option, Some, Result, Ok, Err, ⊤}
+use Rattle.std.specs.Prelude.{◌≡◌, ◌⊎◌, ℕ, ◌≤◌, List, [], codes, length, Option, Some, Result, Ok, Err, ⊤}
 use mathlib.Core.List.{IsPrefix}
 use Rattle.hose_io.specs.Connections.{Connections}
 use Rattle.hose_io.specs.Frame.{Frame, Met, Rose}
@@ -9,10 +9,7 @@ use Rattle.hose_io.specs.declared.Failed.{Failed}
 use Rattle.hose_io.specs.declared.sink.Sink.{Ghosts as SinkGhosts}
 use Rattle.hose_graph.specs.Network.{Network}
 use Rattle.hose_graph.specs.declared.entry.Entry.{Entry}
-use Rattle.hose_law.specs.Book.{IsOversold}
-use Rattle.hose_law.specs.Cheapest.{AreCheapest}
-use Rattle.hose_law.specs.History.{IsDecided, book_of}
-use Rattle.hose_law.specs.Live.{AreLiveUnreleased, StaysLive}
+use Rattle.hose_law.specs.History.{IsDecided}
 use Rattle.hose_book.specs.Ledger.{IsLedgerOf}
 use Rattle.hose_crew.specs.Crew.{AreServed}
 use Rattle.hose_disk.specs.Cabinet.{object_of}
@@ -26,6 +23,7 @@ use Rattle.hose_turn.specs.Places.{HasPlaces}
 use Rattle.hose_turn.specs.declared.view.Tried.{Tried}
 use Rattle.hose_offline.specs.OnDisk.{HadContent, OfHeld, opening_of}
 use Rattle.hose_offline.specs.Parts.{Parts, Tellings, parts}
+use Rattle.hose_offline.specs.Run.{Provides}
 use Rattle.hose_offline.specs.declared.fault.Fault.{Fault}
 use Rattle.hose_offline.specs.declared.fault.Fault.TheVariants.{Door, Memory, Write}
 use Rattle.hosed.specs.declared.server.ServerEnd.{ServerEnd}
@@ -164,11 +162,8 @@ module _ (network : Network) (IsKept : ServerProgress → Result ⊤ Failed → 
 module _ {I O C E : Type 0} (tells : Tellings I O C E) (name : List ℕ) (old new : C) where
   -- The journal of a name was kept from its opening, when it stood for the first history, to its
   -- closing. Where an image of the disk has one entry more than a part of the history, that is the
-  -- next one of it or was tried there. The cabinet failed exactly where closing did. At each place
-  -- of the history since no link is oversold, and exactly those VPNs are live that were admitted
-  -- before it and not released since; what each later admission reserves carries every matrix
-  -- within the rates of its hose, and no tree over the links allowed at the book before it carries
-  -- them at less cost.
+  -- next one of it or was tried there. The cabinet failed exactly where closing did. The history
+  -- provides what it is to.
   pub record IsKeptIn (made : ServerProgress) (closing : Result ⊤ Failed) : Type 0 where
     pub begun : HadContent tells.cabinet tells.disk old name
         (IsHistoryOf made.network made.since)
@@ -179,12 +174,7 @@ module _ {I O C E : Type 0} (tells : Tellings I O C E) (name : List ℕ) (old ne
     pub left : OfHeld tells.cabinet name old new (λ was left. HasLeft tells.disk
         (IsTried made.history made.tries) (tells.disk.may_leave was)
         (opening_of tells.disk made.network made.since was) made.history left closing)
-    pub none_oversold : (place l : ℕ)
-        → ¬ IsOversold made.network (book_of 0 (take place made.history)) l
-    pub held : (place : ℕ) → place ≤ length made.history
-        → AreLiveUnreleased 0 made.history place
-    pub kept : (place : ℕ) → StaysLive 0 made.history place
-    pub cheapest : AreCheapest made.network 0 (length made.since) made.history
+    pub provides : Provides made.network made.since made.history
 
   -- what serving by the journal comes to once its store was opened
   abbrev pub ServesByJournal : Network → (Known → Result ⊤ Failed → Type 0)

@@ -116,10 +116,7 @@ module _ {I O C E D N : Type 0} (tells : Tellings I O C E) (by : DoorTellings D 
     told = has.told;
     met = subst (λ (f : Frame). Met f (object_of (tells.cabinet.frame new)) closing) same has.met;
     left = has_before tells.cabinet tells.disk old mid new only name _ has.left;
-    none_oversold = has.none_oversold;
-    held = has.held;
-    kept = has.kept;
-    cheapest = has.cheapest;
+    provides = has.provides;
   }
 
   hosts_before : (was now : D) (came : Result HostEnd NotHosted) → HostsByJournal tells by name asked mid new network was now came → HostsByJournal tells by name asked old new network was now came

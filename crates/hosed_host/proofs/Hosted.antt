@@ -9,10 +9,7 @@ use Rattle.hose_net.specs.declared.hold.Parting.TheVariants as parting
 use Rattle.hose_graph.specs.Network.{IsNetwork, Network}
 use Rattle.hose_graph.specs.declared.entry.Entry.{Entry}
 use Rattle.hose_law.specs.History.{IsDecided, IsDecidedAt}
-use Rattle.hose_law.proofs.Cheapest.{decided_cheapest}
-use Rattle.hose_law.proofs.Lives.{live_held, stays_live}
 use Rattle.hose_law.proofs.Scripts.{decided_end}
-use Rattle.hose_law.proofs.Sold.{sold}
 use Rattle.hose_law.specs.History.{IsSound}
 use Rattle.hose_book.specs.Ledger.{HasBookOf, IsLedgerOf}
 use Rattle.hose_book.specs.steps.GoingOn.{GoesOn, none_yet}
@@ -41,6 +38,7 @@ use Rattle.hose_store.proofs.Standing.{opened_stands, run_stands}
 use Rattle.hose_offline.specs.OnDisk.{opening_of}
 use Rattle.hose_offline.specs.Parts.{Tellings}
 use Rattle.hose_offline.specs.steps.Journal.{ClosesJournal, OpensJournal}
+use Rattle.hose_offline.proofs.Provided.{decided_provides}
 use Rattle.hose_offline.proofs.Journals.{leaves_for, put_back}
 use Rattle.hose_offline.proofs.PutBack.{IsPutBack, counts, held_as, left_as_kind}
 use Rattle.hosed_host.specs.HostBook.{DoorTellings, HostsByJournal, HostsDoors, IsEndedFor, KeepsHosted, LeavesDoors, StandOnDisk, StaysUnhosted, host_progress}
@@ -82,10 +80,7 @@ module _ {I O C E : Type 0} (tells : Tellings I O C E) (name : List ℕ) (before
         let laws = opens.opens.lawful in
         left_as_kind tells.cabinet tells.disk name before mid after network opens.was closes.left back (IsAskedOf required since xs) since state.history closing
         (leaves_for tells.disk laws.counts_now laws.untold laws.only_now IsDecidedAt (IsAskedOf required since xs) network opens.was store opens.opens state.history last closes.left closing goes closes.closes);
-    none_oversold = λ place l. sold network 0 state.history place l decided.sound;
-    held = live_held 0 state.history;
-    kept = stays_live 0 state.history;
-    cheapest = decided_cheapest network is 0 (length since) state.history decided;
+    provides = decided_provides network is since state.history decided;
   }
 
   -- lines were answered by a clerk

@@ -1,5 +1,5 @@
 -- What a host does to its journal, and what it tells.
-use Rattle.std.specs.Prelude.{◌≡◌, ◌⊎◌, ℕ, ◌≤◌, List, [], ◌++◌, codes, length, take, Bool, true, false, IfSome, Option, Result, Ok, Err, option_map, ⊤}
+use Rattle.std.specs.Prelude.{◌≡◌, ◌⊎◌, ℕ, List, [], ◌++◌, codes, length, Bool, true, false, IfSome, Option, Result, Ok, Err, option_map, ⊤}
 use mathlib.Core.List.{IsPrefix}
 use Rattle.hose_io.specs.Frame.{Met, Rose}
 use Rattle.hose_io.specs.Stream.{Grows}
@@ -17,10 +17,7 @@ use Rattle.hose_net.specs.declared.hold.Parting.{Parting}
 use Rattle.hose_net.specs.declared.hold.Parting.TheVariants as parting
 use Rattle.hose_graph.specs.Network.{Network}
 use Rattle.hose_graph.specs.declared.entry.Entry.{Entry}
-use Rattle.hose_law.specs.Book.{IsOversold}
-use Rattle.hose_law.specs.Cheapest.{AreCheapest}
 use Rattle.hose_law.specs.History.{IsDecided, book_of}
-use Rattle.hose_law.specs.Live.{AreLiveUnreleased, StaysLive}
 use Rattle.hose_book.specs.Ledger.{IsLedgerOf}
 use Rattle.hose_clerk.specs.HostLines.{HostLine, SaysAt}
 use Rattle.hose_clerk.specs.HostReplies.{host_text}
@@ -39,6 +36,7 @@ use Rattle.hose_offline.specs.Ending.{EndsTold, IsOut}
 use Rattle.hose_offline.specs.Fault.{last_line, status_of}
 use Rattle.hose_offline.specs.OnDisk.{HadContent, OfHeld, opening_of}
 use Rattle.hose_offline.specs.Parts.{Tellings}
+use Rattle.hose_offline.specs.Run.{Provides}
 use Rattle.hose_offline.specs.declared.fault.Fault.TheVariants as fault
 use Rattle.hosed_host.specs.HostDoors.{AreOpenedAt, DoorsAsked, is_required, may_be_alone, number_of}
 use Rattle.hosed_host.specs.HostWhy.{door_line, host_status, last_of_host}
@@ -78,10 +76,7 @@ module _ {I O C E : Type 0} (tells : Tellings I O C E) (name : List ℕ) (old ne
   -- a step at the history to which those before it led, and it is told whether the operator ended
   -- the host. Where an image of the disk has one entry more than a part of the history, one of the
   -- lines asked for it. The cabinet failed exactly where closing did, and failures of the disk were
-  -- told no more often than it failed. At each place of the history since no link is oversold, and
-  -- exactly those VPNs are live that were admitted before it and not released since; what each
-  -- later admission reserves carries every matrix within the rates of its hose, and no tree over
-  -- the links allowed at the book before it carries them at less cost.
+  -- told no more often than it failed. The history provides what it is to.
   pub record KeepsHosted (made : HostProgress) (closing : Result ⊤ Failed) : Type 0 where
     pub begun : HadContent tells.cabinet tells.disk old name
         (IsHistoryOf made.network made.since)
@@ -97,12 +92,7 @@ module _ {I O C E : Type 0} (tells : Tellings I O C E) (name : List ℕ) (old ne
     pub left : OfHeld tells.cabinet name old new (λ was left. HasLeft tells.disk
         (IsAskedOf made.required made.since made.exchanges) (tells.disk.may_leave was)
         (opening_of tells.disk made.network made.since was) made.history left closing)
-    pub none_oversold : (place l : ℕ)
-        → ¬ IsOversold made.network (book_of 0 (take place made.history)) l
-    pub held : (place : ℕ) → place ≤ length made.history
-        → AreLiveUnreleased 0 made.history place
-    pub kept : (place : ℕ) → StaysLive 0 made.history place
-    pub cheapest : AreCheapest made.network 0 (length made.since) made.history
+    pub provides : Provides made.network made.since made.history
 
   -- The journal was opened and closed, and stands for what it stood for.
   pub record StaysUnhosted (network : Network) : Type 0 where

@@ -5,9 +5,9 @@ ghost use Rattle.hose_graph.specs.declared.entry.Entry.{Entry};
 ghost use Rattle.hose_graph.specs.Limits.{most_epoch};
 ghost use Rattle.hose_lead.specs.steps.LedStore.{IsLedOf};
 ghost use Rattle.hose_offline.specs.OnDisk.{OthersStay};
-ghost use Rattle.hose_offline.specs.ServingOnDisk.{IsNotServed};
+ghost use Rattle.hose_offline.specs.Unopened.{OpensNoJournal};
 ghost use Rattle.hose_offline.specs.steps.Journal.{IsJustOpened, IsOpenCall, OpensJournal};
-ghost use Rattle.hose_offline.specs.steps.ServingOnDisk.{IsNotOpened};
+ghost use Rattle.hose_offline.specs.steps.Unopened.{IsNotOpened};
 ghost use Rattle.hosed_host.specs.steps.Reading.{HasRead, IsNextOf, ReadsAll, ReadsNext, ReadsStore};
 
 use hose_disk::{Cabinet, Disk};
@@ -34,7 +34,7 @@ pub fn open_led<C: Cabinet, P: Premises>(
     ensures opens { IfOk result (λ led. (opens : OpensJournal C.Cabinet C.Disk.Disk P.kind name.now
         cabinet.old cabinet.new topology led.store)
         × IsLedOf C.Disk.Disk led topology opens.opens.opened.history) }
-    ensures refused { IfErr result (λ why. IsNotServed C.Cabinet C.Disk.Disk name.now
+    ensures refused { IfErr result (λ why. OpensNoJournal C.Cabinet C.Disk.Disk name.now
         cabinet.old cabinet.new topology (Err why)) }
     ensures others { OthersStay C.Cabinet name.now cabinet.old cabinet.new }
     ensures call { IsOpenCall name.now (C.frame cabinet.old) (C.frame cabinet.new) result }
@@ -60,7 +60,7 @@ fn open_with_packets<C: Cabinet, P: Premises>(
     ensures opens { IfOk result (λ led. (opens : OpensJournal C.Cabinet C.Disk.Disk P.kind name.now
         cabinet.old cabinet.new topology led.store)
         × IsLedOf C.Disk.Disk led topology opens.opens.opened.history) }
-    ensures refused { IfErr result (λ why. IsNotServed C.Cabinet C.Disk.Disk name.now
+    ensures refused { IfErr result (λ why. OpensNoJournal C.Cabinet C.Disk.Disk name.now
         cabinet.old cabinet.new topology (Err why)) }
     ensures others { OthersStay C.Cabinet name.now cabinet.old cabinet.new }
     ensures call { IsOpenCall name.now (C.frame cabinet.old) (C.frame cabinet.new) result }

@@ -4,7 +4,7 @@ use Rattle.hose_graph.specs.Network.{Network}
 use Rattle.hose_offline.specs.Ending.{IsOut}
 use Rattle.hose_offline.specs.Fault.{last_line, status_of}
 use Rattle.hose_offline.specs.Parts.{Parts, Tellings}
-use Rattle.hose_offline.specs.ServingOnDisk.{IsNotServed}
+use Rattle.hose_offline.specs.Unopened.{OpensNoJournal}
 use Rattle.hose_offline.specs.declared.fault.Fault.{Fault}
 use Rattle.hose_offline.specs.AuditOutcome.{IsAudited}
 
@@ -17,5 +17,6 @@ module _ {I O C E : Type 0} (tells : Tellings I O C E) (journal : List ℕ)
   abbrev pub AuditsJournal : ℕ → Network → Type 0
   AuditsJournal status network = IsAudited tells journal before after status network
       ⊎ ((why : Fault) × (status ≡ status_of why)
-      × IsNotServed tells.cabinet tells.disk journal before.cabinet after.cabinet network (Err why)
+      × OpensNoJournal tells.cabinet tells.disk journal before.cabinet after.cabinet network
+      (Err why)
       × IsOut tells.sink before.output after.output (last_line why))

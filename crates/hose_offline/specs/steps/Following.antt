@@ -5,7 +5,7 @@ use Rattle.hose_io.specs.declared.Failed.{Failed}
 use Rattle.hose_graph.specs.Network.{Network}
 use Rattle.hose_follow.specs.declared.following.FollowEnd.{FollowEnd}
 use Rattle.hose_offline.specs.Parts.{Parts, Tellings}
-use Rattle.hose_offline.specs.ServingOnDisk.{IsNotServed, first_of}
+use Rattle.hose_offline.specs.Unopened.{OpensNoJournal, first_of}
 use Rattle.hose_offline.specs.declared.fault.Fault.{Fault}
 use Rattle.hose_offline.specs.Following.{following_done, HasFollowed}
 
@@ -16,7 +16,7 @@ module _ {I O C E : Type 0} (tells : Tellings I O C E) (name : List ℕ)
   -- no packet was answered, and why; or the input was followed, and the first fault is told
   abbrev pub FollowsJournal : Result ⊤ Fault → Type 0
   FollowsJournal result =
-      (IsNotServed tells.cabinet tells.disk name before.cabinet after.cabinet network result
+      (OpensNoJournal tells.cabinet tells.disk name before.cabinet after.cabinet network result
       × (after.input ≡ before.input) × (after.output ≡ before.output))
       ⊎ ((ended : FollowEnd) × (closing : Result ⊤ Failed)
       × HasFollowed tells name before after network ended closing

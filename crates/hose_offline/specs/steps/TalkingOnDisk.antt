@@ -13,7 +13,7 @@ use Rattle.hose_store.specs.steps.Store.{KeptStore}
 use Rattle.hose_offline.specs.OnDisk.{HadContent, KeptOnDisk}
 use Rattle.hose_offline.specs.Parts.{Parts, Tellings}
 use Rattle.hose_offline.specs.Run.{script_run}
-use Rattle.hose_offline.specs.ServingOnDisk.{IsNotServed, first_of}
+use Rattle.hose_offline.specs.Unopened.{OpensNoJournal, first_of}
 use Rattle.hose_talk.specs.Talk.{talk}
 use Rattle.hose_offline.specs.Talking.{IsAskedBy, TellsDisks}
 use Rattle.hose_offline.specs.steps.Talking.{Talks, talk_tellings}
@@ -43,7 +43,7 @@ module _ {S O C E : Type 0} (tells : Tellings S O C E) (name : List ℕ)
   -- no store was opened, and nothing was read or written; or lines were answered by its book
   abbrev pub TalksInCabinet : Result ⊤ Fault → Type 0
   TalksInCabinet result =
-      (IsNotServed tells.cabinet tells.disk name before.cabinet after.cabinet network result
+      (OpensNoJournal tells.cabinet tells.disk name before.cabinet after.cabinet network result
       × (after.input ≡ before.input) × (after.output ≡ before.output))
       ⊎ ((answered : Result ⊤ Fault) × (closing : Result ⊤ Failed)
       × HasTalkedInCabinet answered closing × (result ≡ first_of answered closing))

@@ -6,7 +6,7 @@ use Rattle.hose_graph.specs.Network.{Network}
 use Rattle.hose_offline.specs.Ending.{IsOut}
 use Rattle.hose_offline.specs.Fault.{last_line, status_of}
 use Rattle.hose_offline.specs.Parts.{Tellings}
-use Rattle.hose_offline.specs.ServingOnDisk.{IsNotServed}
+use Rattle.hose_offline.specs.Unopened.{OpensNoJournal}
 use Rattle.hose_offline.specs.steps.Parts.{held}
 use Rattle.hose_offline.specs.declared.fault.Fault.{Fault}
 use Rattle.hose_offline.specs.declared.fault.Fault.TheVariants as fault
@@ -88,7 +88,7 @@ abbrev pub HostsJournal : {I O C E D N : Type 0} → Tellings I O C E → DoorTe
 HostsJournal tells by name asked before after status network =
     HostsConnections tells by name asked before after status network
     ⊎ ((why : Fault) × (status ≡ status_of why)
-    × IsNotServed tells.cabinet tells.disk name before.others.cabinet after.others.cabinet network
-    (Err why)
+    × OpensNoJournal tells.cabinet tells.disk name before.others.cabinet after.others.cabinet
+    network (Err why)
     × IsOut tells.sink before.others.output after.others.output (last_line why)
     × (after.doors ≡ before.doors))

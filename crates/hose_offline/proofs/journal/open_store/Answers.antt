@@ -3,7 +3,7 @@ use Rattle.std.specs.Prelude.{⊤}
 use Rattle.hose_store.proofs.OneMeaning.{recovered_once}
 use Rattle.hose_store.proofs.Standing.{closed_left, opened_stands, run_stands}
 use Rattle.hose_offline.specs.OnDisk.{opening_of}
-use Rattle.hose_offline.specs.steps.ServingOnDisk.{IsNotOpened}
+use Rattle.hose_offline.specs.steps.Unopened.{IsNotOpened}
 use Rattle.hose_offline.specs.declared.fault.Fault.{Fault}
 use Rattle.hose_offline.proofs.Journals.{left_unused, not_opened}
 use Rattle.hose_offline.proofs.journal.open_store.Goals as goal

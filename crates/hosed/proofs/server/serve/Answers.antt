@@ -6,7 +6,7 @@ use Rattle.hose_offline.specs.declared.fault.Fault.TheVariants.{Cabinet}
 use Rattle.hose_offline.specs.Why.{why_status}
 use Rattle.hose_offline.proofs.Failing.{fails_reading, fails_then, unopened_fails}
 use Rattle.hose_offline.proofs.Lending.{lent_alone}
-use Rattle.hose_offline.proofs.PutBack.{not_served}
+use Rattle.hose_offline.proofs.PutBack.{opens_none}
 use Rattle.hosed.proofs.Connections.{same_first, served_in}
 use Rattle.hosed.proofs.Served.{is_served, no_topology_read, not_opened, serve_not_1, serving_fails}
 use Rattle.hosed.proofs.server.serve.Goals as goal
@@ -57,7 +57,7 @@ returns-in-Err-open_store-clause-outcome g c =
     let back = c.back.ensures in
     let refused = c.in-Err-open_store in
     let ended = c.end-in-Err-open_store in
-    let not = not_served g.C.Cabinet g.C.Disk.Disk c.args.request.journal.now c.read_topology.new.cabinet c.disk.new.self c.back.new.self c.in-Ok.topology c.in-Ok-disk.disk refused.refused.1
+    let not = opens_none g.C.Cabinet g.C.Disk.Disk c.args.request.journal.now c.read_topology.new.cabinet c.disk.new.self c.back.new.self c.in-Ok.topology c.in-Ok-disk.disk refused.refused.1
     (record { out = record { content = taken.content; images = taken.images; moment = taken.moment; fresh = taken.opened; call = taken.call }; in_place = record { held = back.held; never_falls = back.never_falls; call = back.call } }) (Err refused.refused.0) refused.ensures.refused in
     let alone = lent_alone g.C.Cabinet g.C.Disk.Disk c.args.request.journal.now c.read_topology.new.cabinet c.disk.new.self c.back.new.self c.in-Ok-disk.disk refused.refused.1
     (record { content = taken.content; images = taken.images; moment = taken.moment; fresh = taken.opened; call = taken.call }) c.disk.ensures.others (record { held = back.held; never_falls = back.never_falls; call = back.call }) back.others in
@@ -77,7 +77,7 @@ returns-in-Err-open_store-clause-fails g c =
     let back = c.back.ensures in
     let refused = c.in-Err-open_store in
     let ended = c.end-in-Err-open_store in
-    let not = not_served g.C.Cabinet g.C.Disk.Disk c.args.request.journal.now c.read_topology.new.cabinet c.disk.new.self c.back.new.self c.in-Ok.topology c.in-Ok-disk.disk refused.refused.1
+    let not = opens_none g.C.Cabinet g.C.Disk.Disk c.args.request.journal.now c.read_topology.new.cabinet c.disk.new.self c.back.new.self c.in-Ok.topology c.in-Ok-disk.disk refused.refused.1
     (record { out = record { content = taken.content; images = taken.images; moment = taken.moment; fresh = taken.opened; call = taken.call }; in_place = record { held = back.held; never_falls = back.never_falls; call = back.call } }) (Err refused.refused.0) refused.ensures.refused in
     let alone = lent_alone g.C.Cabinet g.C.Disk.Disk c.args.request.journal.now c.read_topology.new.cabinet c.disk.new.self c.back.new.self c.in-Ok-disk.disk refused.refused.1
     (record { content = taken.content; images = taken.images; moment = taken.moment; fresh = taken.opened; call = taken.call }) c.disk.ensures.others (record { held = back.held; never_falls = back.never_falls; call = back.call }) back.others in

@@ -1,6 +1,6 @@
 use Rattle.std.proofs.Common.{Err}
 use Rattle.hose_offline.proofs.Lending.{others_then}
-use Rattle.hose_offline.proofs.PutBack.{not_served}
+use Rattle.hose_offline.proofs.PutBack.{opens_none}
 use Rattle.hosed_host.proofs.reading.open_with_packets.Goals as goal
 
 pub returns-in-Ok-open_led_store-clause-opens : goal.returns-in-Ok-open_led_store-clause-opens
@@ -19,7 +19,7 @@ pub returns-in-Err-clause-refused : goal.returns-in-Err-clause-refused
 returns-in-Err-clause-refused g c =
     let taken = c.in-Ok.ensures in
     let back = c.back.ensures in
-    not_served g.C.Cabinet g.C.Disk.Disk c.args.name.now c.args.cabinet.now c.disk.new.self c.back.new.self c.args.topology c.in-Ok.disk c.in-Err.refused.1
+    opens_none g.C.Cabinet g.C.Disk.Disk c.args.name.now c.args.cabinet.now c.disk.new.self c.back.new.self c.args.topology c.in-Ok.disk c.in-Err.refused.1
     (record { out = record { content = taken.content; images = taken.images; moment = taken.moment; fresh = taken.opened; call = taken.call }; in_place = record { held = back.held; never_falls = back.never_falls; call = back.call } }) (Err c.in-Err.refused.0) c.in-Err.ensures.refused
 
 pub returns-in-Err-clause-others : goal.returns-in-Err-clause-others

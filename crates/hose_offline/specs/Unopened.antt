@@ -12,7 +12,7 @@ use Rattle.hose_offline.specs.declared.fault.Fault.TheVariants as fault
 
 -- the first fault of answering lines and then closing
 abbrev pub first_of : Result ⊤ Fault → Result ⊤ Failed → Result ⊤ Fault
-first_of served (Ok _) = served
+first_of done (Ok _) = done
 first_of (Ok _) (Err failed) = Err fault.Cabinet
 first_of (Err why) (Err failed) = Err why
 
@@ -20,13 +20,13 @@ first_of (Err why) (Err failed) = Err why
 
 module _ {C E : Type 0} (cabinet : CabinetGhosts C E) (disk : DiskGhosts E) (name : List ℕ)
     (old new : C) (network : Network) where
-  -- no line was answered, and why
-  abbrev pub IsNotServed : Result ⊤ Fault → Type 0
-  IsNotServed (Err fault.Cabinet) =
+  -- no journal was opened, and why
+  abbrev pub OpensNoJournal : Result ⊤ Fault → Type 0
+  OpensNoJournal (Err fault.Cabinet) =
       IsUnopened cabinet disk old new network name × CabinetFailed cabinet old new
-  IsNotServed (Err (fault.Other kept given)) =
+  OpensNoJournal (Err (fault.Other kept given)) =
       (given ≡ digest_of network) × IsRefusedOnDisk cabinet disk old new network name (other kept)
-  IsNotServed (Err (fault.Damaged at)) =
+  OpensNoJournal (Err (fault.Damaged at)) =
       IsRefusedOnDisk cabinet disk old new network name (damaged at)
-  IsNotServed (Err fault.Memory) = IsUnopened cabinet disk old new network name
-  IsNotServed _ = ⊥
+  OpensNoJournal (Err fault.Memory) = IsUnopened cabinet disk old new network name
+  OpensNoJournal _ = ⊥
