@@ -12,13 +12,22 @@ for each (`ensures most_links { MOST_LINKS ≡ most_links }`). Where a check of 
 as where one meets a limit of the prover, each half is tried. Any other constant, and a ghost member
 of an `impl`, is tried by itself, in a check of the functions that name the constant or the type.
 Any other edit, and one of which such a check does not tell for sure that a clause refuses it, is
-tried alone in a check of the whole crate. What an edit comes to is judged by the kit's rules, those
-of `rt must-fail`.
+tried alone: in a check of what it changes, and then, where that does not refuse it, of the whole
+crate. What an edit comes to is judged by the kit's rules, those of `rt must-fail`.
 
-usage: bench/repository/wrong.py [CRATE ..]     (leave the crates' files as they are while it runs)
+Where `rt check` has built the libraries below a crate, its check of the crate is what all tries
+begin with. Else they are made over the libraries that `rt ci` kept of the same texts on this
+machine, if it kept the crate as well, and what one try proves the later ones take: nothing is
+proved for them that none of them rests on.
+
+usage: bench/repository/wrong.py [--at-once N] [CRATE ..]     (N crates at a time, 1 if left out;
+leave the crates' files as they are while it runs)
 """
 
+import concurrent.futures
+import hashlib
 import importlib.machinery
+import json
 import os
 import pathlib
 import re
@@ -69,12 +78,14 @@ def touched(crate):
 
 
 class Tries:
-    """The tries of a crate's edits, over what the check of the crate as it stands proved."""
+    """The tries of a crate's edits, with the names of its functions, which are proved, and the place
+    of what its checks keep."""
 
-    def __init__(self, crate, said):
-        self.crate, self.source, self.names = crate, BODIES.Source(crate.folder), {}
+    def __init__(self, crate, proved, kept):
+        self.crate, self.kept = crate, kept
+        self.source, self.names = BODIES.Source(crate.folder), {}
         self.source.read("src/main.rt" if crate.is_program else "src/lib.rt")
-        told = [it.split("::") for it in re.findall(r"(?m)^fn (\S+): proved\b", said)]
+        told = [it.split("::") for it in proved]
         for it in self.source.functions:
             # The name by which the check told that it is proved, where just one fits.
             module, owner = [crate.name, *it.module], [it.owner] if it.block else []
@@ -177,11 +188,10 @@ class Tries:
                 return True
         return False
 
-    def over_kept(self, call, *given):
-        """What a call gives over a copy of what the crate's own check kept."""
-        with tempfile.TemporaryDirectory(prefix="wrong-") as room:
-            shutil.copytree(f"{self.crate.folder}/out/incremental", f"{room}/kept")
-            return call(self.crate, *given, f"{room}/kept")
+    def only(self, edits):
+        """The words by which a check is of the functions alone that these edits change."""
+        names = {self.names[it] for it, _ in self.changed(edits)}
+        return [word for name in sorted(names) for word in ("--only", name)]
 
     def told(self, batch):
         """As `together`, of each half where nothing is told of the whole."""
@@ -193,18 +203,18 @@ class Tries:
     def together(self, batch):
         """The edits of a batch that a clause refuses for sure, and the first line that says so."""
         texts, found = self.applied(batch), {}
-        only = {self.names[it] for it, _ in self.changed(batch)}
-        only = [word for name in sorted(only) for word in ("--only", name)]
-        ran = self.over_kept(RT.checked, texts, [*JOBS, *only])
+        ran = RT.checked(self.crate, texts, [*JOBS, *self.only(batch)], self.kept)
         lines, fell = ran.stdout.split("\n"), r"(?m)^fn (\S+): (?:not proved|no proof)"
         fell = {*re.findall(fell, ran.stdout)}
         if re.search(r"\berror\[[\w-]+\]", ran.stdout) and not fell:
             # (the front end refuses it: without those that it names)
             rest = [it for it in batch if not any(self.is_of(it, line) for line in lines)]
             return self.together(rest) if 0 < len(rest) < len(batch) else {}
-        if ran.returncode != 1 or any(RT.unread(line, texts) for line in lines):
+        unread = [it for it in lines if RT.unread(it, texts)]
+        bad = {edit for edit in batch if any(self.is_of(edit, it) for it in unread)}
+        if ran.returncode != 1 or not all(any(self.is_of(it, at) for it in bad) for at in unread):
             return {}
-        for edit in batch:
+        for edit in (it for it in batch if it not in bad):
             told = [it for it in lines if self.is_of(edit, it) and not NAME.match(it)]
             told = [it for it in told if ": error" in it or it.startswith("note: ")]
             if told and fell & {self.names[it] for it, _ in self.edits[edit]}:
@@ -212,48 +222,128 @@ class Tries:
         return found
 
     def alone(self, edit):
-        return self.over_kept(RT.must_fail, str(edit), JOBS)[1].split(".edit: ", 1)[1]
+        """What it comes to in a check of what it changes, or where that says nothing, of all."""
+        for only in [self.only([edit]), []] if self.edits[edit] else [[]]:
+            told = RT.must_fail(self.crate, str(edit), [*JOBS, *only], self.kept)[1]
+            told = told.split(".edit: ", 1)[1]
+            if told.startswith("refused"):
+                break
+        return told
+
+    def all(self):
+        """What each edit comes to."""
+        found = {}
+        for batch in self.batches():
+            found.update(self.told(batch))
+        for edit in (it for it in self.named if self.named[it]):
+            self.edits[edit] = self.named[edit]
+            found.update(self.together([edit]))
+        return {it: found.get(it) or self.alone(it) for it in self.edits}
 
 
-def stands(crate):
-    """What the check of the crate as it stands says, where the crate is proved."""
-    how = {"stdout": subprocess.PIPE, "stderr": subprocess.STDOUT, "errors": "replace"}
-    ran = subprocess.run(["rt", "check", *JOBS], cwd=crate.folder, **how)
-    return "" if ran.returncode else ran.stdout
+def checked(*given, made=RT.checked):
+    """As the kit's, but that a check of some functions tells as one of all that it is not proved."""
+    ran = made(*given)
+    if ran.returncode == 1 and ran.stdout.rstrip().rpartition("\n")[2].startswith("only="):
+        ran.stdout += "logic=not-proved\n"
+    return ran
+
+
+RT.checked = checked
+
+
+def take_kept(crate, room):
+    """Puts the libraries below the crate into a folder, as `rt ci` kept them of the same texts on
+    this machine, and has its checks read them there; gives what it kept of the crate, or None where
+    it has not kept them all."""
+    RT.Crate.allowed = RT.handles_of(str(WRONG.parent))
+    kept, places = RT.Kept([]), {}
+    for it in [*crate.below(), crate]:
+        at = kept.place(it, False, kept.key(it))
+        made = RT.rtlib.text_of(f"{at}/made.json")
+        files = [*map(tuple, json.loads(made)["files"])] if made else []
+        if it is crate:
+            break
+        for number, (path, of_file) in enumerate(files):
+            to = f"{room}/{it.name}/{path.partition('/')[2]}"
+            os.makedirs(os.path.dirname(to), exist_ok=True)
+            RT.link_or_copy(f"{at}/{number}", to)
+            if RT.rtlib.sum_of(to) != of_file:
+                return None
+        if not files:
+            return None
+        # (as the kit sums them up, for the keys of those above)
+        kept.rlibs[it.name] = hashlib.sha256(repr(files).encode()).hexdigest()
+        places[it] = f"{room}/{it.name}/{it.name}.rlib"
+    for below, place in places.items():
+        below.rlib = place
+    return {path: f"{at}/{number}" for number, (path, _) in enumerate(files)}
+
+
+def stands(crate, room):
+    """The names of the crate's functions, where it is proved, and where a check keeps its work."""
+    kept, proved = f"{room}/kept", r"(?m)^fn (\S+): proved\b"
+    is_built = all(it.is_built() for it in crate.below())
+    files = None if is_built else take_kept(crate, f"{room}/libraries")
+    if files is None:
+        how = {"stdout": subprocess.PIPE, "stderr": subprocess.STDOUT, "errors": "replace"}
+        ran = subprocess.run(["rt", "check", *JOBS], cwd=crate.folder, **how)
+        if not ran.returncode:
+            # (by links, as the kit does it: a check replaces such a file, and changes none)
+            RT.linked(f"{crate.folder}/out/incremental", kept)
+        return [] if ran.returncode else re.findall(proved, ran.stdout), kept
+    os.mkdir(kept)
+    mir = files.get(f"rlib/{crate.name}.rlib/toolchain/mir.json")
+    if mir:
+        return [it for it, _ in json.loads(RT.rtlib.text_of(mir)) if "+" not in it], kept
+    ran = RT.checked(crate, {}, JOBS, kept)
+    return [] if ran.returncode else re.findall(proved, ran.stdout), kept
 
 
 def tried(crate):
     """What each edit of the crate comes to, and the processor's seconds of the tries."""
-    were, said = touched(crate), stands(crate)
-    began, tries, found = os.times(), Tries(crate, said), {}
-    for batch in tries.batches() if said else []:
-        found.update(tries.told(batch))
-    for edit in (it for it in tries.named if said and tries.named[it]):
-        tries.edits[edit] = tries.named[edit]
-        found.update(tries.together([edit]))
-    for edit in tries.edits:
-        without = "the crate as it stands is not proved"
-        found[edit] = found.get(edit) or (tries.alone(edit) if said else without)
+    with tempfile.TemporaryDirectory(prefix="wrong-") as room:
+        were, (names, kept) = touched(crate), stands(crate, room)
+        began, tries = os.times(), Tries(crate, names, kept)
+        found = tries.all() if names else {}
+        spent = round(sum(os.times()[:4]) - sum(began[:4]))
+    without = "the crate as it stands is not proved"
     if touched(crate) != were:
-        found = dict.fromkeys(found, "a file of the crate changed meanwhile")
-    return found, round(sum(os.times()[:4]) - sum(began[:4]))
+        found, without = {}, "a file of the crate changed meanwhile"
+    return {it: found.get(it, without) for it in tries.edits}, spent
 
 
-def main(names):
-    crates = [it for it in RT.rtlib.crates_below(str(WRONG.parent)) if (WRONG / it.name).is_dir()]
-    if {*names} - {it.name for it in crates}:
+def crates_with_edits():
+    found = RT.rtlib.crates_below(str(WRONG.parent))
+    return {it.name: it for it in found if (WRONG / it.name).is_dir()}
+
+
+def shown(name):
+    """What was found of the crate's edits, the kind of each, and the row of the crate."""
+    found, spent = tried(crates_with_edits()[name])
+    found = {f"{name}/{it.stem}": found[it] for it in sorted(found)}
+    kinds = [next(kind for start, kind in KINDS.items() if it.startswith(start))
+             for it in found.values()]
+    return found, kinds, [name, *map(kinds.count, KINDS.values()), spent]
+
+
+def main(words):
+    at_once, names = (int(words[1]), words[2:]) if words[:1] == ["--at-once"] else (1, words)
+    crates = crates_with_edits()
+    if {*names} - {*crates}:
         sys.exit("wrong: a crate that is named has no folder below wrong/")
     listed = re.findall(r"(?m)^- `(\w+/[\w.-]+)`", (WRONG / "README.md").read_text("utf-8"))
+    # (those with most edits first, so that none of them is left alone at the end)
+    names = sorted(names or crates, key=lambda it: -len([*(WRONG / it).iterdir()]))
     rows, wrong = [], []
-    for crate in (it for it in crates if not names or it.name in names):
-        (found, spent), kinds = tried(crate), []
-        for edit in sorted(found):
-            name = f"{crate.name}/{edit.stem}"
-            kinds.append(next(it for start, it in KINDS.items() if found[edit].startswith(start)))
-            print(f"{name}: {found[edit]}", flush=True)
-            if kinds[-1] not in ("clause", "limit") and name not in listed:
-                wrong.append(f"{name}: {found[edit]}")
-        rows.append([crate.name, *(kinds.count(it) for it in KINDS.values()), spent])
+    with concurrent.futures.ProcessPoolExecutor(at_once) as pool:
+        for run in concurrent.futures.as_completed([pool.submit(shown, it) for it in names]):
+            found, kinds, row = run.result()
+            lines = {it: f"{it}: {found[it]}" for it in found}
+            print(*lines.values(), sep="\n", flush=True)
+            is_well = {it for it, kind in zip(found, kinds) if kind in ("clause", "limit")}
+            wrong += [lines[it] for it in found if it not in is_well and it not in listed]
+            rows.append(row)
     rows.append(["all", *map(sum, [*zip(*rows)][1:])])
     heads = ROW.format("crate", *KINDS.values(), "seconds")
     print("", heads, *(ROW.format(*it) for it in rows), *wrong, sep="\n")
