@@ -7,7 +7,9 @@ changes.
 import base64
 import http.client
 import json
+import socket
 import ssl
+import threading
 import time
 from typing import Dict, List, NamedTuple, Optional, Tuple
 from urllib.parse import urlsplit
@@ -98,7 +100,7 @@ class Etcd:
                 if self._link:
                     self._link.close()
                 self._link, self._places = None, self._places[1:] + self._places[:1]
-                if isinstance(this, TimeoutError):
+                if isinstance(this, socket.timeout):
                     self._wait_for(2 * self.seconds)
         raise Unsure(f"no member of etcd answers: {fault}")
 
@@ -142,4 +144,43 @@ class Etcd:
     def compact(self, key: str) -> None:
         """Lets go of what keys were before now. `key` is any."""
         here = self.call("/v3/kv/range", {"key": coded(key)})["header"]["revision"]
-        self.call("/v3/kv/compaction", {"revision": here, "physical": True})
+        try:
+            self.call("/v3/kv/compaction", {"revision": here, "physical": True})
+        except Refused:
+            pass  # it was done just now
+
+
+class Lease:
+    """A lease that is kept alive beside what else is done, by calls of its own, until it is left.
+    It is held until `margin` seconds before its end."""
+
+    def __init__(self, members: Etcd, seconds: int, margin: float):
+        self.etcd, self.seconds, self.margin = Etcd(members.urls, members.tls), seconds, margin
+        self.members, self.lost = members, False
+        self.id = members.grant(seconds)
+        self.until = members.asked_at + seconds
+        threading.Thread(target=self._keep, daemon=True).start()
+
+    def is_held(self) -> bool:
+        return not self.lost and now() < self.until - self.margin
+
+    def _keep(self) -> None:
+        while self.is_held():
+            start = now()
+            try:
+                self.until = self.etcd.keep_alive(self.id) + self.etcd.asked_at
+            except Unsure:
+                pass
+            except Refused:
+                self.lost = True
+            time.sleep(max(0.0, start + self.seconds / 6 - now()))
+
+    def __enter__(self) -> "Lease":
+        return self
+
+    def __exit__(self, *_) -> None:
+        self.lost = True
+        try:
+            self.members.revoke(self.id)
+        except (Unsure, Refused):
+            pass  # it ends by itself

@@ -7,6 +7,7 @@ import re
 import select
 import signal
 import subprocess
+from time import monotonic
 from typing import List
 
 PIECE = 65_536
@@ -61,6 +62,17 @@ class FollowerLink:
             else:
                 self._give()
         return []
+
+    def answers(self, packets: List[bytes], seconds: float) -> List[str]:
+        """A line for each of these, where nothing else is to be answered. Raises `TimeoutError`
+        where they are late."""
+        self.send(b"".join(packets))
+        lines, last = [], monotonic() + seconds
+        while len(lines) < len(packets):
+            lines += self.turn(1000)
+            if monotonic() > last:
+                raise TimeoutError("it does not answer")
+        return lines
 
     def close_input(self) -> None:
         """Ends what the follower reads, once all was handed on."""

@@ -32,15 +32,14 @@ from typing import List, Optional
 
 import following
 import networks
-from etcd import Etcd, Refused, Unsure, created_at, delete, get, now, put
+from etcd import Etcd, Lease, Refused, Unsure, created_at, delete, get, now, put
 from follower_link import Ended, FollowerLink
 from following import Packet
 from quorum_book import MOST, Book, Fence, Fenced, Head, Put, Stop, head_of, told
 
-LOOK, PAUSE = 0.1, 0.5  # seconds between two looks, and before a machine stands again
+LOOK, PAUSE = 0.1, 0.5  # seconds between two looks at who leads, and before all is begun again
 TELL = 5.0  # seconds between two times at which a machine tells what it has
 PATIENCE = 120.0  # seconds for a follower to answer, which may have a long journal to read
-FENCE = "HOSED_FENCE"  # in the environment of `put`: the leader's key, and since when it is there
 LIBC = ctypes.CDLL(None)
 RECORD, CLOSED = 1 + 4 + 32, b"\0"  # bytes of a record before its body, and the gate at the end
 TLS = "cacert", "cert", "key"
@@ -71,7 +70,7 @@ class Journal:
             if self.link is None and not self._begin(head):
                 return self.beyond == head
             self._feed(head)
-        except (Ended, following.WrongAnswer) as fault:
+        except (Ended, TimeoutError, following.WrongAnswer) as fault:
             self.end()
             if getattr(fault, "status", 0) in (1, 2, 5):
                 raise Stop(28, f"the follower: {fault}") from None
@@ -79,13 +78,14 @@ class Journal:
             time.sleep(PAUSE)
             return False
         if now() - self.told_at > TELL:
-            self.book.etcd.transact([], [self.is_there(self.have)])
-            self.told_at = now()
+            self.tell(self.have)
         return self.have == head.epoch
 
-    def is_there(self, epoch: int):
-        """The part of a transaction that tells what this machine has."""
-        return put(f"{self.book.root}have/{self.given.machine}", b"%d" % epoch)
+    def tell(self, epoch: int) -> None:
+        """Tells etcd how many entries this machine has, which `trim` leaves to it."""
+        key = f"{self.book.root}have/{self.given.machine}"
+        self.book.etcd.transact([], [put(key, b"%d" % epoch)])
+        self.told_at = now()
 
     def end(self) -> None:
         """Ends the follower, by which the journal is closed."""
@@ -93,20 +93,12 @@ class Journal:
             self.link.__exit__()
         self.link = None
 
-    def _asked(self, *packets: bytes) -> List[str]:
-        lines, start = [], now()
-        self.link.send(b"".join(packets))
-        while len(lines) < len(packets):
-            lines += self.link.turn(1000)
-            if now() - start > PATIENCE:
-                raise following.WrongAnswer("it does not answer")
-        return lines
-
     def place(self) -> bytes:
         """Begins the follower, and tells the chain value of the entries that it has."""
         self.link, self.beyond, self.surplus = FollowerLink(self.words("follow")), None, []
-        self.have = following.asked_epoch(self._asked(following.ASK_EPOCH)[0])
-        return following.asked_value(self._asked(following.ask_value(self.have))[0], self.have)
+        self.have = following.asked_epoch(self.link.answers([following.ASK_EPOCH], PATIENCE)[0])
+        question = following.ask_value(self.have)
+        return following.asked_value(self.link.answers([question], PATIENCE)[0], self.have)
 
     def _begin(self, head: Head) -> bool:
         """Whether it is a beginning of etcd's. What it has beside that is kept, as `surplus`, where
@@ -172,7 +164,7 @@ class Journal:
             raise Stop(25, f"{self.path} has entries of etcd's that are not there any more")
         while self.have < head.epoch:
             packets = self.book.entries(self.have + 1)
-            lines = self._asked(*(following.packet(*one) for one in packets))
+            lines = self.link.answers([following.packet(*one) for one in packets], PATIENCE)
             for packet, line in zip(packets, lines):
                 if line.startswith("unsound"):
                     raise Stop(28, f"the follower answers {line}")
@@ -203,32 +195,6 @@ class Journal:
         os.close(folder)
 
 
-class Lease:
-    """A lease that is kept alive beside what else is done."""
-
-    def __init__(self, given: argparse.Namespace, members: Etcd):
-        self.etcd, self.given, self.lost = Etcd(members.urls, members.tls), given, False
-        self.id = members.grant(given.ttl)
-        self.until = members.asked_at + given.ttl
-        threading.Thread(target=self._keep, daemon=True).start()
-
-    def is_held(self) -> bool:
-        return not self.lost and now() < self.until - self.given.margin
-
-    def _keep(self) -> None:
-        while self.is_held():
-            start = now()
-            try:
-                seconds = self.etcd.keep_alive(self.id)
-                self.lost = self.lost or seconds == 0
-                self.until = self.etcd.asked_at + seconds
-            except Unsure:
-                pass
-            except Refused:
-                self.lost = True
-            time.sleep(max(0.0, start + self.given.ttl / 6 - now()))
-
-
 class Machine:
     def __init__(self, given: argparse.Namespace, book: Book):
         self.given, self.book, self.journal = given, book, Journal(given, book)
@@ -244,23 +210,15 @@ class Machine:
                     self.journal.bring(self.book.head())
             except (Unsure, Refused, Fenced, OSError) as fault:
                 told(str(fault))
-            self.stop.wait(LOOK)
+            self.stop.wait(PAUSE)
         self.journal.end()
 
     def lead(self) -> None:
         """Stands where its journal is brought on, which may take long: nobody waits for that."""
         if not self.journal.bring(self.book.head()):
             return
-        lease = Lease(self.given, self.book.etcd)
-        try:
+        with Lease(self.book.etcd, self.given.ttl, self.given.margin) as lease:
             self.campaign(lease, self.book.stand(lease.id, self.given.machine))
-        finally:
-            lease.lost = True
-            try:
-                self.book.etcd.revoke(lease.id)
-            except (Unsure, Refused):
-                pass  # it ends by itself
-            self.stop.wait(PAUSE)
 
     def campaign(self, lease: Lease, fence: Fence) -> None:
         have, since = -1, now()
@@ -286,7 +244,7 @@ class Machine:
             if not self.book.move(fence, head, new, part):
                 raise Unsure(f"the head is not {head.text().decode()} any more")
             head = new
-        self.book.etcd.transact([], [self.journal.is_there(head.epoch)])
+        self.journal.tell(head.epoch)
         self.journal.leads(head)
         return head
 
@@ -294,13 +252,11 @@ class Machine:
         """Runs the host, and `put` at its socket, until one of them ends or the lease is nearly
         over. Asks etcd nothing itself, so that nothing delays its end."""
         told(f"leads from {head.epoch} on, term {head.term}")
-        words, path = self.given.command, vars(self.given)["socket"]
         members = [f"--{name}={vars(self.given)[name]}" for name in ("etcd", "name", *TLS)
                    if vars(self.given)[name]]
-        with door_at(path) as door:
-            environment = {**os.environ, FENCE: f"{fence.key} {fence.revision}"}
-            both = [begun([sys.executable, __file__, "put", *members], stdin=door, env=environment),
-                    begun(words)]
+        with door_at(self.given.socket) as door:
+            words = [sys.executable, __file__, "put", *members, *map(str, fence)]
+            both = begun(words, stdin=door), begun(self.given.command)
         while None is both[0].poll() is both[1].poll() and lease.is_held():
             if self.stop.wait(LOOK / 5):
                 break
@@ -336,15 +292,11 @@ def begin(given: argparse.Namespace, book: Book) -> None:
     journal.end()
     packets = journal.shipped(given.start)
     parts = [put(book.entry(one.epoch), following.packet(*one)) for one in packets]
-    for at in range(0, len(parts), MOST):
-        send(book, parts[at:at + MOST])
-    send(book, [put(book.head_key, Head(journal.have, value, 0, "nobody").text())])
+    pieces = [parts[at:at + MOST] for at in range(0, len(parts), MOST)]
+    for some in pieces + [[put(book.head_key, Head(journal.have, value, 0, "nobody").text())]]:
+        if not book.etcd.transact([created_at(book.head_key, 0)], some)[0]:
+            raise Stop(27, "etcd has this book already")
     print(f"head {journal.have}")
-
-
-def send(book: Book, parts) -> None:
-    if not book.etcd.transact([created_at(book.head_key, 0)], parts)[0]:
-        raise Stop(27, "etcd has this book already")
 
 
 def trim(given: argparse.Namespace, book: Book) -> None:
@@ -355,10 +307,7 @@ def trim(given: argparse.Namespace, book: Book) -> None:
     have = [int(one.value) for one in machines if not one.key.endswith("/" + head.machine)]
     last = max(0, min([head.epoch, *have]) - given.keep)
     book.etcd.transact([], [delete(book.entry(0), book.entry(last + 1))])
-    try:
-        book.etcd.compact(book.head_key)
-    except Refused:
-        pass  # it was done just now
+    book.etcd.compact(book.head_key)
     print(f"trimmed up to {last}")
 
 
@@ -372,6 +321,9 @@ def words() -> argparse.Namespace:
         add("--name", default="orders", help="of the book in etcd (orders)")
         for word in TLS:
             add("--" + word, metavar="FILE", help="for https, as etcdctl has it")
+        if kind == "put":
+            add("leader", help="the leader's key")
+            add("since", type=int, help="the revision since which it is there")
         if kind == "trim":
             add("keep", type=int, help="so many are kept beyond those that a machine lacks")
         if kind in ("follow", "lead", "begin"):
@@ -391,10 +343,9 @@ def words() -> argparse.Namespace:
     if not shutil.which(getattr(given, "program", "sh")):
         parser.error(f"{given.program} is no program")
     if given.kind == "lead":
-        places = [at for at, word in enumerate(given.command) if word == "--standby"]
-        if "--standby-or-stop" not in given.command or not places:
+        if not {"--standby", "--standby-or-stop"} <= set(given.command):
             parser.error("without --standby PATH and --standby-or-stop a host would go on alone")
-        given.socket = given.command[places[0] + 1]
+        given.socket = given.command[given.command.index("--standby") + 1]
     return given
 
 
@@ -406,10 +357,7 @@ def main() -> None:
     book = Book(Etcd(given.etcd, tls), given.name)
     try:
         if given.kind == "put":
-            key, _, revision = os.environ.get(FENCE, "").partition(" ")
-            if not revision.isdigit():
-                raise Fenced
-            Put(book, Fence(key, int(revision))).serve(socket.socket(fileno=os.dup(0)))
+            Put(book, Fence(given.leader, given.since)).serve(socket.socket(fileno=os.dup(0)))
         elif given.kind in ("begin", "trim"):
             {"begin": begin, "trim": trim}[given.kind](given, book)
         else:

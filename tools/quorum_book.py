@@ -37,9 +37,6 @@ class Stop(networks.WrongInput):
 class Fenced(Stop):
     """The fence is gone."""
 
-    def __init__(self):
-        super().__init__(24, "it does not lead any more: another one may")
-
 
 def told(what: str) -> None:
     """Tells it on standard error and to systemd, and once a minute where it stays so."""
@@ -96,7 +93,7 @@ class Book:
         is_done, found = self.etcd.transact([created_at(*fence)] if fence else [],
                                             [get(self.head_key)])
         if not is_done:
-            raise Fenced
+            raise Fenced(24, "it does not lead any more: another one may")
         return head_of(found[0])
 
     def look(self) -> Tuple[Head, Optional[Fence]]:

@@ -333,7 +333,7 @@ class Puts(Trials):
         self.idle = 3
         self.assertEqual(self.answers(ASK_HAVE), ["have 2"])
         self.idle = 3
-        with mock.patch.object(self.put, "look", side_effect=[None, None, Fenced]), \
+        with mock.patch.object(self.put, "look", side_effect=[None, None, Fenced(24, "")]), \
                 self.assertRaises(Fenced):
             self.answers(ASK_HAVE)
         self.assertEqual(self.said, [])
@@ -505,9 +505,9 @@ class Journals(Files):
         self.put_book(1, 2)
         self.write(journal_of())
         self.journal.place()
-        with mock.patch.object(self.journal, "_asked", return_value=["unsound 1"]):
+        with mock.patch.object(self.journal.link, "answers", return_value=["unsound 1"]):
             self.assert_stop(28, self.bring)
-        with mock.patch.object(self.journal, "_asked", return_value=["disk at 0"]):
+        with mock.patch.object(self.journal.link, "answers", return_value=["disk at 0"]):
             self.assertFalse(self.bring())
         with mock.patch("quorum.PATIENCE", -1):
             self.assertFalse(self.bring())
@@ -604,14 +604,16 @@ class Leads(Files):
         self.assertIn("leads, and cannot bring its journal on: another one may", self.told)
 
     def test_a_lease(self):
-        lease = quorum.Lease(self.given, self.book.etcd)
-        self.assertTrue(lease.is_held())
-        with mock.patch("quorum.now", lambda: time.clock_gettime(time.CLOCK_BOOTTIME) + 4.1):
+        with etcd.Lease(self.book.etcd, 5, 1.0) as lease:
+            self.assertTrue(lease.is_held())
+            with mock.patch("etcd.now", lambda: time.clock_gettime(time.CLOCK_BOOTTIME) + 4.1):
+                self.assertFalse(lease.is_held())
+            lease.until = etcd.now() + 100
+            self.fake.ended(lease.id)
+            with mock.patch("etcd.time.sleep"):
+                lease._keep()
             self.assertFalse(lease.is_held())
-        lease.until = quorum.now() + 100
-        self.fake.ended(lease.id)
-        with mock.patch("quorum.time.sleep"):
-            lease._keep()
+            lease.until = etcd.now() + 100
         self.assertFalse(lease.is_held())
 
     def run_command(self, host, put="sleep 60", held=lambda: True):
@@ -638,7 +640,7 @@ class Leads(Files):
     def test_a_host_that_ends(self):
         self.assertEqual(self.run_command("true"), "the host ended by itself: put -9, host 0")
         self.assertEqual(self.put_words[1:], [quorum.__file__, "put", "--etcd=http://one",
-                                              "--name=orders"])
+                                              "--name=orders", "key", "7"])
         self.assertTrue(os.stat(self.given.socket).st_mode & 0o777 == 0o600)
 
     def test_put_that_ends_ends_the_host(self):
@@ -751,8 +753,18 @@ class Words(Files):
             words = kind, "--etcd", "http://one", "--program", "no-hosed", STAR, self.path
             self.assertEqual(self.run_words(*words)[0], 2)
 
-    def test_put_without_a_fence(self):
-        self.assertEqual(self.run_words("put", "--etcd", "http://one")[0], 24)
+    def test_put_whose_leader_is_gone(self):
+        door, near = socket.socket(socket.AF_UNIX), socket.socket(socket.AF_UNIX)
+        with tempfile.TemporaryDirectory() as folder, door, near:
+            door.bind(os.path.join(folder, "door"))
+            door.listen()
+            near.connect(os.path.join(folder, "door"))
+            self.put_book(1)
+            with mock.patch("quorum.os.dup", return_value=os.dup(door.fileno())), \
+                    mock.patch("quorum_book.os.kill") as kill:
+                told = self.run_words("put", "--etcd", "http://one", ROOT + "leader/51", "7")
+        self.assertEqual(told[0], 24)
+        kill.assert_called_once_with(os.getpid(), signal.SIGKILL)
 
     def test_as_a_program(self):
         status, _, error = program("quorum.py", "trim", "--etcd", "http://127.0.0.1:1", "0")

@@ -25,6 +25,8 @@ class FakeLink:
         self.last = line.rstrip("\n")
         self.unsent, self.sent, self.count, self.is_closed = b"", 0, 0, False
 
+    answers = follower_link.FollowerLink.answers
+
     def send(self, packets):
         self.unsent += packets
 
