@@ -13,10 +13,11 @@ usage: statement.py [COMMAND] [--html FILE]    the statement as a text, or as a 
        statement.py --files                    which files of definitions have what, and which
                                                definitions stand in the other's place
 
-COMMAND is run, audit, gen, prove, check, price, ship, follow, move, cut, serve or host: what its outcome reaches,
-alone. Lines are those of definitions, without comments and blank lines, and with the heads of the
-modules around them; `--count` tells the others apart. Definitions of proofs alone stand in the
-folder specs/steps/ of their crate. Ends with status 1 where a name is not found, and tells it.
+COMMAND is run, audit, gen, prove, check, price, ship, follow, move, cut, serve or host: what its
+outcome reaches, alone. Lines are those of definitions, without comments and blank lines, and with
+the heads of the modules around them; `--count` tells the others apart. Definitions of proofs alone
+stand in the folder specs/steps/ of their crate. Ends with status 1 where a name is not found, and
+tells it.
 """
 import collections
 import heapq
@@ -25,17 +26,19 @@ import sys
 
 import resolve
 import statement_page
-from chapters import CHAPTERS, HISTORY, LAW, SHARED, chapters_of
+from chapters import CHAPTERS, HISTORY, LAW, SHARED, SHARED_BY, WORDS, chapters_of
 from resolve import Repository, definition_key
 
 STEPS = "steps"  # the folder in specs/ of what is of proofs alone
+LATE = ("type", "constant")
 CALLS = [("call", "hosed", "lib", "offline_ended"), ("call", "hosed", "lib", "hosed_ended"),
          ("call", "hosed_program", "hosting", "host_ended"),
          ("call", "hosed_program", "starting", "start")]
 OUTCOMES = {"run": "RunOutcome", "audit": "AuditOutcome", "gen": "GenOutcome",
             "prove": "ProveOutcome", "check": "CheckOutcome", "price": "PriceOutcome",
             "ship": "ShipOutcome", "follow": "FollowOutcome",
-            "move": "MoveOutcome", "cut": "CutOutcome", "serve": "ServeOutcome", "host": "HostOutcome"}
+            "move": "MoveOutcome", "cut": "CutOutcome", "serve": "ServeOutcome",
+            "host": "HostOutcome"}
 
 
 class Statement:
@@ -105,24 +108,45 @@ class Statement:
         if crate == "hose_law":
             return HISTORY
         if not self.of[key]:
-            return len(self.chapters) - 1
+            return len(self.chapters) - 1 - (module in WORDS.get(crate, "").split())
         if len(self.of[key]) == 1:
             return len(CHAPTERS) + list(self.outcomes).index(*self.of[key])
-        return SHARED
+        return next((place for commands, place in SHARED_BY.items()
+                     if self.of[key] <= set(commands.split())), SHARED)
 
     def ordered(self, keys):
-        """The chapters that have nodes, with these: each node after those that it uses."""
+        """The chapters that have nodes, with these: each node after those that it uses. What is
+        not explained by definitions, types and constants, stands where it is used first."""
         keys = set(keys)
         uses = {key: {other for other in self.repository.node(key).uses
                       if other in keys and other != key} for key in keys}
-        chapter = {}
-        for key in topological(uses, self.rank, lambda key: None):
-            chapter[key] = max([self.home(key), *(chapter[other] for other in uses[key])])
+        users, chapter = users_of(uses), {}
+        order = list(topological(uses, self.rank, lambda key: None))
+        for key in order:
+            home = 0 if key[0] in LATE and users[key] else self.home(key)
+            chapter[key] = max([home, *(chapter[other] for other in uses[key])])
+        for key in reversed(order):
+            if key[0] in LATE and users[key]:
+                chapter[key] = min(chapter[other] for other in users[key])
         found = collections.defaultdict(list)
         for key in topological(uses, lambda key: (chapter[key], self.rank(key)),
                                lambda key: (chapter[key], self.repository.node(key).path)):
             found[chapter[key]].append(key)
+        for inside in found.values():
+            self.put_late(inside, users)
         return [(self.chapters[place], found[place]) for place in sorted(found)]
+
+    def put_late(self, keys, users):
+        """Puts types and constants right before the file of the first that uses them."""
+        for key in [key for key in reversed(keys) if key[0] in LATE]:
+            at = keys.index(key)
+            place = next((place for place in range(at + 1, len(keys))
+                          if keys[place] in users[key]), at)
+            path = self.repository.node(keys[place]).path
+            while self.repository.node(keys[place - 1]).path == path and place - 1 > at:
+                place -= 1
+            keys.insert(place, key)
+            del keys[at]
 
     # ---- figures
 
@@ -139,14 +163,20 @@ class Statement:
                 for definition in file.definitions]
 
 
+def users_of(uses):
+    """Of each of these those that use it."""
+    found = collections.defaultdict(set)
+    for key, others in uses.items():
+        for other in others:
+            found[other].add(key)
+    return found
+
+
 def topological(uses, rank, group):
     """The keys in an order in which each stands after those that it uses: as long as there is one,
     the next of the same group, else the lowest rank."""
     left = {key: len(others) for key, others in uses.items()}
-    users = collections.defaultdict(list)
-    for key, others in uses.items():
-        for other in others:
-            users[other].append(key)
+    users = users_of(uses)
     heap, groups, done, last = [], collections.defaultdict(list), set(), None
 
     def offer(key):

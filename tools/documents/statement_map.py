@@ -54,9 +54,13 @@ def placed(boxes, width, most):
 
 def drawn_edges(boxes, edges, places, blocks):
     """A line for each edge. Of a row that takes several lines there is one for all its boxes; one
-    that would go behind the boxes of a row goes around them, on the left."""
+    that would go behind boxes goes around them: on the left, or below those between two of a
+    row."""
     row = {box.number: box.row for box in boxes}
     order = {number: place for place, number in enumerate(sorted(set(row.values())))}
+    lefts = collections.defaultdict(list)
+    for number in row:
+        lefts[row[number]].append(places[number][0])
 
     def place(number):
         return blocks.get(row[number], (*places[number], HEIGHT))
@@ -64,15 +68,18 @@ def drawn_edges(boxes, edges, places, blocks):
     found, lane = {}, MARGIN
     for upper, lower in edges:
         above, below = place(upper), place(lower)
+        if above == below or (above, below) in found:
+            continue
         if order[row[lower]] - order[row[upper]] > 1:
             lane -= 5
-            made = around(above, below, max(lane, 2) - MARGIN + min(above[0], below[0]))
+            first = below[0] <= min(lefts[row[lower]])
+            made = around(above, below, max(lane, 2) - MARGIN + min(above[0], *lefts[row[lower]]),
+                          first)
         elif row[lower] == row[upper]:
-            left, right = sorted((above, below))
-            made = f"M{left[0] + left[2]:.1f} {left[1] + HEIGHT / 2}H{right[0]:.1f}"
+            made = beside(*sorted((above, below)), lefts[row[lower]])
         else:
             made = downward(above, below)
-        found[made] = f'<path d="{made}"/>'
+        found[above, below] = f'<path d="{made}"/>'
     return found.values()
 
 
@@ -83,15 +90,30 @@ def downward(above, below):
     return f"M{x:.1f} {y}C{x:.1f} {middle} {to_x:.1f} {middle} {to_x:.1f} {to_y}"
 
 
-def around(above, below, x):
+def around(above, below, x, first):
+    """On the left of all between; to the first of a row from the left, to another from above."""
     y, to_y = above[1] + above[3] / 2, below[1] + below[3] / 2
-    return f"M{above[0]:.1f} {y}H{x:.1f}V{to_y}H{below[0]:.1f}"
+    if first:
+        return f"M{above[0]:.1f} {y}H{x:.1f}V{to_y}H{below[0]:.1f}"
+    to_x = below[0] + below[2] / 2
+    return f"M{above[0]:.1f} {y}H{x:.1f}V{below[1] - BETWEEN / 2}H{to_x:.1f}V{below[1]}"
+
+
+def beside(left, right, lefts):
+    """Between two boxes of a row, whose boxes begin here; below those that stand between them."""
+    if not any(left[0] < other < right[0] for other in lefts):
+        return f"M{left[0] + left[2]:.1f} {left[1] + HEIGHT / 2}H{right[0]:.1f}"
+    x, to_x, y = right[0] + right[2] / 2, left[0] + left[2] / 2, left[1] + HEIGHT
+    deep = y + BETWEEN / 2
+    return f"M{x:.1f} {y}C{x:.1f} {deep} {to_x:.1f} {deep} {to_x:.1f} {y}"
 
 
 def drawn_box(box, place, most_lines):
     left, top, size = place
     middle, bar = left + size / 2, (size - 16) * box.lines / most_lines
     small = ' class="small"' if len(box.title) * 8 > size - 10 else ""
+    if len(box.title) * 6.5 > size - 8:
+        small += f' textLength="{size - 8:.1f}" lengthAdjust="spacingAndGlyphs"'
     return (f'<a href="#chapter{box.number}" class="{box.kind}">'
             f'<rect x="{left:.1f}" y="{top}" width="{size:.1f}" height="{HEIGHT}" rx="5"/>'
             f'<text{small} x="{middle:.1f}" y="{top + 16}">{html.escape(box.title)}</text>'

@@ -158,17 +158,22 @@ class Links:
                         todo.append(other)
         return found
 
-    def called(self, name):
-        """The one definition of this name, or else the one node; None where there is none."""
+    def called(self, name, beside=()):
+        """The one definition of this name, or else the one node; of several the one that uses one
+        of those beside it, or is used by one. None where there is none."""
         found = self.named.get(name, [])
         found = [key for key in found if key[0] == "definition"] or found
+        if len(found) > 1:
+            found = [key for key in found
+                     if any(other in self.uses[key] or key in self.uses[other] for other in beside)]
         return found[0] if len(found) == 1 else None
 
-    def target(self, words):
+    def target(self, words, beside=()):
         """The place that DEFINITION or DEFINITION.FIELD names, or None."""
         name, _, field = words.partition(".")
-        key = self.called(words) or self.called(name)
-        if key is None or field and self.called(words) is None and field not in self.members[key]:
+        whole = self.called(words, beside)
+        key = whole or self.called(name, beside)
+        if key is None or field and whole is None and field not in self.members[key]:
             return None
         return self.spot(key, field)
 
@@ -311,8 +316,10 @@ class Page:
         found = collections.defaultdict(list)
         for head, *rows in markdown.tables(read(self.top, PROOFS)):
             for row in rows if len(head) == 2 else ():
-                for name in re.findall(r"`([A-Za-z_]\w*)[^`]*`", row[1]):
-                    key = self.links.called(name)
+                names = re.findall(r"`([A-Za-z_]\w*)[^`]*`", row[1])
+                beside = {self.links.called(name) for name in names} - {None}
+                for name in names:
+                    key = self.links.called(name, beside)
                     if key is not None and row[0] not in found[key]:
                         found[key].append(row[0])
         return found
@@ -326,9 +333,10 @@ class Page:
 
         def made(text):
             nonlocal last
+            beside = () if last is None else (last,)
             name = text.partition(".")[0]
-            key = self.links.called(text) or self.links.called(name)
-            place = self.links.target(text)
+            key = self.links.called(text, beside) or self.links.called(name, beside)
+            place = self.links.target(text, beside)
             if key is not None:
                 last = key
             elif last is not None and text in self.links.members[last]:
@@ -341,8 +349,9 @@ class Page:
         around = {*self.links.uses[key], *self.links.users[key]}
 
         def made(text):
-            other = self.links.called(text) or self.links.called(text.partition(".")[0])
-            place = self.links.target(text)
+            other = (self.links.called(text, (key,))
+                     or self.links.called(text.partition(".")[0], (key,)))
+            place = self.links.target(text, (key,))
             if place is None or other == key or other not in around and other[1:3] != key[1:3]:
                 return markdown.code(text)
             return coded(place, text)
@@ -409,7 +418,7 @@ class Page:
     def reading(self):
         text = read(self.top, READING)
         return text and (f'<section id="reading"><h2>How a definition is read</h2>\n'
-                         f'{markdown.to_html(text)}</section>')
+                         f'{markdown.to_html(text, self.named())}</section>')
 
     def tour(self):
         text = markdown.section(read(self.top, PROOFS), TOUR)
@@ -484,15 +493,24 @@ class Page:
             self.used(key), "</article>"])
 
     def beside(self, key):
-        """The examples of a node, and what the promises say of it."""
+        """The examples of a node, or those of what it names that have some; and what the promises
+        say of it."""
         found = [f'<div class="shows"><b>Example</b> {self.example(one)}</div>'
                  for one in self.shown_by[key]]
+        others = [link(anchor(other), self.links.node[other].name)
+                  for other in self.links.uses[key] if self.is_shown(other)]
+        if others and not found:
+            found.append(f'<div class="used">Examples at {", ".join(others)}</div>')
         said = self.said.get(key, ())
         if said:
             rows = "".join(f"<li>{markdown.inline(row)}</li>" for row in said)
             found.append(f'<details class="said"><summary>What {PROOFS} promises by it '
                          f'({len(said)})</summary><ul>{rows}</ul></details>')
         return "".join(found)
+
+    def is_shown(self, key):
+        """A fact is proved of it on the star, and not just a value given."""
+        return any(one.lines is not None for one in self.shown_by[key])
 
     def rests(self, key):
         below = self.links.below[key]
@@ -501,10 +519,12 @@ class Page:
         found = [self.links.keys[place] for place in bits(below)]
         count = sum(other[0] == "definition" for other in found)
         lines = sum(self.links.lines[other] for other in found)
+        told = (f'{number(count, "definition")} of {number(lines, "line")} in all' if count
+                else "no definition, but on " + number(len(found), "other name"))
         at_once = ", ".join(link(anchor(other), self.links.node[other].name)
                             for other in self.links.uses[key])
-        return (f'<details class="rests"><summary>Rests on {number(count, "definition")} of '
-                f'{number(lines, "line")} in all</summary><p>At once: {at_once}</p></details>')
+        return (f'<details class="rests"><summary>Rests on {told}</summary>'
+                f'<p>At once: {at_once}</p></details>')
 
     def used(self, key):
         users = self.links.users[key]

@@ -6,7 +6,9 @@ import io
 import os
 import tempfile
 import unittest
+from unittest import mock
 
+import chapters
 import definitions
 import resolve
 import statement
@@ -233,6 +235,25 @@ class SmallTree(unittest.TestCase):
                 self.assertLess(place[other], place[key] + (other == key))
         self.assertEqual(max(place, key=place.get), GO)
 
+    def test_types_stand_before_the_file_that_uses_them_first(self):
+        made = small()
+        paths = [made.repository.node(key).path.rpartition("/")[2]
+                 for _, keys in made.ordered(made.reached) for key in keys]
+        for first, then in (("limits.rt", "Sizes.antt"), ("pile.rt", "Shapes.antt"),
+                            ("line.rt", "Shapes.antt")):
+            place = len(paths) - paths[::-1].index(first)
+            after = [path for path in paths[place:] if path.endswith(".antt")]
+            self.assertEqual(after[0], then)
+
+    def test_what_two_commands_share_alone(self):
+        key = ("definition", "other", "Any", "Any")
+        for of, title in (({"move", "cut"}, "Moved journals"), ({"move"}, "move"),
+                          ({"move", "run"}, "What commands share"), ((), "The calls")):
+            made = mock.Mock(spec=Statement, of={key: of}, outcomes=statement.OUTCOMES,
+                             chapters=statement.chapters_of(statement.OUTCOMES))
+            self.assertEqual(made.chapters[Statement.home(made, key)].title, title)
+        self.assertEqual(set(chapters.ABOUT), set(statement.OUTCOMES))
+
     def test_by_command(self):
         made = small()
         of = {key[3]: made.of[key] for key in made.reached if key[0] == "definition"}
@@ -396,3 +417,18 @@ class Repository(unittest.TestCase):
                 uses = set(self.made.repository.node(key).uses) - {key}
                 self.assertLessEqual(uses, seen)
         self.assertEqual(seen, self.made.reached)
+
+    def test_no_chapter_begins_with_types_that_it_uses_later(self):
+        """A type stands before the file that uses it first, and no other definitions between."""
+        ordered = self.made.ordered(self.made.reached)
+        uses = {key: self.made.repository.node(key).uses for _, keys in ordered for key in keys}
+        for chapter, keys in ordered:
+            for place, key in enumerate(keys):
+                users = [other for other in keys[place + 1:] if key in uses[other]]
+                if key[0] in statement.LATE and users:
+                    path = self.made.repository.node(users[0]).path
+                    between = keys[place + 1:keys.index(users[0])]
+                    with self.subTest(chapter=chapter.title, key=key):
+                        self.assertEqual([other for other in between
+                                          if other[0] not in statement.LATE
+                                          and self.made.repository.node(other).path != path], [])

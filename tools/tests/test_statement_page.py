@@ -165,6 +165,28 @@ class SmallTree(unittest.TestCase):
         for more in ({}, MORE):
             self.assertEqual(leading_nowhere(Reader(made(more))), [])
 
+    def test_what_has_no_example_names_what_has_one(self):
+        page = made(MORE)
+        article = page[page.index('<article id="top-Ends-StayOutcome"'):]
+        self.has(article[:article.index("</article>")],
+                 '<div class="used">Examples at <a href="#base-Shapes-far">far</a></div>')
+
+    def test_what_rests_on_types_alone(self):
+        page = made()
+        article = page[page.index('<article id="base-limits-MOST"'):]
+        self.has(article[:article.index("</article>")],
+                 "<summary>Rests on no definition, but on 1 other name</summary>")
+
+    def test_a_name_of_several_is_that_of_what_stands_beside(self):
+        found = small()
+        links = statement_page.Page(found, found.reached, "").links
+        far, size, stay = map(links.called, ("far", "IsSmall", "StayOutcome"))
+        links.named["both"] = [far, size]
+        self.assertIsNone(links.called("both"))
+        self.assertEqual(links.called("both", [stay]), far)
+        self.assertEqual(links.target("both", [stay]), "base-Shapes-far")
+        self.assertIsNone(links.called("both", [links.called("Ends")]))
+
     def test_names_in_words(self):
         found = small()
         links = statement_page.Page(found, found.reached, "").links
@@ -191,6 +213,20 @@ class Parts(unittest.TestCase):
         edges = {("d", "c"), ("d", "b"), ("d", "a"), ("c", "a"), ("b", "a")}
         self.assertEqual(statement_map.reduced(edges),
                          [("b", "a"), ("c", "a"), ("d", "b"), ("d", "c")])
+
+    def test_no_line_of_the_map_goes_behind_a_box(self):
+        left, right, first = (10, 0, 40), (110, 0, 40), (10, 80, 40)
+        self.assertEqual(statement_map.beside(left, right, [10, 110]), "M50.0 21.5H110.0")
+        self.assertEqual(statement_map.beside(left, right, [10, 60, 110]),
+                         "M130.0 43C130.0 56.0 30.0 56.0 30.0 43")
+        self.assertEqual(statement_map.around((10, 0, 40, 43), (*first, 43), 5, True),
+                         "M10.0 21.5H5.0V101.5H10.0")
+        self.assertEqual(statement_map.around((10, 0, 40, 43), (110, 80, 40, 43), 5, False),
+                         "M10.0 21.5H5.0V67.0H130.0V80")
+        boxes = [Box(place, "title", "text", row, 10) for place, row in enumerate((2, 1, 1, 1), 1)]
+        places, _, blocks = statement_map.placed(boxes, 360, 2)
+        drawn = statement_map.drawn_edges(boxes, [(2, 1), (3, 1), (4, 1), (3, 2)], places, blocks)
+        self.assertEqual(len(drawn), 1)
 
     def test_no_two_boxes_of_the_map_meet(self):
         boxes = [Box(place, "title", "text", row, 10) for place, row in
@@ -253,11 +289,10 @@ class Whole(unittest.TestCase):
             self.assertTrue(self.page.shown_by[self.page.links.called(name)], name)
 
     def test_each_name_of_the_tour_leads_somewhere(self):
-        tour = markdown.section(statement_page.read(TOP, statement_page.PROOFS),
-                                statement_page.TOUR)
-        names = [name for name in re.findall(r"`([^`]+)`", tour) if re.search(r"[A-Z_]", name)]
+        found = re.findall(r'(">)?<code>([^<]+)</code>', self.page.tour())
+        names = [(leads, name) for leads, name in found if re.search(r"[A-Z_]", name)]
         self.assertGreater(len(names), 30)
-        self.assertEqual([name for name in names if self.page.links.target(name) is None], [])
+        self.assertEqual([name for leads, name in names if not leads], [])
 
     def test_each_example_shows_something(self):
         self.assertEqual([one.place for one in self.page.examples if one.lines is not None

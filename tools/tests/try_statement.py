@@ -90,7 +90,7 @@ class Tries(unittest.TestCase):
     def test_the_way_from_the_calls_and_back(self):
         self.browser.open(self.page + "#hose_law-Matrix-IsWithinRates")
         way = self.value(WAY)
-        self.assertEqual((way[0], way[-2:]), ("offline", ["Carry", "IsWithinRates"]))
+        self.assertEqual((way[0], way[-2:]), ("offline_ended", ["Carry", "IsWithinRates"]))
         self.goes("[...document.querySelectorAll('#path a')].slice(-2)[0]")
         self.assertEqual(self.value(WAY), way[:-1])
         self.assertEqual(self.value("document.querySelector('#back').textContent"),
