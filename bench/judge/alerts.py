@@ -262,10 +262,11 @@ def faults_of_standbys(server, watch, standby):
     """A follower that is stopped while customers order and then does not answer, and a standby.py
     that is gone."""
     follower = child_of(standby, "follow")
+    Watch.write(server.folder, "silent", "")  # no other one answers, however long it takes
     os.kill(follower, signal.SIGSTOP)
     server.replies(*["admit a:1 b:1"] * BEHIND)
     watch.wait("HosedStandbyBehind")
-    with open(server.at("silent"), "wb"):
+    with contextlib.suppress(ProcessLookupError):  # standby.py ends one that is silent for long
         os.kill(follower, signal.SIGKILL)
     watch.wait("HosedStandbyMissing")
     server.end(standby)
