@@ -15,8 +15,8 @@ if [ "${1-}" = -l ]; then
     logs=$2
     shift 2
 fi
-all=(admits book codec commands decisions journal json long_lines maintenance moves orders quotes
-    serve standby store takes topology)
+all=(admits book codec commands decisions host journal json long_lines maintenance moves orders
+    quotes serve standby store takes topology)
 scripts=("$@")
 if (($# == 0)); then scripts=("${all[@]/%/.sh}"); fi
 mkdir -p "$logs"
@@ -55,7 +55,7 @@ DOCUMENT, BEGIN, END = "docs/FIGURES.md", "<!-- figures -->\n", "<!-- end of fig
 HEAD = "| Figure | Reference in the same run | Ratio | Script |\n|---|---|---|---|\n"
 IDLE = 0.3  # processors at work, at most
 LEFT_OUT = re.compile(r"^files: |^load: ")  # where files lie, and lines of a table of their own
-BESIDE = re.compile(r"; (?:reference: |(?=echo |loop ))")
+BESIDE = re.compile(r"; (?:reference: |(?=echo |loop |serve ))")
 # Rows that show no more than those beside them: a second reference, the cheap places of a book, few
 # and many sessions, and comparisons between the rows that stay, of which one is the dearest.
 SAME = re.compile(r"^the same$|release of the (?:youngest|oldest) |^(?:1|16) workers .*: sessions|"
