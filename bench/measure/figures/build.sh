@@ -21,19 +21,44 @@ is_new() {
     [[ -z $newer ]]
 }
 
+# Prints the lines of crates.txt for the program, and for what it stands on.
+lines() {
+    awk -F: -v needs="$(<"$sources/libraries.txt")" -v last="$crate" '
+        { sub(/#.*/, "") }
+        /:/ { names[++count] = $1; of[$1] = $2 }
+        END {
+            names[++count] = last
+            of[last] = " " needs
+            wanted[last] = 1
+            for (at = count; at > 0; at--) {
+                if (!(names[at] in wanted)) continue
+                found = split(of[names[at]], below, " ")
+                for (one = 1; one <= found; one++) wanted[below[one]] = 1
+            }
+            for (at = 1; at <= count; at++)
+                if (names[at] in wanted) print names[at] ":" of[names[at]]
+        }' crates.txt
+}
+
+# By the gate over these crates, which proves none that it has kept; without the wrong bodies that
+# it would try as well.
 build() {
-    local folder
+    local folder below
     work=$(mktemp -d)
     trap 'rm -rf "$work"' EXIT
     folder=$work/crates/$crate
     mkdir "$work/.git"
     cp HANDLES "$work"
-    tar -c --exclude=out crates | tar -x -C "$work"
+    lines >"$work/crates.txt"
+    mkdir "$work/crates"
+    for below in $(cut -d : -f 1 "$work/crates.txt"); do
+        [[ $below == "$crate" ]] ||
+            tar -c --exclude=out --exclude=must-fail "crates/$below" | tar -x -C "$work"
+    done
     cp -R "$sources" "$folder"
     rm "$folder/libraries.txt"
     find "$folder" -type f -name '*.txt' -exec sh -c 'mv "$1" "${1%.txt}"' - {} \;
-    { cat crates.txt && echo "$crate: $(<"$sources/libraries.txt")"; } >"$work/crates.txt"
-    (cd "$folder" && rt run </dev/null >"$work/log" 2>&1) || {
+    (cd "$work" && rt ci </dev/null >"$work/log" 2>&1) || {
         tail -n 20 "$work/log" >&2
         return 1
     }
