@@ -8,7 +8,7 @@ what a run with a journal and a session of a server are asked; a certificate of 
 judged; and `vpns` and `admit-after` in sessions up to the twelfth. An entry of 64 endpoints and 511
 links, with the longest name, is the largest that there is. `run` without a journal, `prove`,
 `price` and `gen` are at their largest in line.cases, large.cases, prove.cases, price_networks.cases
-and gen.cases. A host has no file here: the scripts of crates/cases_host have networks of two nodes.
+and gen.cases. A host has no file here: bench/judge/reasons.py has one of 64 endpoints.
 
 Journals and packets are spelled by move_cases.py and packets.py; what is replied, and what an audit
 tells, is by planner.py, but for the reservations of the largest entry, which are by hand.
