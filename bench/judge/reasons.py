@@ -8,10 +8,11 @@ that is wrong, missing or empty, or the name of no node; a file that is not ther
 not, rights that are missing, a journal that another program holds; a port that is taken, a path
 where no socket can, or one that another program serves; a disk that fails as a move writes to it.
 Where who reads the output has gone there is no sentence. A host's port is open at 127.0.0.1 alone,
-and a socket that nobody serves is taken over. Two trials have as many words as their command takes.
-Files that no words name lie beside, and have to stay as they are; a socket has to be gone. Ends
-with status 1 where a status, a sentence, an output that is written here or such a file is another
-one. The gate runs it, since no clause says what `main` does around the one call that it makes.
+and a socket that nobody serves is taken over. Two trials have as many words as their command takes,
+and a host with a standby takes orders of as many endpoints as there may be. Files that no words
+name lie beside, and have to stay as they are; a socket has to be gone. Ends with status 1 where a
+status, a sentence, an output that is written here or such a file is another one. The gate runs it,
+since no clause says what `main` does around the one call that it makes.
 
 usage: bench/judge/reasons.py [PROGRAM]
 
@@ -462,7 +463,7 @@ def standbys(trials):
                 follow = subprocess.Popen([trials.program, "follow", "net.txt", follower],
                                           cwd=trials.folder, stdin=taken, stdout=taken)
             if status == 16:
-                order_at(trials.path("any"))
+                told_at(trials.path("any"), "hello acme\nadmit a:1 b:1\nbye\n")
                 follow.kill()
             output, error = host.communicate(timeout=SECONDS)
             follow.wait(SECONDS)
@@ -473,13 +474,13 @@ def standbys(trials):
               f"{error.rstrip()} {output!r}")
 
 
-def order_at(path):
-    """An order at a host's socket. Once it was told the standby has it."""
+def told_at(path, text):
+    """What is replied at a host's socket. Once an order was told its standby has it."""
     with socket.socket(socket.AF_UNIX) as peer:
         peer.settimeout(SECONDS)
         peer.connect(path)
-        peer.sendall(b"hello acme\nadmit a:1 b:1\nbye\n")
-        peer.makefile().read()
+        peer.sendall(text.encode())
+        return peer.makefile().read()
 
 
 def most_words(trials):
@@ -501,6 +502,48 @@ def most_words(trials):
                  f"words {len(words) + ENDS + 1}\n")
 
 
+def most_ends(trials):
+    """After `most_words`: a host and its standby take orders of the most endpoints."""
+    ends = " ".join(f"n{leaf}:1" for leaf in range(ENDS))
+    links = " ".join(f"{leaf}:1" for leaf in range(ENDS))
+    named, hops = f"cost {ENDS} ends {ends} links {links}", ["--tariff", "hops"]
+    book = ("epoch 4\n" + "".join(f"link {leaf} n{leaf} h capacity 10 cost 1 load 2\n"
+                                  for leaf in range(ENDS))
+            + f"vpn 2 acme {named}\nvpn 3 acme {named}\nlive 2 cost {2 * ENDS}\n")
+    with tempfile.TemporaryDirectory() as folder, socket.socket(socket.AF_UNIX) as door:
+        path = os.path.join(folder, "door")
+        door.bind(path)
+        door.listen()
+        host = subprocess.Popen(
+            [trials.program, "host", *hops, "--operator", "./operator", "--quiet", "--standby",
+             path, "--standby-or-stop", "wide.txt", "most", "./any"], cwd=trials.folder, text=True,
+            stdin=subprocess.DEVNULL, stdout=subprocess.PIPE, stderr=subprocess.PIPE)
+        taken, _ = door.accept()
+    try:
+        with taken:
+            follow = subprocess.Popen([trials.program, "follow", *hops, "wide.txt", "follows"],
+                                      cwd=trials.folder, stdin=taken, stdout=taken)
+        replies = told_at(trials.path("any"), f"hello acme\nadmit {ends}\nshow 1\nquote {ends}\n"
+                          f"take 1\nadmit-after 2 {ends}\nvpns\nrelease 1\nbye\n")
+        replies += told_at(trials.path("operator"), "hello operator\nend\n")
+        output, error = host.communicate(timeout=SECONDS)
+    finally:
+        host.kill()
+    follow.wait(SECONDS)
+    plan = f"links {links}"
+    same = (host.returncode, error, output, replies) == (
+        0, "", f"ready\n{book}",
+        f"welcome at 0\nadmitted 1 cost {ENDS} at 1 {plan}\nvpn 1 cost {ENDS} at 1 ends {ends} "
+        f"{plan}\nquoted 1 cost {ENDS} at 1 {plan}\nadmitted 2 cost {ENDS} at 2 {plan}\n"
+        f"admitted 3 cost {ENDS} at 3 {plan}\nvpns 1 2 3 at 3\nreleased 1 at 4\nbye\n"
+        "welcome at 4\nending at 4\n") and trials.are_beside()
+    trials.wrong += not same
+    print(f"{'as wanted' if same else 'OTHERWISE'}: host of {ENDS} endpoints: {host.returncode} "
+          f"{error.rstrip()}{'' if same else replies + output}")
+    for journal in ("most", "follows"):
+        trials.comes(["audit", *hops, "wide.txt", journal], 0, None, "", book)
+
+
 def main(words):
     if "--help" in words or "-h" in words or len(words) > 1:
         print(__doc__.strip())
@@ -513,7 +556,7 @@ def main(words):
         trials.lay_beside()
         for part in (words_that_are_wrong, topologies, streams, journals, closed_error, files,
                      limits, ports, inputs, moves, cuts, commands, serves, hosts, standbys,
-                     most_words):
+                     most_words, most_ends):
             part(trials)
     finally:
         shutil.rmtree(folder)

@@ -104,8 +104,8 @@ class FakeEtcd:
 
 
 @contextmanager
-def served(fake):
-    """The URL at which it answers."""
+def served(fake, tls=None):
+    """The URL at which it answers; with a context for it by https."""
     class Handler(http.server.BaseHTTPRequestHandler):
         protocol_version = "HTTP/1.1"
 
@@ -127,10 +127,12 @@ def served(fake):
             pass
 
     server = http.server.ThreadingHTTPServer(("127.0.0.1", 0), Handler)
+    if tls:
+        server.socket = tls.wrap_socket(server.socket, server_side=True)
     server.daemon_threads, server.handle_error = True, lambda *_: None  # who asked may have gone
     threading.Thread(target=server.serve_forever, args=(0.01,), daemon=True).start()
     try:
-        yield f"http://127.0.0.1:{server.server_address[1]}"
+        yield f"http{'s' if tls else ''}://127.0.0.1:{server.server_address[1]}"
     finally:
         server.shutdown()
         server.server_close()
