@@ -1,13 +1,17 @@
 pub mod Arrivals
+pub mod Asked
 pub mod Behind
 pub mod Carried
 pub mod Compared
 pub mod Followed
 pub mod Lines
 pub mod Linked
+pub mod Meeting
 pub mod OneAnswer
 pub mod OneState
 pub mod Present
+pub mod Ran
 pub mod Standby
+pub mod Stored
 pub mod Together
 pub mod Values
