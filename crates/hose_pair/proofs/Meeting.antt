@@ -1,14 +1,13 @@
 -- One run that meets all that `law_standby` supposes: what its host leads by, what its follower
 -- answers, and all of it together.
-use Rattle.std.proofs.Common.{◌≡◌, ◌≢◌, ◌∙◌, inl, inr, ℕ, zero, suc, ◌<◌, ◌≤◌, Bool, List, [], ◌∷◌, ◌++◌, All, Contains, None, Option, Some, length, replicate, refl, sym, ap, subst, arith, append-nil}
+use Rattle.std.proofs.Common.{◌≡◌, ◌≢◌, ◌∙◌, inl, inr, ℕ, zero, suc, ◌<◌, Bool, List, [], ◌∷◌, ◌++◌, All, None, Option, Some, length, replicate, refl, sym, ap, arith, append-nil}
 use Rattle.std.specs.List.{flat_map}
 use Rattle.std.proofs.lemmas.List.Elements.{All-cons, All-nil}
-use Rattle.byteorder.specs.Numbers.{length-bytes_high_first}
 use Rattle.hose_graph.specs.Network.{Network}
 use Rattle.hose_graph.specs.declared.entry.Entry.{Entry}
 use Rattle.hose_law.proofs.Epochs.{epoch_is}
 use Rattle.hose_book.specs.declared.books.Committed.TheVariants as committed
-use Rattle.hose_codec.specs.Spelling.{IsEntry, spelling}
+use Rattle.hose_codec.specs.Spelling.{IsEntry}
 use Rattle.hose_codec.proofs.Entries.{length-spelling}
 use Rattle.hose_disk.specs.declared.disk.Disk.{Ghosts}
 use Rattle.hose_journal.specs.Chain.{chain}
@@ -18,6 +17,7 @@ use Rattle.hose_store.proofs.OneMeaning.{digest_size}
 use Rattle.hose_follow.specs.Answers.{answer_line, offered_text, offered_texts}
 use Rattle.hose_follow.specs.Packet.{IsPacket, Packet, packet_bytes, packets_bytes}
 use Rattle.hose_follow.specs.Replication.{IsLeader, packet_at}
+use Rattle.hose_follow.specs.steps.Replication.{IsReopened}
 use Rattle.hose_follow.specs.steps.Offering.{Enters, IsOffered, epoch_of}
 use Rattle.hose_follow.specs.declared.answers.Offered.{Offered}
 use Rattle.hose_follow.specs.declared.answers.Offered.TheVariants.{Differs, Have, Want}
@@ -26,7 +26,7 @@ use Rattle.hose_pair.specs.steps.Meeting.{IsMet}
 use Rattle.hose_pair.specs.steps.Written.{IsValue, IsWritten}
 use Rattle.hose_pair.proofs.Asked.{order}
 use Rattle.hose_pair.proofs.Lines.{NoFeed, no_feed}
-use Rattle.hose_pair.proofs.Ran.{IsLedSo, about_met, given_more, met, sent_more}
+use Rattle.hose_pair.proofs.Ran.{about_met, given_more, met, sent_more}
 use Rattle.hose_pair.proofs.Values.{chain_value}
 
 -- ---- lists
@@ -283,8 +283,8 @@ module _ (network : Network) where
 -- For each network with a link, whose digest is not 32 bytes of 0, and each follower's store of it
 -- without an order that enters the first one: a run that meets each premise of `law_standby`.
 pub met_by : (network : Network) (path : List ℕ) (may required : Bool) → 0 < length network.links → digest_of network ≢ no_value → {D : Type 0} (disk : Ghosts D) (store left : KeptStore D) → store.ledger.network ≡ network → HasHistory disk store [] None
-    → Enters disk store (first_packet network) order committed.Done left → (image : List ℕ) → disk.may_leave left.journal.disk image → IsMet (about_met network path may required) disk
-met_by network path may required some differs disk store left is_network has enters image leaves =
+    → Enters disk store (first_packet network) order committed.Done left → (image last : List ℕ) (next : KeptStore D) → disk.may_leave left.journal.disk image → IsReopened disk network image next → disk.may_leave next.journal.disk last → IsMet (about_met network path may required) disk
+met_by network path may required some differs disk store left is_network has enters image last next leaves opened rests =
     met network path may required ask_epoch (ask_value 0) ask_have (first_packet network) (Want 1) (Differs 0 (digest_of network) no_value) (Have 0) (Have 1) some
     (record {
       first = first network;
@@ -297,4 +297,4 @@ met_by network path may required some differs disk store left is_network has ent
       behind_order = behind_order network;
     }) disk store left is_network has (a1 network) (a2 network) (a3 network) (a4 network) (w1 network) (w2 network) (w3 network) (w4 network)
     (f1 network disk store is_network has) (f2 network disk store is_network has differs) (f3 network disk store is_network has) (f4 network disk store is_network has left enters)
-    image (leader network some) leaves
+    image last next (leader network some) leaves opened rests

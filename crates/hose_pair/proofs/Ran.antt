@@ -1,19 +1,18 @@
 -- The run of a host and a follower that meets what `law_standby` supposes, step by step, by whatever
 -- packets and answers: what its host leads by, and what its follower answers, are premises here.
-use Rattle.std.proofs.Common.{◌≡◌, ◌≢◌, ◌∙◌, ℕ, ◌<◌, ◌≤◌, ◌^◌, Bool, true, false, List, [], ◌∷◌, ◌++◌, All, None, Some, length, refl, sym, ap, arith, append_assoc, append-nil, length-append}
+use Rattle.std.proofs.Common.{◌≡◌, ◌≢◌, ◌∙◌, ℕ, ◌<◌, ◌≤◌, Bool, true, false, List, [], ◌∷◌, ◌++◌, All, None, Some, length, refl, sym, ap, arith, append_assoc, append-nil, length-append}
 use Rattle.std.specs.List.{flat_map}
 use Rattle.std.specs.Prelude.{⊤}
 use Rattle.std.proofs.lemmas.Bool.{false≢true}
 use Rattle.std.proofs.lemmas.List.Elements.{All-cons, All-nil}
 use Rattle.hose_graph.specs.Network.{Network}
-use Rattle.hose_graph.specs.declared.entry.Entry.{Entry}
 use Rattle.hose_disk.specs.declared.disk.Disk.{Ghosts}
 use Rattle.hose_store.specs.steps.Store.{HasHistory, KeptStore}
 use Rattle.hose_follow.specs.Answers.{answer_line, offered_texts}
 use Rattle.hose_follow.specs.Packet.{IsPacket, Packet, packet_bytes, packets_bytes}
 use Rattle.hose_follow.specs.Replication.{IsLeader}
 use Rattle.hose_follow.specs.steps.Offering.{IsOffered}
-use Rattle.hose_follow.specs.steps.Replication.{at_rest}
+use Rattle.hose_follow.specs.steps.Replication.{IsReopened, at_rest}
 use Rattle.hose_follow.specs.declared.answers.Offered.{Offered}
 use Rattle.hose_lead.specs.Leading.{AnswersBehind, Leads}
 use Rattle.hose_proto.specs.ReplyText.{reply_text}
@@ -22,18 +21,18 @@ use Rattle.hose_net.specs.Happening.{Came, Gave, Got, Happening, LinkStep, Linke
 use Rattle.hose_net.specs.declared.hold.Hold.{Hold}
 use Rattle.hose_net.specs.declared.hold.Hold.TheVariants.{Upto}
 use Rattle.hose_net.specs.steps.MemTrace.{Trace}
-use Rattle.hose_net.specs.Story.{AllServed, Answers, Exchange, Happens, Holds, Hosts, IsByDoor, IsKept, IsKeptAtLink, IsServed, Link, MayAnswer, MayHappen, MayHold, MayLink, Step, Terms, answered, began, bound_in, bound_of, exchanges, happened, held, is_empty, life, lines_of, link_after, link_in, no_link, texts_of}
+use Rattle.hose_net.specs.Story.{AllServed, Answers, Happens, Holds, Hosts, IsByDoor, IsKept, IsKeptAtLink, IsServed, Link, MayAnswer, MayHappen, MayHold, MayLink, Step, Terms, answered, began, bound_in, bound_of, happened, held, is_empty, life, lines_of, link_after, link_in, no_link, texts_of}
 use Rattle.hose_net.proofs.Stories.{bound-answers, bound-happens, life-other, life-other_answers, served_holds, served_linked, served_more, served_now, served_too}
 use Rattle.hose_clerk.specs.HostLines.{HostLine}
 use Rattle.hose_clerk.specs.HostReplies.{host_text}
-use Rattle.hose_clerk.specs.Hosting.{HostState, host_from}
+use Rattle.hose_clerk.specs.Hosting.{host_from}
 use Rattle.hose_clerk.specs.declared.doors.DoorRule.TheVariants.{Any}
 use Rattle.hose_clerk.specs.declared.replies.HostReply.{HostReply}
 use Rattle.hose_clerk.specs.declared.replies.HostReply.TheVariants.{Told as Tells}
 use Rattle.hose_pair.specs.steps.Meeting.{IsMet}
-use Rattle.hose_pair.specs.steps.Standing.{About, Goes, GoesTo, HasStory, IsBegun, IsCarried, IsFresh, MayLeave, ServesAtLink, Standing, WasTold, about_of, joined, offered, served_in, stepped, terms_of, began as at_first, hosts, joins, offers}
+use Rattle.hose_pair.specs.steps.Standing.{About, Goes, HasStory, IsBegun, IsCarried, IsFresh, MayLeave, ServesAtLink, Standing, WasTold, about_of, joined, offered, reopened, restarted, stepped, terms_of, began as at_first, hosts, joins, offers, reopens, restarts}
 use Rattle.hose_pair.specs.steps.Written.{IsWritten}
-use Rattle.hose_pair.proofs.Asked.{Asked, at_greeted, at_ordered, both, both_steps, first_needs, first_step, greeting, greeting_plain, greeting_says, hears_first, hears_order, leads_none, needs_grow, next_step, order, order_needs, order_plain, order_says, ordering}
+use Rattle.hose_pair.proofs.Asked.{Asked, at_greeted, at_ordered, both, both_steps, first_step, greeting, greeting_plain, greeting_says, hears_first, hears_order, leads_none, needs_grow, next_step, order, order_needs, order_plain, order_says, ordering}
 
 abbrev Moves : Type 0
 Moves = Step HostLine HostReply
@@ -546,19 +545,21 @@ module _ (network : Network) (path : List ℕ) (may required : Bool) where
         serves : may ≡ true → ServesAtLink about k16
         serves can = record { may = can; is_link = refl; held = λ alone. absurd (cc alone); served = refl }
 
-        -- each premise
-        pub met : (image : List ℕ) → IsLeader network (order ∷ []) → disk.may_leave left.journal.disk image → IsMet about disk
-        met image leader is = record {
+        -- each premise, and at the end the follower was stopped and opened anew, and the host was
+        -- started anew on its history
+        pub met : (image last : List ℕ) (next : KeptStore D) → IsLeader network (order ∷ []) → disk.may_leave left.journal.disk image → IsReopened disk network image next → disk.may_leave next.journal.disk last → IsMet about disk
+        met image last next leader is opened rests = record {
           start = k0;
           told = k16;
-          end = k16;
+          end = restarted (reopened k16 next) (order ∷ []);
           exchange = ordering required;
           state = at_ordered;
-          image = image;
+          image = last;
           was = was_told;
-          goes = at_first;
+          goes = restarts (order ∷ []) (reopens image next at_first (may_leave image is) opened) ([], refl);
+          leader_then = leader;
           leader = leader;
-          leaves = may_leave image is;
+          leaves = ([], record { are = All-nil IsPacket; unread = []; got = refl }, at_rest rests);
           order = order;
           entered = refl;
           count = order_needs required;

@@ -1,6 +1,6 @@
 -- A follower's store in memory, without an order, and as it enters one: what its disk leaves by the
 -- calls of an append, each of which is done.
-use Rattle.std.proofs.Common.{◌≡◌, ◌≢◌, ◌∙◌, ◌⊎◌, inl, inr, ⊎_elim, ℕ, ◌+◌, ◌<◌, ◌≤◌, Bool, true, false, List, [], ◌∷◌, ◌++◌, None, Option, Some, Global, Vec, codes, get_or, is_some, length, refl, sym, ap, subst, arith, length-append}
+use Rattle.std.proofs.Common.{◌≡◌, ◌≢◌, ◌∙◌, ◌⊎◌, inl, inr, ⊎_elim, ℕ, ◌+◌, ◌<◌, ◌≤◌, Bool, true, false, List, [], ◌∷◌, ◌++◌, None, Option, Some, Global, Vec, codes, get_or, length, refl, sym, ap, subst, arith, length-append}
 use Rattle.std.proofs.lemmas.Bool.{cases_eq}
 use denote.RawPtr.{null_ptr}
 use Rattle.sha2.specs.Sha256.{sha256}
@@ -13,15 +13,14 @@ use Rattle.hose_book.specs.steps.Changes.{opening_recent}
 use Rattle.hose_book.specs.steps.Ledger.{next_ledger, opening_ledger}
 use Rattle.hose_book.specs.declared.books.Committed.TheVariants as committed
 use Rattle.hose_book.proofs.Tracking.{tracks_on}
-use Rattle.hose_codec.specs.Spelling.{IsEntry, spelling}
+use Rattle.hose_codec.specs.Spelling.{spelling}
 use Rattle.hose_disk.specs.declared.disk.Disk.{Ghosts}
 use Rattle.hose_disk.specs.declared.call.DiskCall.TheVariants.{Sync, Write}
-use Rattle.hose_disk.specs.steps.Images.{DiskStep, IsImage, only_now, overwritten, read_of, synced, wrote}
+use Rattle.hose_disk.specs.steps.Images.{only_now, synced, wrote}
 use Rattle.hose_disk.specs.steps.MemState.{MemState, content_of, disk_after_done, fresh_disk, image_of, left_since_of, mem_disk_frame, moment_of}
 use Rattle.hose_disk.specs.steps.Recording.{reads}
 use Rattle.hose_disk.proofs.Images.{elapses, length-overwritten, none_new_synced, only_synced, steps_write}
-use Rattle.hose_journal.specs.Chain.{chain}
-use Rattle.hose_journal.specs.Entries.{Item, entered, record_bytes}
+use Rattle.hose_journal.specs.Entries.{record_bytes}
 use Rattle.hose_journal.specs.Image.{IsClosed, front_of, head}
 use Rattle.hose_journal.specs.Layout.{chained_version}
 use Rattle.hose_journal.specs.Moments.{Images, LeavesOnly}
@@ -30,22 +29,24 @@ use Rattle.hose_journal.specs.declared.layout.TheConstants.{BUFFER_BYTES, CLOSED
 use Rattle.hose_journal.specs.declared.prepared.Ready.{Ready}
 use Rattle.hose_journal.specs.steps.Chain.{Collide}
 use Rattle.hose_journal.specs.steps.Gates.{IsDoubtful, Starts}
-use Rattle.hose_journal.specs.steps.Journal.{Account, IsListAmid, IsReady, Stands, account_with}
+use Rattle.hose_journal.specs.steps.Journal.{Account, IsListAmid, IsReady, IsStopImage, Stands, account_with}
 use Rattle.hose_journal.specs.steps.Moments.{IsTornFrom, Lands}
-use Rattle.hose_journal.proofs.Accounts.{appended, stands_added, stands_amid}
+use Rattle.hose_journal.proofs.Accounts.{stands_added, stands_on}
 use Rattle.hose_journal.proofs.Appends.{before_entry, closed_entry, opened_as, record_is, record_of, until_opened}
 use Rattle.hose_journal.proofs.Chains.{chain_with}
 use Rattle.hose_journal.proofs.Gates.{gate_keeps, gate_lands, stage_keeps, stage_lands}
-use Rattle.hose_journal.proofs.Runs.{goes_on, started, torn_run, weaker}
+use Rattle.hose_journal.proofs.Runs.{goes_on, torn_run, weaker}
 use Rattle.hose_topo.specs.Canonical.{canonical_text}
-use Rattle.hose_store.specs.Recovery.{digest_of}
+use Rattle.hose_store.specs.Recovery.{IsHistoryOf, digest_of}
 use Rattle.hose_store.specs.steps.Commit.{Went}
 use Rattle.hose_store.specs.steps.Store.{HasHistory, KeptStore, account_of}
 use Rattle.hose_store.proofs.Commits.{has_history, went_done}
+use Rattle.hose_store.proofs.Histories.{amid_none}
 use Rattle.hose_store.proofs.OneMeaning.{digest_size}
 use Rattle.hose_follow.specs.steps.Offering.{Enters}
+use Rattle.hose_follow.specs.steps.Replication.{IsReopened}
 use Rattle.hose_lead.specs.Leading.{no_value}
-use Rattle.hose_pair.specs.steps.Meeting.{IsMet}
+use Rattle.hose_pair.specs.steps.Meeting.{IsMet, two_nodes}
 use Rattle.hose_pair.proofs.Asked.{order}
 use Rattle.hose_pair.proofs.Meeting.{first_packet, is_order, met_by, own_value}
 use Rattle.hose_pair.proofs.Ran.{about_met}
@@ -82,7 +83,11 @@ put_lands disk at bytes image is = (reads disk.made, inl refl, only_synced disk.
 
 -- ---- a store
 
-module _ (network : Network) (heap : Global) (some : 0 < length network.links) where
+-- a handle of the heap
+heap : Global
+heap = record { memory = record { seal = tt } }
+
+module _ (network : Network) (some : 0 < length network.links) where
   abbrev digest : List ℕ
   digest = digest_of network
 
@@ -239,14 +244,49 @@ module _ (network : Network) (heap : Global) (some : 0 < length network.links) w
     met = refl;
   }
 
+  -- ---- what is opened anew
+
+  kept : HasHistory mem_ghosts left (order ∷ []) None
+  kept = went.left [] None has
+
+  abbrev image : List ℕ
+  image = reads d2.made
+
+  abbrev anew : Journal MemState
+  anew = record now { disk = fresh_disk image }
+
+  abbrev next : KeptStore MemState
+  next = record { ledger = left.ledger; journal = anew }
+
+  alone : (other : List ℕ) → image_of (fresh_disk image) other → other ≡ image
+  alone other is = ⊎_elim (λ one. one) (λ one. one) is
+
+  stands_anew : Stands mem_ghosts anew (account_of network (order ∷ []) None)
+  stands_anew =
+      let was_so = kept.journal in
+      stands_on mem_ghosts now (account_of network (order ∷ []) None) was_so anew None refl refl refl refl (omega arith) tt
+      (λ other is. subst (IsStopImage was_so.version was_so.items (account_of network (order ∷ []) None)) (sym (alone other is)) (was_so.images image (inl refl)))
+
+  history_is : IsHistoryOf network (order ∷ []) image
+  history_is = amid_none network (order ∷ []) image (kept.images image (inl refl))
+
+  opened_anew : IsReopened mem_ghosts network image next
+  opened_anew = (
+    fresh_disk image,
+    refl,
+    record {
+      history = order ∷ [];
+      network = refl;
+      has = has_history mem_ghosts next (order ∷ []) None kept.book kept.tracks kept.sound tt stands_anew refl;
+      read = history_is;
+      images = λ other is. subst (IsHistoryOf network (order ∷ [])) (sym (alone other is)) history_is;
+    },
+  )
+
   pub met_there : (path : List ℕ) (may required : Bool) → digest_of network ≢ no_value → IsMet (about_met network path may required) mem_ghosts
-  met_there path may required differs = met_by network path may required some differs mem_ghosts store left refl has enters (reads d2.made) (inl refl)
+  met_there path may required differs = met_by network path may required some differs mem_ghosts store left refl has enters image image next (inl refl) opened_anew (inl refl)
 
 -- ---- two networks
-
--- two nodes, of which the second is named so, and a link between them
-abbrev pub two_nodes : List ℕ → Network
-two_nodes name = record { nodes = codes "a" ∷ name ∷ []; links = record { a = 0; b = 1; capacity = 1; length = 1; cost = 1 } ∷ [] }
 
 same_or : (xs ys : List ℕ) → (xs ≡ ys) ⊎ (xs ≢ ys)
 same_or [] [] = inl refl
@@ -274,15 +314,15 @@ other_net = two_nodes (codes "c")
 
 -- At one of two networks all premises are met at once, or two strings that are known have one
 -- SHA-256.
-pub met_somewhere : (heap : Global) (path : List ℕ) (may required : Bool) → IsMet (about_met first_net path may required) mem_ghosts
+pub met_somewhere : (path : List ℕ) (may required : Bool) → IsMet (about_met first_net path may required) mem_ghosts
     ⊎ (IsMet (about_met other_net path may required) mem_ghosts
     ⊎ Collide sha256 (canonical_text first_net ∷ canonical_text other_net ∷ []))
-met_somewhere heap path may required = by (same_or (digest_of first_net) no_value) (same_or (digest_of other_net) no_value)
+met_somewhere path may required = by (same_or (digest_of first_net) no_value) (same_or (digest_of other_net) no_value)
   where
     by : (digest_of first_net ≡ no_value) ⊎ (digest_of first_net ≢ no_value) → (digest_of other_net ≡ no_value) ⊎ (digest_of other_net ≢ no_value)
         → IsMet (about_met first_net path may required) mem_ghosts ⊎ (IsMet (about_met other_net path may required) mem_ghosts ⊎ Collide sha256 (canonical_text first_net ∷ canonical_text other_net ∷ []))
-    by (inr differs) rest = inl (met_there first_net heap (omega arith) path may required differs)
-    by (inl none) (inr differs) = inr (inl (met_there other_net heap (omega arith) path may required differs))
+    by (inr differs) rest = inl (met_there first_net (omega arith) path may required differs)
+    by (inl none) (inr differs) = inr (inl (met_there other_net (omega arith) path may required differs))
     by (inl none) (inl also) = inr (inr (record {
       one = canonical_text first_net;
       other = canonical_text other_net;
