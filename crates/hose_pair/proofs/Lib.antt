@@ -14,4 +14,5 @@ pub mod Ran
 pub mod Standby
 pub mod Stored
 pub mod Together
+pub mod TwoNodes
 pub mod Values

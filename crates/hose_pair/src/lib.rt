@@ -13,6 +13,7 @@
 ghost use Rattle.std.specs.Prelude.{◌≡◌, ◌≢◌, ◌⊎◌, ◌<◌, ◌≤◌, ℕ, ⊤, Bool, true, false, [], ◌∷◌, All, Contains, List, None, Option, Some, ◌++◌, codes, drop, length, take};
 ghost use mathlib.Core.List.{IsPrefix};
 ghost use Rattle.sha2.specs.Sha256.{sha256};
+ghost use Rattle.hose_graph.specs.Network.{IsNetwork};
 ghost use Rattle.hose_graph.specs.declared.entry.Entry.{Entry};
 ghost use Rattle.hose_topo.specs.Canonical.{canonical_text};
 ghost use Rattle.hose_journal.specs.Chain.{chain};
@@ -179,6 +180,7 @@ pub fn law_met(top: &Topology)
         may_be_alone required) ⟦<MemDisk as Disk>⟧
         ⊎ Collide sha256 (canonical_text (two_nodes (codes "b"))
         ∷ canonical_text (two_nodes (codes "c")) ∷ [])) }
+    ensures networks { IsNetwork (two_nodes (codes "b")) × IsNetwork (two_nodes (codes "c")) }
 {}
 
 /// Each beginning of a host's story is a story of it. So what `law_standby` supposes of each moment

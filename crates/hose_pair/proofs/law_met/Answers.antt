@@ -1,4 +1,5 @@
 use Rattle.hose_pair.proofs.Stored.{met_somewhere, met_there}
+use Rattle.hose_pair.proofs.TwoNodes.{both_networks}
 use Rattle.hose_pair.proofs.law_met.Goals as goal
 
 pub returns-clause-here : goal.returns-clause-here
@@ -6,3 +7,6 @@ returns-clause-here c = λ path may_be_alone required some differs. met_there c.
 
 pub returns-clause-somewhere : goal.returns-clause-somewhere
 returns-clause-somewhere c = λ path may_be_alone required. met_somewhere path may_be_alone required
+
+pub returns-clause-networks : goal.returns-clause-networks
+returns-clause-networks c = both_networks
