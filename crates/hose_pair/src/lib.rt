@@ -181,7 +181,14 @@ pub fn law_met(top: &Topology)
         ⊎ Collide sha256 (canonical_text (two_nodes (codes "b"))
         ∷ canonical_text (two_nodes (codes "c")) ∷ [])) }
     ensures networks { IsNetwork (two_nodes (codes "b")) × IsNetwork (two_nodes (codes "c")) }
-{}
+    // And `law_standby`, of each such run, tells that the order is in the image, without more.
+    ensures told { (path : List ℕ) → (may_be_alone required : Bool) →
+        (met : IsMet (about_of ⟦<MemConnections as Connections>⟧.did
+        (⟦<MemConnections as Connections>⟧.saw ⊤) top.now (Any ∷ []) (Some path) may_be_alone
+        required) ⟦<MemDisk as Disk>⟧) → HasOrders top.now (met.order ∷ []) met.image }
+{
+    law_standby::<MemConnections, MemDisk, ()>(top);
+}
 
 /// Each beginning of a host's story is a story of it. So what `law_standby` supposes of each moment
 /// holds where it holds of the last one of each process.
