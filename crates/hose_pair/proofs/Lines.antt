@@ -15,7 +15,7 @@ use Rattle.hose_follow.specs.declared.answers.Offered.TheVariants.{Have, Want, D
 use Rattle.hose_follow.specs.steps.Lines.{HasLine}
 use Rattle.hose_pair.specs.steps.Written.{IsWritten}
 
-abbrev NoFeed : List ℕ → Type 0
+abbrev pub NoFeed : List ℕ → Type 0
 NoFeed bytes = All (λ byte. byte ≢ 10) bytes
 
 -- ---- no answer has a line feed
@@ -33,7 +33,7 @@ both : (one other : List ℕ) → NoFeed one → NoFeed other → NoFeed (one ++
 both one other = All-append (λ byte. byte ≢ 10) one other
 
 -- whether no line feed stands in bytes that are known
-abbrev is_plain_of : List ℕ → Bool
+abbrev pub is_plain_of : List ℕ → Bool
 is_plain_of [] = true
 is_plain_of (byte ∷ bytes) = cond (eqb byte 10) false (is_plain_of bytes)
 
@@ -44,7 +44,7 @@ known_one byte more plain = by (eqb byte 10) refl plain
     by true is at = absurd (false≢true at)
     by false is at = (not_feed byte is, at)
 
-known : (bytes : List ℕ) → is_plain_of bytes ≡ true → NoFeed bytes
+pub known : (bytes : List ℕ) → is_plain_of bytes ≡ true → NoFeed bytes
 known [] plain = All-nil (λ byte. byte ≢ 10)
 known (byte ∷ bytes) plain = All-cons (λ byte. byte ≢ 10) byte bytes (known_one byte (is_plain_of bytes) plain).0 (known bytes (known_one byte (is_plain_of bytes) plain).1)
 

@@ -7,13 +7,15 @@
 //! has to be answers of that follower (`law_heard`), what the follower reads has to be packets that
 //! were sent (`law_arrives`), both have to be of one history (`law_joins`), and the host's own disk
 //! has to have its list (`law_own_disk`). What comes of all this, and of what the host is proved to
-//! do, is `law_standby`.
+//! do, is `law_standby`. That all it supposes can hold at once is `law_met`.
 #![tactic(auto)]
 
-ghost use Rattle.std.specs.Prelude.{◌≡◌, ◌⊎◌, ◌≤◌, ℕ, Bool, true, false, [], All, Contains, List, None, Option, ◌++◌, drop, length, take};
+ghost use Rattle.std.specs.Prelude.{◌≡◌, ◌≢◌, ◌⊎◌, ◌<◌, ◌≤◌, ℕ, ⊤, Bool, true, false, [], ◌∷◌, All, Contains, List, None, Option, Some, ◌++◌, codes, drop, length, take};
 ghost use mathlib.Core.List.{IsPrefix};
 ghost use Rattle.sha2.specs.Sha256.{sha256};
+ghost use Rattle.hose_graph.specs.Network.{IsNetwork};
 ghost use Rattle.hose_graph.specs.declared.entry.Entry.{Entry};
+ghost use Rattle.hose_topo.specs.Canonical.{canonical_text};
 ghost use Rattle.hose_journal.specs.Chain.{chain};
 ghost use Rattle.hose_journal.specs.steps.Chain.{Collide, hashed};
 ghost use Rattle.hose_store.specs.Recovery.{digest_of};
@@ -26,20 +28,23 @@ ghost use Rattle.hose_follow.specs.steps.Offering.{IsOffered};
 ghost use Rattle.hose_follow.specs.steps.Replication.{IsBeginning, IsOfLeader, Replication};
 ghost use Rattle.hose_follow.specs.declared.answers.Offered.{Offered};
 ghost use Rattle.hose_follow.specs.declared.answers.Offered.TheVariants.{Differs};
+ghost use Rattle.hose_lead.specs.Leading.{no_value};
 ghost use Rattle.hose_net.specs.Story.{Exchange, Step, hold_in};
 ghost use Rattle.hose_net.specs.declared.hold.Hold.TheVariants.{Upto};
 ghost use Rattle.hose_clerk.specs.HostLines.{HostLine};
 ghost use Rattle.hose_clerk.specs.Hosting.{HostState};
 ghost use Rattle.hose_clerk.specs.declared.doors.DoorRule.{DoorRule};
+ghost use Rattle.hose_clerk.specs.declared.doors.DoorRule.TheVariants.{Any};
 ghost use Rattle.hose_clerk.specs.declared.replies.HostReply.{HostReply};
+ghost use Rattle.hose_pair.specs.steps.Meeting.{IsMet, two_nodes};
 ghost use Rattle.hose_pair.specs.steps.Orders.{HasOrders};
 ghost use Rattle.hose_pair.specs.steps.Standing.{AnsweredSince, Goes, HasStory, IsFresh, MayLeave, ServesAtLink, Standing, WasTold, about_of};
 ghost use Rattle.hose_pair.specs.steps.Written.{IsWritten};
 
-use hose_disk::Disk;
+use hose_disk::{Disk, MemDisk};
 use hose_follow::law_following;
 use hose_graph::Topology;
-use hose_net::Connections;
+use hose_net::{Connections, MemConnections};
 
 /// Each whole line of what was got of a connection to a follower that is the text of an answer, as
 /// `have N` or `differs at N OWN GIVEN`, is one that it gave, where what was got is a beginning of
@@ -150,6 +155,39 @@ pub fn law_standby<N: Connections, D: Disk, K>(top: &Topology)
         IsPrefix old.host.history new.host.history }
 {
     law_following::<D>(top);
+}
+
+/// All that `law_standby` supposes holds at once of a run over connections and a disk in memory,
+/// whatever the path of the standby, whether the host may go on alone, and whether the standby is
+/// required: so that law is not empty. A follower without an order has the host's link, was
+/// compared, and answered `have 0`; then a greeting and an order of the operator were answered; the
+/// order's packet was sent, entered on the follower's disk and answered `have 1`; both replies were
+/// sent; and then the follower was stopped and opened anew, and the host was started anew.
+pub fn law_met(top: &Topology)
+    // At each network that has a link and whose digest is not the value by which a link asks.
+    ensures here { (path : List ℕ) → (may_be_alone required : Bool) →
+        0 < length top.now.links → digest_of top.now ≢ no_value →
+        IsMet (about_of ⟦<MemConnections as Connections>⟧.did
+        (⟦<MemConnections as Connections>⟧.saw ⊤) top.now (Any ∷ []) (Some path) may_be_alone
+        required) ⟦<MemDisk as Disk>⟧ }
+    // Of one of two networks not even that is supposed, or two strings have one SHA-256.
+    ensures somewhere { (path : List ℕ) → (may_be_alone required : Bool) →
+        IsMet (about_of ⟦<MemConnections as Connections>⟧.did
+        (⟦<MemConnections as Connections>⟧.saw ⊤) (two_nodes (codes "b")) (Any ∷ []) (Some path)
+        may_be_alone required) ⟦<MemDisk as Disk>⟧
+        ⊎ (IsMet (about_of ⟦<MemConnections as Connections>⟧.did
+        (⟦<MemConnections as Connections>⟧.saw ⊤) (two_nodes (codes "c")) (Any ∷ []) (Some path)
+        may_be_alone required) ⟦<MemDisk as Disk>⟧
+        ⊎ Collide sha256 (canonical_text (two_nodes (codes "b"))
+        ∷ canonical_text (two_nodes (codes "c")) ∷ [])) }
+    ensures networks { IsNetwork (two_nodes (codes "b")) × IsNetwork (two_nodes (codes "c")) }
+    // And `law_standby`, of each such run, tells that the order is in the image, without more.
+    ensures told { (path : List ℕ) → (may_be_alone required : Bool) →
+        (met : IsMet (about_of ⟦<MemConnections as Connections>⟧.did
+        (⟦<MemConnections as Connections>⟧.saw ⊤) top.now (Any ∷ []) (Some path) may_be_alone
+        required) ⟦<MemDisk as Disk>⟧) → HasOrders top.now (met.order ∷ []) met.image }
+{
+    law_standby::<MemConnections, MemDisk, ()>(top);
 }
 
 /// Each beginning of a host's story is a story of it. So what `law_standby` supposes of each moment
