@@ -33,6 +33,7 @@ mod Proved
 pub mod Provided
 pub mod PutBack
 mod RunEnds
+mod RunKept
 pub mod Running
 mod Sheets
 mod ShipEnds

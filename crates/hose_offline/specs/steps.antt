@@ -1,4 +1,5 @@
 -- Steps of proofs: what no clause of the top calls names.
+pub mod Answering
 pub mod AuditOutcome
 pub mod CabinetText
 pub mod Ending

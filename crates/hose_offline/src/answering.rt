@@ -1,11 +1,10 @@
 // A run: a topology, and then a reply for each line.
-ghost use Rattle.std.specs.Prelude.{◌≡◌, ◌≢◌, ◌↔◌, ◌+◌, [], ◌<◌, ◌≤◌, ℕ, List, IfSome, IsSome, None, Some, Err, Result, ⊤};
+ghost use Rattle.std.specs.Prelude.{◌≡◌, ◌≢◌, [], ◌≤◌, ℕ, List, IsSome, None, Result, ⊤};
 ghost use Rattle.std.specs.Prelude.{option_map};
 ghost use Rattle.hose_law.specs.History.{IsDecidedAt};
 ghost use Rattle.hose_law.specs.Quotes.{nothing_held};
 ghost use Rattle.hose_law.specs.Script.{ReadLine};
 ghost use Rattle.hose_words.specs.steps.Lines.{Shows};
-ghost use Rattle.hose_words.specs.steps.Reading.{ReadsOn};
 ghost use Rattle.hose_graph.specs.steps.Naming.{NamesPlaces};
 ghost use Rattle.hose_graph.specs.Network.{Network};
 ghost use Rattle.hose_graph.specs.declared.entry.Entry.{Entry};
@@ -17,8 +16,9 @@ ghost use Rattle.hose_store.specs.Beginning.{HasLeft};
 ghost use Rattle.hose_store.specs.steps.Commit.{Closes, store_books};
 ghost use Rattle.hose_store.specs.steps.Store.{KeptStore};
 ghost use Rattle.hose_core.specs.steps.Stepping.{FitsHistory};
+ghost use Rattle.hose_offline.specs.steps.Answering.{KeepsRun};
 ghost use Rattle.hose_offline.specs.steps.Journal.{IsJustOpened, OpensJournal};
-ghost use Rattle.hose_offline.specs.OnDisk.{OthersStay, opening_of};
+ghost use Rattle.hose_offline.specs.OnDisk.{opening_of};
 ghost use Rattle.hose_offline.specs.Parts.{AllStay, parts, tellings};
 ghost use Rattle.hose_offline.specs.RunOutcome.{RunLeaves, RunOutcome};
 ghost use Rattle.hose_offline.specs.Talking.{IsAskedBy};
@@ -91,17 +91,10 @@ fn run_lines<P: Prices, S: Source, O: Sink, C: Cabinet>(
         (P.prices costs.now) (option_map (λ name. name.now) journal.entry)
         (parts lines.old.source output.old cabinet.old)
         (parts lines.new.source output.new cabinet.new) result }
-    ensures too_long { (result ≡ Err Fault.TooLong) ↔ (INPUT_LIMIT < lines.new.taken) }
-    ensures reads_on { ReadsOn S.Source lines.old lines.new }
-    ensures limit { lines.new.taken ≤ INPUT_LIMIT + 1 }
     ensures in_memory { journal.entry ≡ None → cabinet.new ≡ cabinet.old }
-    ensures others { (name : List ℕ) → option_map (λ name. name.now) journal.entry ≡ Some name
-        → OthersStay C.Cabinet name cabinet.old cabinet.new }
-    ensures absent { (C.frame cabinet.new).absent ≡ (C.frame cabinet.old).absent }
-    ensures back { (C.frame cabinet.new).out ≡ None }
-    ensures stay { AllStay (tellings S.Source O.Sink C.Cabinet C.Disk.Disk)
-        (parts lines.old.source output.old cabinet.old)
-        (parts lines.new.source output.new cabinet.new) }
+    ensures keeps { KeepsRun (tellings S.Source O.Sink C.Cabinet C.Disk.Disk)
+        (option_map (λ name. name.now) journal.entry) (parts lines.old output.old cabinet.old)
+        (parts lines.new output.new cabinet.new) result }
 {
     let told = read(alloc, lines)?;
     let topology = costs.apply(alloc, told)?;
@@ -141,16 +134,9 @@ fn answer_by_journal<S: Source, O: Sink, C: Cabinet>(
         → TalksInCabinet (tellings S.Source O.Sink C.Cabinet C.Disk.Disk) name
         (parts lines.old output.old before) (parts lines.new output.new cabinet.new)
         network result }
-    ensures too_long { (result ≡ Err Fault.TooLong) ↔ (INPUT_LIMIT < lines.new.taken) }
-    ensures reads_on { ReadsOn S.Source lines.old lines.new }
-    ensures limit { lines.new.taken ≤ INPUT_LIMIT + 1 }
-    ensures others { IfSome (C.frame cabinet.old).out
-        (λ name. OthersStay C.Cabinet name cabinet.old cabinet.new) }
-    ensures absent { (C.frame cabinet.new).absent ≡ (C.frame cabinet.old).absent }
-    ensures back { (C.frame cabinet.new).out ≡ None }
-    ensures stay { AllStay (tellings S.Source O.Sink C.Cabinet C.Disk.Disk)
-        (parts lines.old.source output.old cabinet.old)
-        (parts lines.new.source output.new cabinet.new) }
+    ensures keeps { KeepsRun (tellings S.Source O.Sink C.Cabinet C.Disk.Disk)
+        (C.frame cabinet.old).out (parts lines.old output.old cabinet.old)
+        (parts lines.new output.new cabinet.new) result }
 {
     let Ok(table) = RowTable::of_all(alloc, store.book().topology()) else {
         let _ = close_journal(store, cabinet);

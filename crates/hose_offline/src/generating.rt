@@ -1,6 +1,7 @@
 // A generated network and its script, answered in memory and summed up.
 ghost use Rattle.std.specs.Prelude.{◌≡◌, ◌↔◌, ◌+◌, ◌<◌, ◌^◌, ℕ, [], IfErr, IfOk, IsTrue, OnOk, ⊤};
 ghost use Rattle.std.specs.List.{All};
+ghost use Rattle.hose_graph.specs.Network.{IsNetwork};
 ghost use Rattle.hose_graph.specs.steps.Naming.{AsksOf};
 ghost use Rattle.hose_law.specs.Quotes.{nothing_held};
 ghost use Rattle.hose_law.specs.Script.{IsForMemory};
@@ -59,8 +60,6 @@ fn sum_up<O: Sink>(alloc: Global, sizes: Sizes, output: &mut O) -> Result<(), Fa
         (GenLeaves sizes O.Sink output.old output.new result) }
 {
     let made = generate(alloc, sizes.seed, sizes.nodes, sizes.links, sizes.hoses)?;
-    // That this is a network is told by the call that counts its nodes.
-    let _nodes = made.top.nodes();
     let tally = tally_in_memory(alloc, made)?;
     tally.put(sizes.seed, sizes.hoses, output)?;
     Ok(())
@@ -69,6 +68,7 @@ fn sum_up<O: Sink>(alloc: Global, sizes: Sizes, output: &mut O) -> Result<(), Fa
 // The tally of a script that a book in memory answers. The rows of all nodes are made first.
 fn tally_in_memory(alloc: Global, made: Generated) -> Result<Tally, Fault>
     requires { All (λ order. AsksOf made.top order.1) made.script.items }
+    ensures network { IfOk result (λ _. IsNetwork made.top) }
     ensures tally { IfOk result (IsTallyOf made.top made.script.items) }
     ensures memory { IfErr result (λ why. why ≡ Fault.Memory) }
 {

@@ -166,14 +166,13 @@ fn read_next<D: Disk>(
 
 // Takes in the packet of the entry that was read last, by its spelling.
 fn take_in<D: Disk>(recent: &mut RecentPackets, replay: &Replay<D>, body: &[u8])
-    requires { (was : D) × (network : Network) × (entries : List Entry) × (entry : Entry)
+    requires next { (was : D) × (network : Network) × (entries : List Entry) × (entry : Entry)
         × IsNextOf D.Disk was network replay.now recent.old entries entry body.now }
+    requires few { replay.now.book.book.epoch ≤ most_epoch }
     ensures { (was : D) → (network : Network) → (entries : List Entry) → (entry : Entry)
         → IsNextOf D.Disk was network replay.now recent.old entries entry body.now
         → HasRead D.Disk was network replay.now recent.new (entries ++ entry ∷ []) }
 {
-    // A journal has no more entries than are counted so.
-    let _epoch = replay.epoch();
     // Where no memory is left for the packet, none is at hand then.
     let _kept = recent.push(body, replay.chain());
 }

@@ -2,8 +2,8 @@ use Rattle.std.proofs.Common.{◌≡◌, ◌∙◌, [], ◌∷◌, ◌++◌, rul
 use Rattle.std.proofs.lemmas.Result.{err_from_is_err_and}
 use Rattle.hosed_host.proofs.reading.read_next.Goals as goal
 
-pub take_in-requires : goal.take_in-requires
-take_in-requires g c =
+pub take_in-requires-clause-next : goal.take_in-requires-clause-next
+take_in-requires-clause-next g c =
     let has = c.requires.3 in
     let more = rw c.in-Some.is at c.in_ok-ready.ensures.read c.requires.0 c.requires.1 c.requires.2 has.replaying in
     let body : c.deref.result.now ≡ c.in-Some.ready.bytes.items = search rules in
