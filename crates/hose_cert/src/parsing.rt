@@ -16,12 +16,10 @@ type Parsed<T> = Result<Option<T>, CertFault>;
 
 // What a line says, where it is one of a certificate.
 pub(crate) fn read_line(alloc: Global, top: &Topology, line: &[u8]) -> Parsed<Statement>
+    requires { IsNetwork top.now }
     ensures told { IfOk result (IsLineTold (SaysLine top.now line.now)) }
     ensures memory { IfErr result (λ fault. fault ≡ CertFault.Memory) }
-    ensures network { IsNetwork top.now }
 {
-    // The call tells the proof what holds of each network: that no two nodes have one name.
-    let _nodes = top.nodes();
     if !is_spaced(line) {
         return Ok(None);
     }
