@@ -17,8 +17,9 @@ use Rattle.hose_words.specs.declared.lines.TheConstants.{INPUT_LIMIT}
 use Rattle.hose_words.proofs.OnReading.{ReadsOn-next, ReadsOn-start, ReadsOn-then, WhereTold-same, WhereTold-then}
 use Rattle.hose_io.specs.Frame.{Rose}
 use Rattle.hose_graph.specs.Network.{Network, IsNetwork}
-use Rattle.hose_cert.specs.CertLine.{CertLine, IsLine, SaysLine}
+use Rattle.hose_cert.specs.CertLine.{CertLine, IsLine}
 use Rattle.hose_cert.specs.Certificate.{AreLines, IsCertText, IsCertificate}
+use Rattle.hose_cert.specs.steps.CertLine.{SaysLine}
 use Rattle.hose_cert.specs.steps.Draft.{IsRefusedLine, IsWholeIf, IsDraftOf}
 use Rattle.hose_cert.specs.steps.Fault.{fault_of_line}
 use Rattle.hose_cert.specs.steps.Taking.{Comes, IsTextOf, KeepsReadingFault, PassesOne, ReadsCertText, ReadsUpTo, IsNextStep, fault_in}
@@ -29,6 +30,7 @@ use Rattle.hose_cert.specs.declared.fault.CertFault.{CertFault}
 use Rattle.hose_cert.specs.declared.fault.CertFault.TheVariants.{Read, TooLong, Memory}
 use Rattle.hose_cert.specs.declared.reading.LineStep.{LineStep}
 use Rattle.hose_cert.specs.declared.reading.LineStep.TheVariants.{More, Refused, Over}
+use Rattle.hose_cert.proofs.LineTexts.{line_said, said_line}
 use Rattle.hose_cert.proofs.Spelling.{line_once}
 
 -- ---- the lines of a text
@@ -219,7 +221,7 @@ module _ {S : Type 0} (source : Ghosts S) where
       comes = told_line (Some (Text shown)) _ next (λ was between left comes gives.
           subst (Comes network (old.pending ++ was) (has.lines ++ takes.0 ∷ [])) (sym gives.2)
           (comes_more network (old.pending ++ was) (now.pending ++ between) has.lines takes.0 is comes gives.0
-          (record { short = gives.1.0; says = subst (λ bytes. SaysLine network bytes takes.0) gives.1.1 takes.1 })));
+          (line_said network is _ takes.0 gives.1.0 (subst (λ bytes. SaysLine network bytes takes.0) gives.1.1 takes.1))));
     }
     has_more more (Ok (Some Long), next, takes) = absurd takes
     has_more more (Ok None, next, takes) = absurd takes
@@ -229,7 +231,7 @@ module _ {S : Type 0} (source : Ghosts S) where
         → WhereTold (source.content old.source) (source.content new.source) (λ was _. (lines : List CertLine) → IsCertText network (old.pending ++ was) lines → ⊥)
     has_refused (Ok (Some (Text shown)), next, refuse) = told_line (Some (Text shown)) _ next (λ was between left comes gives.
         comes_refused network (old.pending ++ was) (now.pending ++ between) has.lines comes gives.0
-        (λ line there. refuse has.lines has.stands line (subst (λ bytes. SaysLine network bytes line) (sym gives.1.1) there.says)))
+        (λ line there. refuse has.lines has.stands line (subst (λ bytes. SaysLine network bytes line) (sym gives.1.1) (said_line network is _ line there))))
     has_refused (Ok (Some Long), next, takes) = told_line (Some Long) _ next (λ was between left comes gives.
         comes_refused network (old.pending ++ was) (now.pending ++ between) has.lines comes gives.0 (λ line there. absurd (omega (arith, gives.1, there.short))))
     has_refused (Ok None, next, takes) = absurd takes

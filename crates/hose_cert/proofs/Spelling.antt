@@ -9,8 +9,8 @@ use Rattle.hose_graph.specs.Network.{Network, IsNetwork}
 use Rattle.hose_proto.specs.Command.{AreEndsOf}
 use Rattle.hose_proto.proofs.Back.{number_back, number_spelled, map_back}
 use Rattle.hose_proto.proofs.OneCommand.{ends_unique}
-use Rattle.hose_cert.specs.CertLine.{CertLine, IsLine, IsSpaced, IsSpelled, SaysLine, cost_line, end_line, hose_line, numbers_from, pot_line, use_line, without_line}
-use Rattle.hose_cert.specs.steps.CertLine.{statement_line}
+use Rattle.hose_cert.specs.CertLine.{CertLine, IsLine, cost_line, end_line, hose_line, numbers_from, pot_line, use_line, without_line}
+use Rattle.hose_cert.specs.steps.CertLine.{AreWordsOf, IsSpaced, SaysLine, statement_line}
 use Rattle.hose_cert.specs.steps.Judging.{AreUpToMost}
 use Rattle.hose_cert.specs.steps.Reading.{IsFrom, IsLineTold, IsToldAfter}
 use Rattle.hose_cert.specs.declared.fault.CertFault.{CertFault}
@@ -21,6 +21,7 @@ use Rattle.hose_cert.specs.declared.statement.TheConstants.{MOST_NUMBER}
 use Rattle.hose_cert.specs.declared.statement.StatementKind.{StatementKind}
 use Rattle.hose_cert.specs.declared.statement.StatementKind.TheVariants as kind
 use Rattle.hose_cert.proofs.KindWords.{kinds_apart}
+use Rattle.hose_cert.proofs.LineTexts.{said_line}
 
 -- ---- spaces
 
@@ -67,7 +68,7 @@ kind_of (pot_line root from numbers) = kind.Pot
 kind_of end_line = kind.End
 
 -- the first word of a line tells its kind
-pub begins : (network : Network) (words : List (List ℕ)) (line : CertLine) → IsSpelled network words line → (more : List (List ℕ)) × (words ≡ statement_word (kind_of line) ∷ more)
+pub begins : (network : Network) (words : List (List ℕ)) (line : CertLine) → AreWordsOf network words line → (more : List (List ℕ)) × (words ≡ statement_word (kind_of line) ∷ more)
 begins network words (cost_line cost) is = (_, is.0)
 begins network words (hose_line hose) is = (is.0, is.1)
 begins network words (use_line pair) is = (_, is.0)
@@ -76,7 +77,7 @@ begins network words (pot_line root from numbers) is = (_, is.0)
 begins network words end_line is = ([], is)
 
 -- so it is of this kind
-pub is_of_kind : (network : Network) (words more : List (List ℕ)) (one : StatementKind) (line : CertLine) → words ≡ statement_word one ∷ more → IsSpelled network words line → kind_of line ≡ one
+pub is_of_kind : (network : Network) (words more : List (List ℕ)) (one : StatementKind) (line : CertLine) → words ≡ statement_word one ∷ more → AreWordsOf network words line → kind_of line ≡ one
 is_of_kind network words more one line cut is =
     let first = begins network words line is in
     kinds_apart (kind_of line) one (ap (λ ws. get_or ws 0 []) (sym first.1 ∙ cut))
@@ -97,7 +98,7 @@ IsSaidBy network words (hose_line none) line = (hose : List (ℕ × ℕ)) × (li
 IsSaidBy network words one line = line ≡ one
 
 module _ (network : Network) (is : IsNetwork network) where
-  said_back : (words : List (List ℕ)) (line : CertLine) → IsSpelled network words line → IsSaidBy network words (said_by words (kind_of line)) line
+  said_back : (words : List (List ℕ)) (line : CertLine) → AreWordsOf network words line → IsSaidBy network words (said_by words (kind_of line)) line
   said_back words (cost_line cost) spelled =
       ap cost_line (sym (ap (λ ws. number_spelled (get_or ws 1 [])) spelled.0 ∙ number_back cost (omega (arith, spelled.1))))
   said_back words (hose_line hose) spelled = (hose, refl, subst (λ ws. AreEndsOf network ws hose) (sym (ap (drop 1) spelled.1)) spelled.2)
@@ -120,20 +121,20 @@ module _ (network : Network) (is : IsNetwork network) where
       same ∙ ap hose_line (ends_unique network (drop 1 words) hose hose' is ends ends') ∙ sym same'
   said_once words said one other same same' = same ∙ sym same'
 
-  pub spelled_once : (words : List (List ℕ)) (one other : CertLine) → IsSpelled network words one → IsSpelled network words other → one ≡ other
+  pub spelled_once : (words : List (List ℕ)) (one other : CertLine) → AreWordsOf network words one → AreWordsOf network words other → one ≡ other
   spelled_once words one other spelled spelled' =
       let first = begins network words one spelled in
       let same : kind_of other ≡ kind_of one = is_of_kind network words first.0 (kind_of one) other first.1 spelled' in
       said_once words (said_by words (kind_of one)) one other (said_back words one spelled) (subst (λ k. IsSaidBy network words (said_by words k) other) same (said_back words other spelled'))
 
   pub line_once : (bytes : List ℕ) (one other : CertLine) → IsLine network bytes one → IsLine network bytes other → one ≡ other
-  line_once bytes one other line line' = spelled_once (words_of bytes) one other line.says.spelled line'.says.spelled
+  line_once bytes one other line line' = spelled_once (words_of bytes) one other (said_line network is bytes one line).spelled (said_line network is bytes other line').spelled
 
 -- ---- what is told of the words after the first one
 
 module _ (network : Network) (more : List (List ℕ)) where
   abbrev Says : StatementKind → CertLine → Type 0
-  Says one line = IsSpelled network (statement_word one ∷ more) line
+  Says one line = AreWordsOf network (statement_word one ∷ more) line
 
   same_kind : (one : StatementKind) (line : CertLine) → Says one line → kind_of line ≡ one
   same_kind one line is = is_of_kind network (statement_word one ∷ more) more one line refl is
@@ -154,17 +155,17 @@ module _ (network : Network) (more : List (List ℕ)) where
       at other same is = absurd (cc same)
 
 -- what was told of the words after the first one is told of all
-pub told_after : (network : Network) (words more : List (List ℕ)) (one other : StatementKind) → words ≡ statement_word one ∷ more → one ≡ other → (told : Option Statement) → IsToldAfter network other more told → IsLineTold (IsSpelled network words) told
+pub told_after : (network : Network) (words more : List (List ℕ)) (one other : StatementKind) → words ≡ statement_word one ∷ more → one ≡ other → (told : Option Statement) → IsToldAfter network other more told → IsLineTold (AreWordsOf network words) told
 told_after network words more one other cut same told is =
-    subst (λ ws. IsLineTold (IsSpelled network ws) told) (sym cut) (subst (λ k. IsToldAfter network k more told) (sym same) is)
+    subst (λ ws. IsLineTold (AreWordsOf network ws) told) (sym cut) (subst (λ k. IsToldAfter network k more told) (sym same) is)
 
 -- and of the line
 pub told_line : (network : Network) (bytes : List ℕ) (start : Position) → start ≡ record { left = words_of bytes; read = 0 } → (told : Result (Option Statement) CertFault) → IsSpaced bytes
-    → IfOk told (IsLineTold (IsSpelled network start.left)) → IfOk told (IsLineTold (SaysLine network bytes))
+    → IfOk told (IsLineTold (AreWordsOf network start.left)) → IfOk told (IsLineTold (SaysLine network bytes))
 told_line network bytes start same (Err fault) spaced is = tt
-told_line network bytes start same (Ok None) spaced is = λ line there. is line (subst (λ (p : Position). IsSpelled network p.left line) (sym same) there.spelled)
+told_line network bytes start same (Ok None) spaced is = λ line there. is line (subst (λ (p : Position). AreWordsOf network p.left line) (sym same) there.spelled)
 told_line network bytes start same (Ok (Some told)) spaced is =
-    record { spaced = spaced; spelled = subst (λ (p : Position). IsSpelled network p.left (statement_line told)) same is }
+    record { spaced = spaced; spelled = subst (λ (p : Position). AreWordsOf network p.left (statement_line told)) same is }
 
 -- the words of a root, a node and the numbers, one after the other
 pub pot_cut : (words first second : List (List ℕ)) (other node root from : ℕ) (numbers : List ℕ) → words ≡ decimal other ∷ first → first ≡ decimal node ∷ second → words ≡ decimal root ∷ decimal from ∷ map decimal numbers

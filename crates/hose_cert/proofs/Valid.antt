@@ -17,7 +17,7 @@ use Rattle.hose_law.specs.Tree.{IsTreeReservation}
 use Rattle.hose_law.specs.Walk.{IsIn, all_links, cost_of}
 use Rattle.hose_law.proofs.Bounds.{reserved_few, reserved_links, reserved_most, reserved_ranges}
 use Rattle.hose_law.proofs.CanonicalPlans.{plan_reserves}
-use Rattle.hose_cert.specs.CertLine.{CertLine, end_line, numbers_from, use_line}
+use Rattle.hose_cert.specs.CertLine.{CertLine, MayBeSaid, end_line, numbers_from, use_line}
 use Rattle.hose_cert.specs.Certificate.{IsCertificate, left_out_in, numbers_in, used_in}
 use Rattle.hose_cert.specs.steps.Judging.{AreUpToMost}
 use Rattle.hose_cert.specs.Rules.{Claims, DifferWithinCosts, HasNamed, MeetsRules, others_of, weighed_by}
@@ -25,7 +25,7 @@ use Rattle.hose_cert.specs.Verdict.{IsValid}
 use Rattle.hose_cert.specs.Written.{AreRootRows, IsPlanText, block_line, blocks_of, first_lines, numbers_of, plan_claim, plan_lines, root_lines, roots_lines, certificate_text}
 use Rattle.hose_cert.specs.declared.statement.TheConstants.{LINE_NUMBERS, MOST_NUMBER}
 use Rattle.hose_cert.proofs.InOrder.{follow_plan, last_plan, left_out_none, said_by_plan, used_plan}
-use Rattle.hose_cert.proofs.LineTexts.{AreFine, IsFine, are_lines, fine_both}
+use Rattle.hose_cert.proofs.LineTexts.{AreFine, are_lines, fine_both}
 use Rattle.hose_cert.proofs.Numbered.{at_root, differ, enough, places, up_to}
 
 -- ---- no link left out
@@ -74,11 +74,11 @@ module _ (network : Network) (is : IsNetwork network) (hose plan : List (ℕ × 
 
   -- ---- each line is in range
 
-  uses_fine : (pairs : List (ℕ × ℕ)) → All (λ (pair : ℕ × ℕ). IsFine network (use_line pair)) pairs → AreFine network is (map use_line pairs)
+  uses_fine : (pairs : List (ℕ × ℕ)) → All (λ (pair : ℕ × ℕ). MayBeSaid network (use_line pair)) pairs → AreFine network is (map use_line pairs)
   uses_fine [] fine = tt
   uses_fine (pair ∷ pairs) fine = (fine 0 pair (omega arith), uses_fine pairs (λ k d below. fine (suc k) d (omega (arith, below))))
 
-  use_fine : All (λ (pair : ℕ × ℕ). IsFine network (use_line pair)) plan
+  use_fine : All (λ (pair : ℕ × ℕ). MayBeSaid network (use_line pair)) plan
   use_fine k d below =
       let range = reserved_ranges network is all hose plan is_hose on in
       (reserved_links network is all hose plan on k d below, (range.within k d below).amount)
@@ -87,7 +87,7 @@ module _ (network : Network) (is : IsNetwork network) (hose plan : List (ℕ × 
   first_fine = (cost_few, (record { is_hose = is_hose; nodes = nodes }, uses_fine plan use_fine))
 
   module _ (numbers : ℕ → List ℕ) (long : (root : ℕ) → root < length network.nodes → length (numbers root) ≡ length network.nodes) (small : (root : ℕ) → root < length network.nodes → AreUpToMost (numbers root)) where
-    block_fine : (root : ℕ) → root < length network.nodes → (block : ℕ) → block < blocks_of network → IsFine network (block_line network root (numbers root) block)
+    block_fine : (root : ℕ) → root < length network.nodes → (block : ℕ) → block < blocks_of network → MayBeSaid network (block_line network root (numbers root) block)
     block_fine root node block below =
         let from : ℕ = block * LINE_NUMBERS in
         let count : ℕ = numbers_from network from in (

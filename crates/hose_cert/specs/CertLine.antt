@@ -1,14 +1,13 @@
 -- What the lines of a certificate say, and how they say it.
-use Rattle.std.specs.Prelude.{◌≡◌, ◌<◌, ◌≤◌, ◌-◌, ◌==◌, ℕ, min, List, [], ◌∷◌, All, codes, decimal, length, map}
-use Rattle.std.specs.List.{slice_split}
+use Rattle.std.specs.Prelude.{◌≡◌, ◌≤◌, ◌-◌, ℕ, min, List, [], ◌∷◌, All, ⊤, codes, decimal, length, map, IsPermutation}
 use Rattle.hose_words.specs.Numbers.{IsWithin}
-use Rattle.hose_words.specs.Words.{words_of}
 use Rattle.hose_words.specs.Limits.{line_limit}
-use Rattle.hose_graph.specs.Amounts.{ReservedLink, amount_of, link_of}
+use Rattle.hose_graph.specs.Amounts.{ReservedLink}
 use Rattle.hose_graph.specs.Hose.{Endpoint}
 use Rattle.hose_graph.specs.Network.{Network, IsLinkOf, IsNodeOf}
 use Rattle.hose_graph.specs.Limits.{most_amount}
-use Rattle.hose_proto.specs.Command.{AreEndsOf}
+use Rattle.hose_proto.specs.Places.{IsHoseOf, end_word}
+use Rattle.hose_proto.specs.ReplyText.{joined}
 use Rattle.hose_cert.specs.Limits.{line_numbers, most_number}
 
 -- what one line of a certificate says
@@ -30,37 +29,40 @@ pub data CertLine : Type 0 where
 abbrev pub numbers_from : Network → ℕ → ℕ
 numbers_from network from = min line_numbers (length network.nodes - from)
 
--- the words are those of a line: `cost C`, `hose NAME:RATE ..`, `use L R`, `without L`,
--- `pot R F P ..` or `end`
-abbrev pub IsSpelled : Network → List (List ℕ) → CertLine → Type 0
-IsSpelled network words (cost_line cost) =
-    (words ≡ codes "cost" ∷ decimal cost ∷ []) × (cost ≤ most_number)
-IsSpelled network words (hose_line hose) =
-    (ends : List (List ℕ)) × (words ≡ codes "hose" ∷ ends) × AreEndsOf network ends hose
-IsSpelled network words (use_line pair) =
-    (words ≡ codes "use" ∷ decimal (link_of pair) ∷ decimal (amount_of pair) ∷ [])
-    × IsLinkOf network (link_of pair) × IsWithin 1 most_amount (amount_of pair)
-IsSpelled network words (without_line link) =
-    (words ≡ codes "without" ∷ decimal link ∷ []) × IsLinkOf network link
-IsSpelled network words (pot_line root from numbers) =
-    (words ≡ codes "pot" ∷ decimal root ∷ decimal from ∷ map decimal numbers)
-    × IsNodeOf network root × IsNodeOf network from
+-- the words of a line: `cost C`, `hose NAME:RATE ..`, `use L R`, `without L`, `pot R F P ..` or
+-- `end`
+abbrev pub line_words : Network → CertLine → List (List ℕ)
+line_words network (cost_line cost) = codes "cost" ∷ decimal cost ∷ []
+line_words network (hose_line hose) = codes "hose" ∷ map (end_word network) hose
+line_words network (use_line (link, amount)) = codes "use" ∷ decimal link ∷ decimal amount ∷ []
+line_words network (without_line link) = codes "without" ∷ decimal link ∷ []
+line_words network (pot_line root from numbers) =
+    codes "pot" ∷ decimal root ∷ decimal from ∷ map decimal numbers
+line_words network end_line = codes "end" ∷ []
+
+-- the text of a line: its words, with a space between each two
+abbrev pub line_text : Network → CertLine → List ℕ
+line_text network line = joined (line_words network line)
+
+-- a line may say this
+abbrev pub MayBeSaid : Network → CertLine → Type 0
+MayBeSaid network (cost_line cost) = cost ≤ most_number
+MayBeSaid network (hose_line hose) = IsHoseOf network hose
+MayBeSaid network (use_line (link, amount)) = IsLinkOf network link × IsWithin 1 most_amount amount
+MayBeSaid network (without_line link) = IsLinkOf network link
+MayBeSaid network (pot_line root from numbers) = IsNodeOf network root × IsNodeOf network from
     × (length numbers ≡ numbers_from network from)
     × All (λ number. number ≤ most_number) numbers
-IsSpelled network words end_line = words ≡ codes "end" ∷ []
+MayBeSaid network end_line = ⊤
 
--- One space stands between each two words, and none before the first or after the last: no part
--- between spaces is empty.
-abbrev pub IsSpaced : List ℕ → Type 0
-IsSpaced bytes = All (λ part. 0 < length part) (slice_split (λ byte. byte == 32) bytes)
-
--- These bytes are the words of a line of a certificate, with one space between each two, and say
--- this.
-pub record SaysLine (network : Network) (bytes : List ℕ) (line : CertLine) : Type 0 where
-  pub spaced : IsSpaced bytes
-  pub spelled : IsSpelled network (words_of bytes) line
+-- The bytes are the text of a line, in which the endpoints of a hose may stand in any order.
+abbrev pub IsSpelled : Network → List ℕ → CertLine → Type 0
+IsSpelled network bytes (hose_line hose) = (ends : List Endpoint) × IsPermutation ends hose
+    × (bytes ≡ line_text network (hose_line ends))
+IsSpelled network bytes line = bytes ≡ line_text network line
 
 -- These bytes are a line of a certificate, not too long, that says this.
 pub record IsLine (network : Network) (bytes : List ℕ) (line : CertLine) : Type 0 where
   pub short : length bytes ≤ line_limit
-  pub says : SaysLine network bytes line
+  pub may : MayBeSaid network line
+  pub spelled : IsSpelled network bytes line

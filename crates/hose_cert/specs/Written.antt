@@ -1,9 +1,9 @@
 -- What is written of a plan over all links: the lines of its certificate, and their text.
-use Rattle.std.specs.Prelude.{◌≡◌, ℕ, ◌+◌, ◌-◌, ◌*◌, ◌/◌, ◌<◌, false, List, [], ◌∷◌, ◌++◌, Option, codes, decimal, drop, length, map, replicate, take, unwrap_or}
+use Rattle.std.specs.Prelude.{◌≡◌, ℕ, ◌+◌, ◌-◌, ◌*◌, ◌/◌, ◌<◌, false, List, [], ◌∷◌, ◌++◌, Option, drop, length, map, replicate, take, unwrap_or}
 use Rattle.std.specs.List.{flat_map, range_with_len}
 use Rattle.hose_io.specs.Stream.{Grows}
 use Rattle.hose_io.specs.Writing.{GrowsInPart}
-use Rattle.hose_graph.specs.Amounts.{ReservedLink, amount_of, link_of}
+use Rattle.hose_graph.specs.Amounts.{ReservedLink}
 use Rattle.hose_graph.specs.Hose.{Endpoint}
 use Rattle.hose_graph.specs.Network.{Network}
 use Rattle.hose_graph.specs.Row.{Distances}
@@ -11,35 +11,11 @@ use Rattle.hose_law.specs.CanonicalPlan.{IsCanonicalPlan}
 use Rattle.hose_law.specs.Plan.{plan_cost}
 use Rattle.hose_law.specs.Row.{IsRow}
 use Rattle.hose_law.specs.Walk.{all_links}
-use Rattle.hose_proto.specs.ReplyText.{end_text, line_of}
-use Rattle.hose_cert.specs.CertLine.{CertLine, cost_line, end_line, hose_line, numbers_from, pot_line, use_line, without_line}
+use Rattle.hose_proto.specs.ReplyText.{line_of}
+use Rattle.hose_cert.specs.CertLine.{CertLine, cost_line, end_line, hose_line, line_text, numbers_from, pot_line, use_line}
 use Rattle.hose_cert.specs.Rules.{CertClaim}
 use Rattle.hose_cert.specs.Verdict.{IsValid}
 use Rattle.hose_cert.specs.Limits.{line_numbers}
-
--- ---- texts
-
--- a number after others
-abbrev pub number_text : ℕ → List ℕ
-number_text number = codes " " ++ decimal number
-
--- a link of the plan, with its amount
-abbrev pub use_text : ReservedLink → List ℕ
-use_text pair = codes "use " ++ decimal (link_of pair) ++ number_text (amount_of pair)
-
--- numbers of a root, for one node after the other from this one on
-abbrev pub pot_text : ℕ → ℕ → List ℕ → List ℕ
-pot_text root from numbers =
-    codes "pot " ++ decimal root ++ number_text from ++ flat_map number_text numbers
-
--- the text of a line
-abbrev pub line_text : Network → CertLine → List ℕ
-line_text network (cost_line cost) = codes "cost " ++ decimal cost
-line_text network (hose_line hose) = codes "hose" ++ flat_map (end_text network) hose
-line_text network (use_line pair) = use_text pair
-line_text network (without_line link) = codes "without " ++ decimal link
-line_text network (pot_line root from numbers) = pot_text root from numbers
-line_text network end_line = codes "end"
 
 -- the text of lines, each of which a line feed ends
 abbrev pub certificate_text : Network → List CertLine → List ℕ

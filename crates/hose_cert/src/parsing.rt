@@ -1,7 +1,7 @@
 // A line of a certificate, read from its words.
 ghost use Rattle.std.specs.Prelude.{◌≡◌, ◌≤◌, ◌↔◌, ℕ, List, [], ◌∷◌, IfErr, IfOk, IfNone, IfSome, IsTrue, MatchOption, decimal, length};
 ghost use Rattle.hose_graph.specs.Network.{Network, IsNetwork};
-ghost use Rattle.hose_cert.specs.CertLine.{IsSpaced, IsSpelled, SaysLine};
+ghost use Rattle.hose_cert.specs.steps.CertLine.{AreWordsOf, IsSpaced, SaysLine};
 ghost use Rattle.hose_cert.specs.steps.Reading.{AreNumberWords, IsFrom, IsLineTold, IsToldAfter};
 
 use crate::fault::CertFault;
@@ -16,12 +16,10 @@ type Parsed<T> = Result<Option<T>, CertFault>;
 
 // What a line says, where it is one of a certificate.
 pub(crate) fn read_line(alloc: Global, top: &Topology, line: &[u8]) -> Parsed<Statement>
+    requires { IsNetwork top.now }
     ensures told { IfOk result (IsLineTold (SaysLine top.now line.now)) }
     ensures memory { IfErr result (λ fault. fault ≡ CertFault.Memory) }
-    ensures network { IsNetwork top.now }
 {
-    // The call tells the proof what holds of each network: that no two nodes have one name.
-    let _nodes = top.nodes();
     if !is_spaced(line) {
         return Ok(None);
     }
@@ -40,7 +38,7 @@ fn is_spaced(line: &[u8]) -> bool
 // What the words of a line say.
 fn read_words(alloc: Global, top: &Topology, words: &mut Cursor<'_>) -> Parsed<Statement>
     requires { IsNetwork top.now }
-    ensures told { IfOk result (IsLineTold (IsSpelled top.now words.old.left)) }
+    ensures told { IfOk result (IsLineTold (AreWordsOf top.now words.old.left)) }
     ensures memory { IfErr result (λ fault. fault ≡ CertFault.Memory) }
 {
     let Ok(kind) = next_choice(words, &KINDS) else {

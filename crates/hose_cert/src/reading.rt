@@ -55,7 +55,8 @@ fn take_next<S: Source>(
     draft: Draft,
     lines: &mut LineReader<S>,
 ) -> Result<LineStep, CertFault>
-    requires { StandsSomehow top.now draft }
+    requires network { IsNetwork top.now }
+    requires stands { StandsSomehow top.now draft }
     ensures { IsNextStep S.Source top.now draft lines.old lines.new result }
 {
     match lines.next()? {
@@ -72,7 +73,8 @@ fn take_text(
     draft: Draft,
     line: &[u8],
 ) -> Result<LineStep, CertFault>
-    requires { StandsSomehow top.now draft }
+    requires network { IsNetwork top.now }
+    requires stands { StandsSomehow top.now draft }
     ensures step { IfOk result (IsDraftStep top.now draft line.now) }
     ensures memory { IfErr result (λ fault. fault ≡ CertFault.Memory) }
 {

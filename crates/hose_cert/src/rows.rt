@@ -1,7 +1,7 @@
 // The numbers of one root after the other, and how they are judged.
 ghost use Rattle.std.specs.Prelude.{◌≡◌, ◌*◌, ◌+◌, ◌<◌, ◌≤◌, ◌↔◌, ℕ, All, IsTrue, length};
 ghost use Rattle.hose_graph.specs.Hose.{node_of};
-ghost use Rattle.hose_graph.specs.Network.{IsLinkOf};
+ghost use Rattle.hose_graph.specs.Network.{IsLinkOf, IsNetwork};
 ghost use Rattle.hose_law.specs.steps.Plan.{AreNodes};
 ghost use Rattle.hose_cert.specs.Rules.{DifferWithinCosts, others_of, weighed_by};
 ghost use Rattle.hose_cert.specs.steps.Judging.{AreUpToMost, ChangesWithin, IsRootJudged, ChangesWithinKept};
@@ -34,8 +34,6 @@ pub(crate) fn judge_row(top: &Topology, cost: u64, hose: &Hose, without: &LinkSe
     requires links { length without.now ≡ length top.now.links }
     ensures { IsRootJudged top.now cost hose.now without.now rows.old rows.new }
 {
-    // There are few enough of them that the next root's number fits.
-    let _nodes = top.nodes();
     let row = rows.row.as_slice();
     let starts = row[rows.root as usize] == 0;
     let changes = change_within(top, without, row);
@@ -52,7 +50,8 @@ fn change_within(top: &Topology, without: &LinkSet, row: &[u64]) -> bool
     requires places { length row.now ≡ length top.now.nodes }
     requires numbers { AreUpToMost row.now }
     requires links { length without.now ≡ length top.now.links }
-    ensures { IsTrue result ↔ DifferWithinCosts top.now (others_of without.now) row.now }
+    ensures within { IsTrue result ↔ DifferWithinCosts top.now (others_of without.now) row.now }
+    ensures network { IsNetwork top.now }
 {
     for link in 0..top.links() {
         if !is_kept(top, without, link, row) {

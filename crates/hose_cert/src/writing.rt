@@ -14,8 +14,8 @@ ghost use Rattle.hose_tree.specs.steps.Amounts.{AreOnLinks};
 ghost use Rattle.hose_proto.specs.ReplyText.{line_of};
 ghost use Rattle.hose_cert.specs.CertLine.{cost_line, hose_line};
 ghost use Rattle.hose_cert.specs.steps.Adding.{AddsRoots};
-ghost use Rattle.hose_cert.specs.Written.{first_lines, line_text, number_text, numbers_of, pot_text, root_lines, certificate_text, use_text};
-ghost use Rattle.hose_cert.specs.steps.Written.{Writes};
+ghost use Rattle.hose_cert.specs.Written.{first_lines, numbers_of, root_lines, certificate_text};
+ghost use Rattle.hose_cert.specs.steps.Written.{Writes, number_text, pieces_of, pot_text, use_text};
 
 use crate::fault::ProveFault;
 use crate::statement::LINE_NUMBERS;
@@ -108,7 +108,7 @@ fn add_first_lines<S: Sink>(
 fn add_hose<S: Sink>(gather: &mut Gather, sink: &mut S, top: &Topology, ends: &[Endpoint])
     requires { AreNodes top.now ends.now }
     ensures { IsAdded S.Sink gather.old sink.old gather.new sink.new
-        (line_of (line_text top.now (hose_line ends.now))) }
+        (line_of (pieces_of top.now (hose_line ends.now))) }
 {
     gather.add(sink, b"hose");
     add_ends(gather, sink, top, ends);

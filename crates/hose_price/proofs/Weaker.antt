@@ -1,5 +1,5 @@
 -- What a network costs by a rule it costs by what the rule's answers keep.
-use Rattle.std.proofs.Common.{ℕ, List, [], ◌∷◌}
+use Rattle.std.proofs.Common.{ℕ, List, [], ◌∷◌, Result, Ok, Err, IfOk}
 use Rattle.std.specs.List.{All, AllZip}
 use Rattle.std.proofs.lemmas.List.Elements.{All-head, All-tail}
 use Rattle.hose_graph.specs.Limit.{IsUpTo}
@@ -24,3 +24,7 @@ module _ (one two : ℕ → ℕ → Type 0) (weaker : (length cost : ℕ) → Is
 
   pub priced_weaker : (network priced : Network) → IsNetwork network → IsPricedBy one network priced → IsPricedBy two network priced
   priced_weaker network priced network_is is = record { nodes = is.nodes; links = links_weaker network network.links priced.links network_is.links is.links }
+
+  pub result_weaker : {E : Type 0} (network : Network) (result : Result Network E) → IfOk result (IsPricedBy one network) → IfOk result (λ priced. IsNetwork network) → IfOk result (IsPricedBy two network)
+  result_weaker network (Ok priced) is told = priced_weaker network priced told is
+  result_weaker network (Err error) is told = tt

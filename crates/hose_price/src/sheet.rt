@@ -115,13 +115,10 @@ fn column_of(alloc: Global, top: &Topology, tariff: &Tariff) -> Result<Column, A
         tariff.now.per top.now) }
     ensures column { IfOk result (IsColumn top.now) }
 {
-    let priced = price(alloc, top, tariff)?;
-    // The call tells the proof that the lengths of the links are within their limits.
-    let _links = top.links();
     Ok(Column {
         base: tariff.base(),
         per: tariff.per(),
-        top: priced,
+        top: price(alloc, top, tariff)?,
     })
 }
 
@@ -140,10 +137,7 @@ fn with_hops(alloc: Global, top: &Topology) -> Result<Topology, AllocError>
         },
     )?;
     let tariff = Tariff::new(Name::read(b"hops").unwrap(), 1, 0, rule);
-    let priced = price(alloc, top, &tariff)?;
-    // The call tells the proof that the lengths of the links are within their limits.
-    let _links = top.links();
-    Ok(priced)
+    price(alloc, top, &tariff)
 }
 
 // The network where each link costs its length.
@@ -170,8 +164,5 @@ fn priced_by_length(alloc: Global, top: &Topology, rule: Rule) -> Result<Topolog
     ensures { IfOk result (IsPricedBy costs_length top.now) }
 {
     let tariff = Tariff::new(Name::read(b"lengths").unwrap(), 0, 1, rule);
-    let priced = price(alloc, top, &tariff)?;
-    // The call tells the proof that the lengths of the links are within their limits.
-    let _links = top.links();
-    Ok(priced)
+    price(alloc, top, &tariff)
 }

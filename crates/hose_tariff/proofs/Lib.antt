@@ -1,1 +1,2 @@
 pub mod OneNetwork
+pub mod PricedNetworks

@@ -38,16 +38,15 @@ impl Prices for Tariff {
     ghost prices = { λ tariff. IsPricedBy (Rule.post tariff.rule) };
 
     fn apply(&self, alloc: Global, top: Topology) -> Result<Topology, AllocError> {
-        let priced = price(alloc, &top, self)?;
-        let _nodes = priced.nodes();
-        Ok(priced)
+        price(alloc, &top, self)
     }
 }
 
 /// The network with the same nodes and links, each of which costs what the tariff's rule answers
 /// for its length.
 pub fn price(alloc: Global, top: &Topology, tariff: &Tariff) -> Result<Topology, AllocError>
-    ensures { IfOk result (IsPricedBy (Rule.post tariff.now.rule) top.now) }
+    ensures priced { IfOk result (IsPricedBy (Rule.post tariff.now.rule) top.now) }
+    ensures network { IfOk result (λ _. IsNetwork top.now) }
 {
     let mut priced = Topology::new(alloc)?;
     for node in 0..top.nodes() {

@@ -7,8 +7,9 @@ use Rattle.hose_graph.specs.Hose.{Endpoint}
 use Rattle.hose_graph.specs.Network.{Network, IsLinkOf}
 use Rattle.hose_graph.specs.Limits.{most_amount, most_tree_links}
 use Rattle.hose_proto.specs.Places.{IsHoseOf}
-use Rattle.hose_cert.specs.CertLine.{CertLine, IsSpelled, cost_line, end_line, hose_line, pot_line, use_line, without_line}
+use Rattle.hose_cert.specs.CertLine.{CertLine, cost_line, end_line, hose_line, pot_line, use_line, without_line}
 use Rattle.hose_cert.specs.Certificate.{FollowAll, IsCertificate, last_of, left_out_in, numbers_in, place_after, used_in}
+use Rattle.hose_cert.specs.steps.CertLine.{AreWordsOf}
 use Rattle.hose_cert.specs.steps.Judging.{AreUpToMost}
 use Rattle.hose_cert.specs.Rules.{DifferWithinCosts, HasNamed, others_of, weighed_by}
 use Rattle.hose_cert.specs.Limits.{most_number}
@@ -21,7 +22,7 @@ use Rattle.hose_cert.specs.declared.rows.Rows.{Rows}
 
 -- some words say this
 abbrev pub IsSaid : Network → CertLine → Type 0
-IsSaid network line = (words : List (List ℕ)) × IsSpelled network words line
+IsSaid network line = (words : List (List ℕ)) × AreWordsOf network words line
 
 -- ---- the numbers
 

@@ -1,8 +1,8 @@
 -- What is read of the words of a certificate's lines.
 use Rattle.std.specs.Prelude.{◌≡◌, ◌<◌, ◌≤◌, ℕ, List, ◌∷◌, All, Option, MatchOption, decimal, length, map}
 use Rattle.hose_graph.specs.Network.{Network}
-use Rattle.hose_cert.specs.CertLine.{CertLine, IsSpelled}
-use Rattle.hose_cert.specs.steps.CertLine.{statement_line}
+use Rattle.hose_cert.specs.CertLine.{CertLine}
+use Rattle.hose_cert.specs.steps.CertLine.{AreWordsOf, statement_line}
 use Rattle.hose_cert.specs.steps.Statement.{statement_word}
 use Rattle.hose_cert.specs.Limits.{most_number}
 use Rattle.hose_cert.specs.declared.statement.StatementKind.{StatementKind}
@@ -16,7 +16,7 @@ IsLineTold Is told =
 -- what was read of the words after one that tells a kind of lines is so, or nothing is
 abbrev pub IsToldAfter : Network → StatementKind → List (List ℕ) → Option Statement → Type 0
 IsToldAfter network kind words told =
-    IsLineTold (IsSpelled network (statement_word kind ∷ words)) told
+    IsLineTold (AreWordsOf network (statement_word kind ∷ words)) told
 
 -- a number from the least to below the end
 abbrev pub IsFrom : ℕ → ℕ → ℕ → Type 0

@@ -11,8 +11,9 @@ use Rattle.hose_words.specs.declared.lines.LineFault.{LineFault}
 use Rattle.hose_words.specs.declared.lines.LineFault.TheVariants as line
 use Rattle.hose_words.specs.Limits.{input_limit}
 use Rattle.hose_graph.specs.Network.{Network}
-use Rattle.hose_cert.specs.CertLine.{CertLine, SaysLine}
+use Rattle.hose_cert.specs.CertLine.{CertLine}
 use Rattle.hose_cert.specs.Certificate.{AreLines, IsCertText, IsCertificate}
+use Rattle.hose_cert.specs.steps.CertLine.{SaysLine}
 use Rattle.hose_cert.specs.steps.Draft.{IsBody, IsRefusedLine, IsDraftOf}
 use Rattle.hose_cert.specs.steps.Fault.{fault_of_line}
 use Rattle.hose_cert.specs.declared.draft.Body.{Body}

@@ -20,5 +20,5 @@ pub returns-in-None-clause-step : goal.returns-in-None-clause-step
 returns-in-None-clause-step c = λ lines stands line there.
     let says = rw c.in-Some.is at c.in_ok-told.ensures.told in
     let takes = rw c.in-None.is at c.in_ok-more.ensures.takes in
-    subst (IsRefusedLine c.args.top.now lines) (spelled_once c.args.top.now c.read_line.ensures.network (words_of c.args.line.now) (statement_line c.in-Some.told) line says.spelled there.spelled)
+    subst (IsRefusedLine c.args.top.now lines) (spelled_once c.args.top.now c.requires.network (words_of c.args.line.now) (statement_line c.in-Some.told) line says.spelled there.spelled)
     (takes lines stands)

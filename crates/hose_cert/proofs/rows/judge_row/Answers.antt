@@ -8,7 +8,7 @@ pub returns : goal.returns
 returns c =
     let row = c.as_slice-row.ensures.value in
     let zero = zero_tells _ _ (ap (λ (ns : List ℕ). get_or ns c.args.rows.now.root 0) row) in
-    let kept = rw row at c.change_within-changes.ensures in
+    let kept = rw row at c.change_within-changes.ensures.within in
     let enough = least_tells _ _ _ _ c.from.ensures (c.weight.ensures ∙ ap (λ (ns : List ℕ). weighed_by ns c.args.hose.now) row) in
     record {
       root = refl;

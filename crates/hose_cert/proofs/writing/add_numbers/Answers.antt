@@ -3,7 +3,7 @@ use Rattle.std.specs.Prelude.{unwrap_or}
 use Rattle.std.proofs.lemmas.List.{take_all}
 use Rattle.std.proofs.lemmas.List.Folds.{flat_map-map}
 use Rattle.hose_io.proofs.Gathering.{IsAdded-item}
-use Rattle.hose_cert.specs.Written.{number_text}
+use Rattle.hose_cert.specs.steps.Written.{number_text}
 use Rattle.hose_cert.proofs.writing.add_numbers.Goals as goal
 
 pub loop-distance-preserved : goal.loop-distance-preserved

@@ -2,7 +2,7 @@ use Rattle.std.proofs.Common.{take}
 use Rattle.std.specs.Prelude.{unwrap_or}
 use Rattle.std.specs.List.{flat_map}
 use Rattle.hose_io.specs.steps.Gather.{IsAdded}
-use Rattle.hose_cert.specs.Written.{number_text}
+use Rattle.hose_cert.specs.steps.Written.{number_text}
 use Rattle.hose_cert.proofs.writing.add_numbers.Given as goal
 
 abbrev pub invariant-loop-distance : goal.invariant-loop-distance

@@ -1,7 +1,7 @@
 use Rattle.std.proofs.Common.{ℕ, [], arith}
 use Rattle.hose_io.proofs.Gathering.{IsAdded-item}
 use Rattle.hose_proto.specs.ReplyText.{line_of}
-use Rattle.hose_cert.specs.Written.{use_text}
+use Rattle.hose_cert.specs.steps.Written.{use_text}
 use Rattle.hose_cert.proofs.writing.add_uses.Goals as goal
 
 pub loop-pair-preserved : goal.loop-pair-preserved

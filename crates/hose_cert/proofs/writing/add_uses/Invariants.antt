@@ -2,7 +2,7 @@ use Rattle.std.proofs.Common.{take}
 use Rattle.std.specs.List.{flat_map}
 use Rattle.hose_io.specs.steps.Gather.{IsAdded}
 use Rattle.hose_proto.specs.ReplyText.{line_of}
-use Rattle.hose_cert.specs.Written.{use_text}
+use Rattle.hose_cert.specs.steps.Written.{use_text}
 use Rattle.hose_cert.proofs.writing.add_uses.Given as goal
 
 abbrev pub invariant-loop-pair : goal.invariant-loop-pair

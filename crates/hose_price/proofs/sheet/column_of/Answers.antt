@@ -6,8 +6,8 @@ use Rattle.hose_price.proofs.sheet.column_of.Goals as goal
 pub returns-clause-column : goal.returns-clause-column
 returns-clause-column g c =
     let tariff = c.args.tariff.now in
-    let top : IsPricedBy (IsPrice tariff.base tariff.per) c.args.top.now c.in_ok-priced.priced =
-    priced_weaker _ (IsPrice tariff.base tariff.per) (λ length cost within answered. (tariff.keeps length within).1 cost answered) c.args.top.now c.in_ok-priced.priced c.links-links.ensures.network c.in_ok-priced.ensures in
+    let top : IsPricedBy (IsPrice tariff.base tariff.per) c.args.top.now c.in_ok-price.field-0 =
+    priced_weaker _ (IsPrice tariff.base tariff.per) (λ length cost within answered. (tariff.keeps length within).1 cost answered) c.args.top.now c.in_ok-price.field-0 c.in_ok-price.ensures.network c.in_ok-price.ensures.priced in
     record {
       base = c.base.ensures.within;
       per = c.per.ensures.within;

@@ -1,7 +1,7 @@
 -- Each cost is the rule's answer, which is the length.
 use Rattle.std.proofs.Common.{arith}
 use Rattle.hose_price.specs.Sheet.{costs_length}
-use Rattle.hose_price.proofs.Weaker.{priced_weaker}
+use Rattle.hose_price.proofs.Weaker.{result_weaker}
 use Rattle.hose_price.proofs.sheet.priced_by_length.Goals as goal
 
 pub new-tariff-requires-clause-keeps : goal.new-tariff-requires-clause-keeps
@@ -19,5 +19,5 @@ new-tariff-requires-clause-keeps g c length within = (
 
 pub returns : goal.returns
 returns g c =
-    priced_weaker _ costs_length (λ length cost within answered. (c.requires length within).1 cost answered)
-    c.args.top.now c.in_ok-priced.priced c.links-links.ensures.network (rw c.new-tariff.ensures.rule at c.in_ok-priced.ensures)
+    result_weaker _ costs_length (λ length cost within answered. (c.requires length within).1 cost answered)
+    c.args.top.now c.price.result (rw c.new-tariff.ensures.rule at c.price.ensures.priced) c.price.ensures.network
