@@ -39,6 +39,7 @@ OUTCOMES = {"run": "RunOutcome", "audit": "AuditOutcome", "gen": "GenOutcome",
             "ship": "ShipOutcome", "follow": "FollowOutcome",
             "move": "MoveOutcome", "cut": "CutOutcome", "serve": "ServeOutcome",
             "host": "HostOutcome"}
+APART = (("host",), ("host", "cut"))  # what came to the commands of before, told apart
 
 
 class Statement:
@@ -263,6 +264,10 @@ def count_table(statement):
                     f"{statement.lines(alone):5}")
     two = [key for key in reached if {"run", "serve"} & statement.of[key]]
     rows.append(f"{'run or serve':16} {len(two):7} {statement.lines(two):5}")
+    for names in APART:
+        rest = [key for key in reached if not statement.of[key] or statement.of[key] - set(names)]
+        title = " ".join(["without", *names])
+        rows.append(f"{title:16} {len(rest):7} {statement.lines(rest):5}")
     return rows
 
 

@@ -290,6 +290,12 @@ class SmallTree(unittest.TestCase):
             "in the other's place: 4 definitions", *(f"  {row}" for row in MISPLACED), ""])
         self.assertEqual(statement.count_table(made)[1], "all: 12 definitions, 36 lines")
 
+    def test_what_others_than_some_commands_reach(self):
+        with mock.patch.object(statement, "APART", (("go",), ("stay",), ("go", "stay"))):
+            rows = statement.count_table(small())[-3:]
+        self.assertEqual(rows, ["without go             5    17", "without stay           5    15",
+                                "without go stay        1     2"])
+
     def test_what_stands_in_the_others_place(self):
         self.assertEqual(statement.misplaced(small()), MISPLACED)
         moved = {path.replace("specs/Sizes", "specs/steps/Sizes"):

@@ -1,16 +1,18 @@
 -- What the program's words come to, from what their command came to.
-use Rattle.std.proofs.Common.{◌≡◌, ◌≢◌, ℕ, List, subst}
+use Rattle.std.proofs.Common.{◌≡◌, ◌≢◌, ℕ, List, refl, subst, sym}
 use Rattle.hose_offline.specs.Ending.{IsOut}
 use Rattle.hose_offline.specs.Fault.{last_line}
 use Rattle.hose_offline.specs.declared.fault.Fault.TheVariants.{Words}
 use Rattle.hose_offline.specs.Parts.{Parts, Tellings, parts}
 use Rattle.hose_offline.specs.declared.why.Why.{Why}
 use Rattle.hose_offline.specs.Auditing.{PricedNames}
+use Rattle.hose_words.specs.Words.{IsFirst}
 use Rattle.hosed.specs.Failing.{FailsTask, FailsWords}
+use Rattle.hosed.specs.Hosed.{HosedOutcome}
 use Rattle.hosed.specs.Offline.{Does, Offer, OfflineOutcome}
 use Rattle.hosed.specs.ServeOutcome.{ServeOutcome}
-use Rattle.hosed.specs.ServerDoor.{DoorSeen, DoorTask}
-use Rattle.hosed.specs.ProgramWords.{AreWrongWords}
+use Rattle.hosed.specs.ServerDoor.{DoorSeen}
+use Rattle.hosed.specs.ProgramWords.{AreWrongWords, AsksToServe, program_word}
 use Rattle.hosed.specs.steps.Arguments.{AreArgumentWords, ArgumentTask, IsFirstUnfit}
 use Rattle.hosed.specs.declared.verb.ProgramVerb.{ProgramVerb}
 use Rattle.hosed.specs.declared.verb.ProgramVerb.TheVariants as command
@@ -66,8 +68,18 @@ fails_of {tells = tells} {offer = offer} {was = was} {why = why} {words = words}
     subst (λ (now : Parts _ _ _). FailsWords tells offer was now why words) (λ i. parts (input i) (output i) (cabinet i)) (subst (λ (old : Parts _ _ _). FailsWords tells offer old after why words) lent fails)
 
 -- what is beside a server, so told
-pub served_of : {I O C E : Type 0} {tells : Tellings I O C E} {names : PricedNames} {task : DoorTask} {before was : Parts I O C} {door door' : DoorSeen} {status : ℕ} (after : Parts I O C) {input : I} {output : O} {cabinet : C} → before ≡ was → after.input ≡ input → after.output ≡ output → after.cabinet ≡ cabinet
-    → ServeOutcome tells names task (record { others = before; door = door }) (record { others = after; door = door' }) status → ServeOutcome tells names task (record { others = was; door = door }) (record { others = parts input output cabinet; door = door' }) status
-served_of {tells = tells} {names = names} {task = task} {was = was} {door = door} {door' = door'} {status = status} after lent input output cabinet outcome =
-    subst (λ (now : Parts _ _ _). ServeOutcome tells names task (record { others = was; door = door }) (record { others = now; door = door' }) status) (λ i. parts (input i) (output i) (cabinet i))
-    (subst (λ (old : Parts _ _ _). ServeOutcome tells names task (record { others = old; door = door }) (record { others = after; door = door' }) status) lent outcome)
+pub served_of : {I O C E : Type 0} {tells : Tellings I O C E} {names : PricedNames} {port connections : ℕ} {before was : Parts I O C} {door door' : DoorSeen} {status : ℕ} (after : Parts I O C) {input : I} {output : O} {cabinet : C} → before ≡ was → after.input ≡ input → after.output ≡ output → after.cabinet ≡ cabinet
+    → ServeOutcome tells names port connections before after door door' status → ServeOutcome tells names port connections was (parts input output cabinet) door door' status
+served_of {tells = tells} {names = names} {port = port} {connections = connections} {was = was} {door = door} {door' = door'} {status = status} after lent input output cabinet outcome =
+    subst (λ (now : Parts _ _ _). ServeOutcome tells names port connections was now door door' status) (λ i. parts (input i) (output i) (cabinet i))
+    (subst (λ (old : Parts _ _ _). ServeOutcome tells names port connections old after door door' status) lent outcome)
+
+-- words that do not ask to serve come to what they come to for every command that waits for nobody,
+-- and the door is as it was
+pub beside_door : {I O C E : Type 0} (tells : Tellings I O C E) (offer : Offer) (before after : Parts I O C) (door : DoorSeen) (status : ℕ) (words : List (List ℕ)) → (¬ AsksToServe words) → OfflineOutcome tells offer before after status words → HosedOutcome tells offer before after door door status words
+beside_door tells offer before after door status words never outcome = record {
+  offline = λ none. (outcome, refl);
+  words_at_1 = λ asks. absurd (never asks);
+  wrong_words = λ asks. absurd (never asks);
+  serves = λ task are. absurd (never (subst (IsFirst (λ word. word ≡ program_word command.Serve)) (sym are.are) refl));
+}

@@ -23,8 +23,8 @@ use Rattle.hose_offline.specs.OnDisk.{opening_of}
 use Rattle.hose_offline.specs.steps.Journal.{IsJustOpened}
 use Rattle.hose_offline.specs.declared.fault.Fault.{Fault}
 use Rattle.hose_offline.specs.declared.fault.Fault.TheVariants.{Memory}
-use Rattle.hosed.specs.ServerDoor.{IsAnnounced, OutputDoor, ServerProgress, ServesBook, Speaks, StaysAsRead, from_to}
-use Rattle.hosed.specs.steps.ServerDoor.{IsClosedOn, IsKeptOn, IsNoEntry, IsOpenedAs, IsOpening, Opened, OpensAt}
+use Rattle.hosed.specs.ServerDoor.{DoorSeen, ServesBook, Speaks, StaysAsRead}
+use Rattle.hosed.specs.steps.ServerDoor.{IsAnnounced, IsClosedOn, IsKeptOn, IsNoEntry, IsOpenedAs, IsOpening, Opened, OpensAt}
 use Rattle.hose_store.proofs.Standing.{opened_stands}
 use Rattle.hosed.specs.declared.server.ServerEnd.{ServerEnd}
 
@@ -49,18 +49,18 @@ just_opened disk was network store opens =
     }
 
 -- what a server that gave up comes to: the journal stays as it was read
-pub given_up : (network : Network) (IsKept : ServerProgress → Result ⊤ Failed → Type 0) (faults : ℕ) (Along : Known → Result ⊤ Failed → Type 0) (came : Result ServerEnd Fault) (why : Fault) → came ≡ Err why → StaysAsRead network IsKept → ServesBook network IsKept faults Along came
+pub given_up : (network : Network) (IsKept : List Entry → List Entry → List Tried → Result ⊤ Failed → Type 0) (faults : ℕ) (Along : Known → Result ⊤ Failed → Type 0) (came : Result ServerEnd Fault) (why : Fault) → came ≡ Err why → StaysAsRead network IsKept → ServesBook network IsKept faults Along came
 given_up network IsKept faults Along came why is stays = subst (ServesBook network IsKept faults Along) (sym is) stays
 
 -- and it says why the door was not opened or not announced
-pub not_announced : {O : Type 0} (sink : SinkGhosts O) (port : ℕ) (before after : OutputDoor O) (why : Fault) → IsAnnounced sink port before after {T = ⊤} (Err why) → Speaks sink port before after (Err why)
-not_announced sink port before after Memory is = absurd is
-not_announced sink port before after another is = is
+pub not_announced : {O : Type 0} (sink : SinkGhosts O) (port : ℕ) (output output' : O) (was now : DoorSeen) (why : Fault) → IsAnnounced sink port output output' was now {T = ⊤} (Err why) → Speaks sink port output output' was now (Err why)
+not_announced sink port output output' was now Memory is = absurd is
+not_announced sink port output output' was now another is = is
 
 -- also where the store was closed then, with the door as it was
-pub gave_up : {O : Type 0} (sink : SinkGhosts O) (port : ℕ) (before mid after : OutputDoor O) (came : Result ServerEnd Fault) (why : Fault) → came ≡ Err why → after ≡ mid → IsAnnounced sink port before mid {T = ⊤} (Err why) → Speaks sink port before after came
-gave_up {O} sink port before mid after came why is same announced =
-    subst (Speaks sink port before after) (sym is) (subst (λ (now : OutputDoor O). Speaks sink port before now (Err why)) (sym same) (not_announced sink port before mid why announced))
+pub gave_up : {O : Type 0} (sink : SinkGhosts O) (port : ℕ) (output output' : O) (was mid now : DoorSeen) (came : Result ServerEnd Fault) (why : Fault) → came ≡ Err why → now ≡ mid → IsAnnounced sink port output output' was mid {T = ⊤} (Err why) → Speaks sink port output output' was now came
+gave_up sink port output output' was mid now came why is same announced =
+    subst (Speaks sink port output output' was now) (sym is) (subst (λ (door : DoorSeen). Speaks sink port output output' was door (Err why)) (sym same) (not_announced sink port output output' was mid why announced))
 
 -- a store stands for a history since any images that are no fewer
 stands_had : {E : Type 0} (disk : DiskGhosts E) (Had Has : List ℕ → Type 0) (beginning : Beginning) (history : List Entry) (store : KeptStore E) → ((image : List ℕ) → Had image → Has image) → StandsFor disk IsNoEntry Had beginning history store
@@ -133,7 +133,7 @@ module _ {E : Type 0} (disk : DiskGhosts E) (opened : Opened) (was : E) (first :
 
 module _ {E : Type 0} (disk : DiskGhosts E) (was left : E) (network : Network) (closing : Result ⊤ Failed) where
   kept_from : (since history : List Entry) (tries : List Tried) (first store : KeptStore E) → IsOpening disk was network since first → StandsFor disk (IsTried history tries) (disk.may_leave was) (opening_of disk network since was) history store → IsClosedOn disk store left closing
-      → IsKeptOn disk was left (from_to network since history tries) closing
+      → IsKeptOn disk was left network since history tries closing
   kept_from since history tries first store opening stands closed = record {
     read = opening.read;
     begins = stands.since;
@@ -143,7 +143,7 @@ module _ {E : Type 0} (disk : DiskGhosts E) (was left : E) (network : Network) (
   }
 
   -- a store that was opened and closed
-  pub closed_at_once : (since : List Entry) (store : KeptStore E) → IsOpening disk was network since store → IsClosedOn disk store left closing → StaysAsRead network (IsKeptOn disk was left)
+  pub closed_at_once : (since : List Entry) (store : KeptStore E) → IsOpening disk was network since store → IsClosedOn disk store left closing → StaysAsRead network (IsKeptOn disk was left network)
   closed_at_once since store opening closed = record { since = since; closing = closing; kept = kept_from since since [] store store opening (stands_weaker disk IsNoEntry (IsTried since []) (disk.may_leave was) (opening_of disk network since was) since store (λ book entry none. absurd none) opening.stands) closed }
 
   -- a store that was shared between
@@ -167,38 +167,33 @@ module _ {E : Type 0} (disk : DiskGhosts E) (was left : E) (network : Network) (
       is_tried = ⊎_elim (λ next. inl next) (λ tried. inr (tried.0, shared.whole.tried tried.0 tried.1, tried.2, tried.3)) is.is_tried;
     }
 
-    kept : IsKeptOn disk was left (from_to network since shared.history pass.tried) closing
+    kept : IsKeptOn disk was left network since shared.history pass.tried closing
     kept = kept_from since shared.history pass.tried first store (named since first began)
         (stands_weaker disk (IsTried shared.history shared.tries) IsMine (disk.may_leave was) (opening_of disk network since was) shared.history store mine
         (shared.stands (opening_of disk network since was) was refl (sym of) (λ one begins.
         stands_weaker disk IsNoEntry (IsTried shared.history shared.tries) (disk.may_leave was) (opening_of disk network since was) since one (λ book entry none. absurd none) (named since one begins).stands))) closed
 
     -- nothing was made along the pass
-    pub stays_shared : pass.own ≡ [] → pass.tried ≡ [] → StaysAsRead network (IsKeptOn disk was left)
+    pub stays_shared : pass.own ≡ [] → pass.tried ≡ [] → StaysAsRead network (IsKeptOn disk was left network)
     stays_shared none untried = record {
       since = since;
       closing = closing;
-      kept = subst (λ (history : List Entry). IsKeptOn disk was left (from_to network since history []) closing)
+      kept = subst (λ (history : List Entry). IsKeptOn disk was left network since history [] closing)
           (no_more since shared.history kept.begins (subst (HasPlaces (length since) (length shared.history)) none shared.whole.own))
-          (subst (λ (tries : List Tried). IsKeptOn disk was left (from_to network since shared.history tries) closing) untried kept);
+          (subst (λ (tries : List Tried). IsKeptOn disk was left network since shared.history tries closing) untried kept);
     }
 
     -- connections were served along it
     pub serves_shared : (Along : Known → Result ⊤ Failed → Type 0) (book : Ledger) (accepting : Result ⊤ Failed) → store.ledger ≡ book → Along pass accepting
-        → ServesBook network (IsKeptOn disk was left) (disk.frame left).faults Along (Ok (record { book = book; accepting = accepting; closing = closing }))
+        → ServesBook network (IsKeptOn disk was left network) (disk.frame left).faults Along (Ok (record { book = book; accepting = accepting; closing = closing }))
     serves_shared Along book accepting is served = record {
-      since = since;
       history = shared.history;
       pass = pass;
+      of = of;
       kept = kept;
-      along = record {
-        of = of;
-        began = refl;
-        seen = shared.whole.seen;
-        own = shared.whole.own;
-        tried = refl;
-        met = ⊎_elim (λ few. inl (omega (arith, few, closed.call.met.stays.never_falls))) (λ most. inr (omega (arith, most, closed.call.met.stays.never_falls))) met;
-      };
+      seen = shared.whole.seen;
+      own = shared.whole.own;
+      met = ⊎_elim (λ few. inl (omega (arith, few, closed.call.met.stays.never_falls))) (λ most. inr (omega (arith, most, closed.call.met.stays.never_falls))) met;
       served = served;
       is = subst (IsLedgerOf network 0 shared.history) is
           (record { is_network = shared.whole.stood.network ∙ of; is_book = shared.whole.stood.book });

@@ -4,21 +4,21 @@ use Rattle.hose_words.specs.Shapes.{IsFirstWrong}
 use Rattle.hose_offline.specs.Auditing.{priced_names}
 use Rattle.hose_offline.specs.Ending.{IsOut}
 use Rattle.hose_offline.specs.Fault.{last_line}
-use Rattle.hose_offline.specs.Parts.{Tellings}
+use Rattle.hose_offline.specs.Parts.{Parts, Tellings}
 use Rattle.hosed.specs.Offline.{Offer, OfflineOutcome}
 use Rattle.hosed.specs.ProgramWords.{AreWords, AreWrongWords, AsksToServe, Task, words_shape}
 use Rattle.hosed.specs.declared.verb.ProgramVerb.TheVariants as command
 use Rattle.hosed.specs.ServeOutcome.{ServeOutcome}
-use Rattle.hosed.specs.ServerDoor.{OutsideDoor}
+use Rattle.hosed.specs.ServerDoor.{DoorSeen}
 use Rattle.hose_offline.specs.declared.fault.Fault.TheVariants.{Words}
 
 module _ {I O C E : Type 0} (tells : Tellings I O C E) (offer : Offer)
-    (before after : OutsideDoor I O C) (status : ℕ) where
+    (before after : Parts I O C) (was now : DoorSeen) (status : ℕ) where
   -- A server did what its task says, at the prices of the tariff that is chosen.
   abbrev pub Serves : Task offer.pricing.names command.Serve → Type 0
   Serves (tariff, (topology, (journal, (port, (connections, (workers, _)))))) =
-      ServeOutcome tells (priced_names (offer.prices tariff) topology journal)
-      (record { port = port; connections = connections }) before after status
+      ServeOutcome tells (priced_names (offer.prices tariff) topology journal) port connections
+      before after was now status
 
   -- Words that do not begin with `serve` come to what they come to for every command that waits for
   -- nobody, and nothing is done to the door. Of those that do, wrong ones end with the status 1 and
@@ -26,14 +26,11 @@ module _ {I O C E : Type 0} (tells : Tellings I O C E) (offer : Offer)
   -- server does.
   pub record HosedOutcome (words : List (List ℕ)) : Type 0 where
     pub offline : ¬ AsksToServe words
-        → OfflineOutcome tells offer before.others after.others status words
-        × (after.door ≡ before.door)
+        → OfflineOutcome tells offer before after status words × (now ≡ was)
     pub words_at_1 : AsksToServe words → (status ≡ 1) ↔ AreWrongWords offer.pricing.names words
-    pub wrong_words : AsksToServe words → status ≡ 1
-        → (after.others.input ≡ before.others.input)
-        × (after.others.cabinet ≡ before.others.cabinet) × (after.door ≡ before.door)
+    pub wrong_words : AsksToServe words → status ≡ 1 → (after.input ≡ before.input)
+        × (after.cabinet ≡ before.cabinet) × (now ≡ was)
         × ((word : ℕ) × IsFirstWrong (words_shape offer.pricing.names) words word
-        × IsOut tells.sink before.others.output after.others.output (last_line (Words word)))
+        × IsOut tells.sink before.output after.output (last_line (Words word)))
     pub serves : (task : Task offer.pricing.names command.Serve)
-        → AreWords offer.pricing.names words command.Serve task
-        → Serves task
+        → AreWords offer.pricing.names words command.Serve task → Serves task

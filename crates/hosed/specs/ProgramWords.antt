@@ -1,5 +1,5 @@
 -- The words that the program is run with.
-use Rattle.std.specs.Prelude.{◌≡◌, ◌≢◌, ℕ, ◌-◌, ◌^◌, ◌<◌, ◌≤◌, List, [], ◌∷◌, codes, decimal, get_or, length, Option, None, Some, suc, zero, ⊤}
+use Rattle.std.specs.Prelude.{◌≡◌, ◌≢◌, ℕ, ◌-◌, ◌^◌, ◌<◌, ◌≤◌, List, [], codes, decimal, get_or, length, Option, None, Some, slice_get, ⊤}
 use Rattle.hose_words.specs.Numbers.{Fits64, IsWithin}
 use Rattle.hose_words.specs.Words.{IsFirst}
 use Rattle.hose_words.specs.Shapes.{Shape, Tells, Values, flag, items, last, line_end, option, value}
@@ -38,9 +38,7 @@ pub record IsFirstNamed (names : List (List ℕ)) (place : ℕ) : Type 0 where
 -- the tariff that is chosen, if one is
 abbrev pub chosen_of : {T : Type 0} → List T → Option ℕ → Option T
 chosen_of tariffs None = None
-chosen_of [] (Some which) = None
-chosen_of (tariff ∷ tariffs) (Some zero) = Some tariff
-chosen_of (tariff ∷ tariffs) (Some (suc which)) = chosen_of tariffs (Some which)
+chosen_of tariffs (Some which) = slice_get tariffs which
 
 module _ {T : Type 0} (prices : T → Network → Network → Type 0) where
   -- what a tariff makes of a network; its own costs where there is none

@@ -4,15 +4,16 @@ use Rattle.hose_io.specs.Frame.{Rose}
 use Rattle.hose_io.specs.declared.Failed.{Failed}
 use Rattle.hose_io.specs.declared.sink.Sink.{Ghosts as SinkGhosts}
 use Rattle.hose_graph.specs.Network.{Network}
+use Rattle.hose_crew.specs.Crew.{AreServed}
 use Rattle.hose_audit.specs.Audit.{audit_text}
 use Rattle.hose_offline.specs.AuditOutcome.{NamedOutcome}
 use Rattle.hose_offline.specs.Auditing.{PricedNames}
 use Rattle.hose_offline.specs.Ending.{EndsTold, IsOut}
 use Rattle.hose_offline.specs.Fault.{last_line, status_of}
-use Rattle.hose_offline.specs.Parts.{Tellings}
+use Rattle.hose_offline.specs.Parts.{Parts, Tellings}
 use Rattle.hose_offline.specs.declared.fault.Fault.{Fault}
 use Rattle.hose_offline.specs.declared.fault.Fault.TheVariants.{Cabinet, Door, Write}
-use Rattle.hosed.specs.ServerDoor.{DoorTask, AreServedAlongPass, OutsideDoor, ServesByJournal, Speaks, spoken}
+use Rattle.hosed.specs.ServerDoor.{DoorSeen, ServesByJournal, Speaks}
 use Rattle.hosed.specs.declared.server.ServerEnd.{ServerEnd}
 
 -- what came of accepting and then closing: the first fault
@@ -31,25 +32,24 @@ module _ {O : Type 0} (sink : SinkGhosts O) (output output' : O) (status : ℕ) 
   EndsServed (Err Write) = (status ≡ status_of Write) × (output' ≡ output)
   EndsServed (Err why) = (status ≡ status_of why) × IsOut sink output output' (last_line why)
 
-module _ {I O C E : Type 0} (tells : Tellings I O C E) (name : List ℕ) (task : DoorTask)
-    (before after : OutsideDoor I O C) where
+module _ {I O C E : Type 0} (tells : Tellings I O C E) (name : List ℕ)
+    (port connections : ℕ) (before after : Parts I O C) (was now : DoorSeen) where
   -- A store was opened on the journal and served connections, or not, which left the output as
   -- `mid` is, and then the rest was told.
   pub record IsServed (status : ℕ) (network : Network) : Type 0 where
     pub mid : O
     pub came : Result ServerEnd Fault
-    pub serves : ServesByJournal tells name before.others.cabinet after.others.cabinet network
-        (AreServedAlongPass task.connections before.door after.door) came
-    pub speaks : Speaks tells.sink task.port (spoken before)
-        (record (spoken after) { output = mid }) came
-    pub ends : EndsServed tells.sink mid after.others.output status came
+    pub serves : ServesByJournal tells name before.cabinet after.cabinet network
+        (AreServed was.told now.told connections) came
+    pub speaks : Speaks tells.sink port before.output mid was now came
+    pub ends : EndsServed tells.sink mid after.output status came
 
-module _ {I O C E : Type 0} (tells : Tellings I O C E) (names : PricedNames) (task : DoorTask)
-    (before after : OutsideDoor I O C) where
+module _ {I O C E : Type 0} (tells : Tellings I O C E) (names : PricedNames)
+    (port connections : ℕ) (before after : Parts I O C) (was now : DoorSeen) where
   -- A server tells the book of the journal as it was after the last connection.
   abbrev pub ServeOutcome : ℕ → Type 0
-  ServeOutcome = NamedOutcome tells names before.others after.others (record {
-    IsFulfilled = IsServed tells names.journal task before after;
-    Untouched = after.door ≡ before.door;
-    OthersHeld = ¬ Rose before.door.frame after.door.frame;
+  ServeOutcome = NamedOutcome tells names before after (record {
+    IsFulfilled = IsServed tells names.journal port connections before after was now;
+    Untouched = now ≡ was;
+    OthersHeld = ¬ Rose was.frame now.frame;
   })

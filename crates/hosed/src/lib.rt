@@ -37,7 +37,7 @@ ghost use Rattle.hosed.specs.Hosed.{HosedOutcome};
 ghost use Rattle.hosed.specs.Naming.{NamesOf};
 ghost use Rattle.hosed.specs.Offline.{OfflineOutcome, offer_of};
 ghost use Rattle.hosed.specs.ProgramWords.{AsksToServe};
-ghost use Rattle.hosed.specs.ServerDoor.{seen_of, with_door};
+ghost use Rattle.hosed.specs.ServerDoor.{seen_of};
 
 mod chosen;
 mod doing;
@@ -63,7 +63,7 @@ use server::serve;
 use std::alloc::Global;
 use std::sync::Wait;
 use std::thread::Threads;
-use verb::asks_to_serve;
+pub use verb::asks_to_serve;
 pub use words::MOST_CONNECTIONS;
 use words::{request_of, serve_of};
 
@@ -127,10 +127,9 @@ pub fn hosed<
     ensures outcome { HosedOutcome (tellings I.Source O.Sink C.Cabinet C.Disk.Disk)
         (offer_of ⟦<Tariff as Prices>⟧.prices (λ tariff. tariff.name) (λ tariff. tariff.base)
         (λ tariff. tariff.per) tariffs.now)
-        (with_door input.old output.old cabinet.old
-        (seen_of (L.frame door.old) (L.told door.old) (L.opened_at door.old)))
-        (with_door input.new output.new cabinet.new
-        (seen_of (L.frame door.new) (L.told door.new) (L.opened_at door.new)))
+        (parts input.old output.old cabinet.old) (parts input.new output.new cabinet.new)
+        (seen_of (L.frame door.old) (L.told door.old) (L.opened_at door.old))
+        (seen_of (L.frame door.new) (L.told door.new) (L.opened_at door.new))
         result (map string_bytes words.now) }
     ensures back { (C.frame cabinet.new).out ≡ None }
     ensures keeps { AllStay (tellings I.Source O.Sink C.Cabinet C.Disk.Disk)
@@ -173,10 +172,9 @@ pub fn hosed_ended<
     ensures outcome { HosedOutcome (tellings I.Source O.Sink C.Cabinet C.Disk.Disk)
         (offer_of ⟦<Tariff as Prices>⟧.prices (λ tariff. tariff.name) (λ tariff. tariff.base)
         (λ tariff. tariff.per) tariffs.now)
-        (with_door input.old output.old cabinet.old
-        (seen_of (L.frame door.old) (L.told door.old) (L.opened_at door.old)))
-        (with_door input.new output.new cabinet.new
-        (seen_of (L.frame door.new) (L.told door.new) (L.opened_at door.new)))
+        (parts input.old output.old cabinet.old) (parts input.new output.new cabinet.new)
+        (seen_of (L.frame door.old) (L.told door.old) (L.opened_at door.old))
+        (seen_of (L.frame door.new) (L.told door.new) (L.opened_at door.new))
         (why_status result.why) (map string_bytes words.now) }
     ensures told { IsTold O.Sink output.new result.why }
     ensures fails { FailsWords (tellings I.Source O.Sink C.Cabinet C.Disk.Disk)

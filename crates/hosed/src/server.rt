@@ -3,6 +3,7 @@ ghost use Rattle.std.specs.Prelude.{◌≡◌, ◌≢◌, ◌≤◌, Err, IfOk, 
 ghost use Rattle.hose_io.specs.declared.Failed.{Failed};
 ghost use Rattle.hose_io.specs.steps.Connections.{AreAccounted};
 ghost use Rattle.hose_io.specs.Frame.{Stays};
+ghost use Rattle.hose_crew.specs.Crew.{AreServed};
 ghost use Rattle.hose_offline.specs.Auditing.{priced_names};
 ghost use Rattle.hose_offline.specs.Failing.{FailsNamed};
 ghost use Rattle.hose_offline.specs.steps.Ending.{WroteWhy};
@@ -10,8 +11,8 @@ ghost use Rattle.hose_offline.specs.Why.{IsTold, why_status};
 ghost use Rattle.hose_offline.specs.Parts.{tellings};
 ghost use Rattle.hose_offline.specs.steps.Parts.{KeepsAll, held};
 ghost use Rattle.hosed.specs.ServeOutcome.{EndsServed, ServeOutcome, first_failed};
-ghost use Rattle.hosed.specs.ServerDoor.{IsAnnounced, AreServedAlongPass, Speaks, output_door, seen_of};
-ghost use Rattle.hosed.specs.steps.ServerDoor.{BothStay, IsClosedOn, IsOpenedAs, IsWhyServed, Opened, ServesByStore, door_beside, door_task};
+ghost use Rattle.hosed.specs.ServerDoor.{Speaks, seen_of};
+ghost use Rattle.hosed.specs.steps.ServerDoor.{BothStay, IsAnnounced, IsClosedOn, IsOpenedAs, IsWhyServed, Opened, ServesByStore};
 
 use crate::words::ServeRequest;
 use hose_book::{Book, Books};
@@ -90,11 +91,9 @@ pub struct Staff<L: Door, N: DoorStart> {
 
 // Opens the door, and says that the server is ready.
 fn announce<O: Sink, L: Door>(door: &mut L, port: u16, output: &mut O) -> Result<(), Fault>
-    ensures announced { IsAnnounced O.Sink port
-        (output_door output.old
-        (seen_of (L.frame door.old) (L.told door.old) (L.opened_at door.old)))
-        (output_door output.new
-        (seen_of (L.frame door.new) (L.told door.new) (L.opened_at door.new))) result }
+    ensures announced { IsAnnounced O.Sink port output.old output.new
+        (seen_of (L.frame door.old) (L.told door.old) (L.opened_at door.old))
+        (seen_of (L.frame door.new) (L.told door.new) (L.opened_at door.new)) result }
     ensures told { L.told door.new ≡ L.told door.old }
     ensures frame { IfOk result (λ _. L.frame door.new ≡ L.frame door.old) }
     ensures port { IfOk result (λ _. L.opened_at door.new ≡ Some port) }
@@ -160,14 +159,11 @@ fn serve_store<
     } }
     requires opened { IsOpenedAs D.Disk N.opened opening.was.value opening.store }
     ensures serves { ServesByStore D.Disk opening.was.value result.disk
-        opening.store.ledger.network (AreServedAlongPass request.entry.connections
+        opening.store.ledger.network
+        (AreServed (L.told door) (L.told result.door) request.entry.connections) result.came }
+    ensures speaks { Speaks O.Sink request.entry.port output.old output.new
         (seen_of (L.frame door) (L.told door) (L.opened_at door))
-        (seen_of (L.frame result.door) (L.told result.door) (L.opened_at result.door)))
-        result.came }
-    ensures speaks { Speaks O.Sink request.entry.port
-        (output_door output.old (seen_of (L.frame door) (L.told door) (L.opened_at door)))
-        (output_door output.new
-        (seen_of (L.frame result.door) (L.told result.door) (L.opened_at result.door)))
+        (seen_of (L.frame result.door) (L.told result.door) (L.opened_at result.door))
         result.came }
     ensures stay { BothStay (O.frame output.old) (O.frame output.new)
         (L.frame door) (L.frame result.door) }
@@ -250,11 +246,9 @@ pub fn serve<
     requires workers { (1 ≤ request.workers) × (request.workers ≤ MOST_WORKERS) }
     ensures outcome { ServeOutcome (tellings I.Source O.Sink C.Cabinet C.Disk.Disk)
         (priced_names (P.prices costs.now) request.entry.topology.now request.entry.journal.now)
-        (door_task request.entry)
-        (door_beside outside.old
-        (seen_of (L.frame door.old) (L.told door.old) (L.opened_at door.old)))
-        (door_beside outside.new
-        (seen_of (L.frame door.new) (L.told door.new) (L.opened_at door.new)))
+        request.entry.port request.entry.connections (held outside.old) (held outside.new)
+        (seen_of (L.frame door.old) (L.told door.old) (L.opened_at door.old))
+        (seen_of (L.frame door.new) (L.told door.new) (L.opened_at door.new))
         (why_status result) }
     ensures told { IsTold O.Sink outside.new.output.now result }
     ensures fails { FailsNamed (tellings I.Source O.Sink C.Cabinet C.Disk.Disk)

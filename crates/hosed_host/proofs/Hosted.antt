@@ -41,7 +41,7 @@ use Rattle.hose_offline.specs.steps.Journal.{ClosesJournal, OpensJournal}
 use Rattle.hose_offline.proofs.Provided.{decided_provides}
 use Rattle.hose_offline.proofs.Journals.{leaves_for, put_back}
 use Rattle.hose_offline.proofs.PutBack.{IsPutBack, counts, held_as, left_as_kind}
-use Rattle.hosed_host.specs.HostBook.{DoorTellings, HostsByJournal, HostsDoors, IsEndedFor, KeepsHosted, LeavesDoors, StandOnDisk, StaysUnhosted, host_progress}
+use Rattle.hosed_host.specs.HostBook.{DoorTellings, HostsByJournal, HostsDoors, IsEndedFor, KeepsHosted, LeavesDoors, StandOnDisk, StaysUnhosted}
 use Rattle.hosed_host.specs.HostDoors.{AreOpenedAt, DoorsAsked, StandbyPlace, is_required, may_be_alone}
 use Rattle.hosed_host.specs.declared.hosting.HostEnd.{HostEnd}
 use Rattle.hosed_host.specs.declared.hosting.NotHosted.{NotHosted}
@@ -65,7 +65,7 @@ module _ {I O C E : Type 0} (tells : Tellings I O C E) (name : List ℕ) (before
 
   -- lines were answered by the store that was opened, and it was closed
   pub keeps_made : (required : Bool) (state : HostState) (xs : List (Exchange HostLine HostReply)) (ended : Bool) → state.ended ≡ ended → AreHostSteps network required xs (host_from since) state → IsDecided network 0 (length since) state.history → IsPrefix since state.history
-      → GoesOn (store_books tells.disk) (IsAskedOf required since xs) network since store state.history last → (was now : ℕ) → now ≤ (tells.disk.frame closes.left).faults → TellsDisks was xs now → KeepsHosted tells name before after (host_progress network required since state.history xs ended) closing
+      → GoesOn (store_books tells.disk) (IsAskedOf required since xs) network since store state.history last → (was now : ℕ) → now ≤ (tells.disk.frame closes.left).faults → TellsDisks was xs now → KeepsHosted tells name before after network required since state.history xs ended closing
   keeps_made required state xs ended ends steps decided begins goes was now more told = record {
     begun = held_as tells.cabinet tells.disk name before mid after network opens.was closes.left back (IsHistoryOf network since) opens.opens.opened.read;
     begins = begins;
@@ -84,7 +84,7 @@ module _ {I O C E : Type 0} (tells : Tellings I O C E) (name : List ℕ) (before
   }
 
   -- lines were answered by a clerk
-  pub keeps_hosted : (required : Bool) (led after_all : LedState E) → led.store ≡ store → after_all.store ≡ last → (sessions : List Session) (ended : Bool) (tally : Tally) (by : LinkState) (xs : List (Exchange HostLine HostReply)) (link : Link) (hosted : HasHosted (led_books tells.disk) (IsLedOf tells.disk) required since led after_all sessions ended tally by xs link) → KeepsHosted tells name before after (host_progress network required since hosted.hosted.state.history xs ended) closing
+  pub keeps_hosted : (required : Bool) (led after_all : LedState E) → led.store ≡ store → after_all.store ≡ last → (sessions : List Session) (ended : Bool) (tally : Tally) (by : LinkState) (xs : List (Exchange HostLine HostReply)) (link : Link) (hosted : HasHosted (led_books tells.disk) (IsLedOf tells.disk) required since led after_all sessions ended tally by xs link) → KeepsHosted tells name before after network required since hosted.hosted.state.history xs ended closing
   keeps_hosted required led after_all is_store is_last sessions ended tally by xs link hosted =
       let all = hosted.hosted in
       let same = ap (λ (kept : KeptStore E). kept.ledger.network) is_store ∙ opens.opens.opened.network in
@@ -207,7 +207,7 @@ module _ {I O C E D N : Type 0} (tells : Tellings I O C E) (by : DoorTellings D 
         hosted = record {
           story = made.story;
           hosts = made.hosts;
-          comes_to = subst (KeepsHosted tells name before after (host_progress network (is_required asked.standby) beginning come.hosted.state.history (exchanges made.story) ended)) (sym same_closing) keeps;
+          comes_to = subst (KeepsHosted tells name before after network (is_required asked.standby) beginning come.hosted.state.history (exchanges made.story) ended) (sym same_closing) keeps;
           settled = made.settled;
           parts = made.parts;
         };

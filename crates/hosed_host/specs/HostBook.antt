@@ -33,13 +33,14 @@ use Rattle.hose_store.specs.Beginning.{HasLeft, IsOrInDoubt}
 use Rattle.hose_store.specs.Recovery.{IsHistoryOf}
 use Rattle.hose_lead.specs.LedStore.{LedState}
 use Rattle.hose_offline.specs.Ending.{EndsTold, IsOut}
-use Rattle.hose_offline.specs.Fault.{last_line, status_of}
+use Rattle.hose_offline.specs.Fault.{status_of}
 use Rattle.hose_offline.specs.OnDisk.{HadContent, OfHeld, opening_of}
 use Rattle.hose_offline.specs.Parts.{Tellings}
 use Rattle.hose_offline.specs.Run.{Provides}
 use Rattle.hose_offline.specs.declared.fault.Fault.TheVariants as fault
+use Rattle.hose_offline.specs.declared.why.Why.TheVariants.{Stopped}
 use Rattle.hosed_host.specs.HostDoors.{AreOpenedAt, DoorsAsked, is_required, may_be_alone, number_of}
-use Rattle.hosed_host.specs.HostWhy.{door_line, host_status, last_of_host}
+use Rattle.hosed_host.specs.HostWhy.{host_status, last_of_host}
 use Rattle.hosed_host.specs.declared.why.HostWhy.{HostWhy}
 use Rattle.hosed_host.specs.declared.why.HostWhy.TheVariants.{Door, Ended, StandbyAhead, StandbyGone}
 use Rattle.hosed_host.specs.declared.hosting.HostEnd.{HostEnd}
@@ -48,57 +49,37 @@ use Rattle.hosed_host.specs.declared.hosting.NotHosted.TheVariants as none
 
 -- ---- the book that is kept
 
--- lines that were answered by a host on a network, whose standby is required or not, from a history
--- on to another one, and whether the operator ended it
-pub record HostProgress : Type 0 where
-  pub network : Network
-  pub required : Bool
-  pub since : List Entry
-  pub history : List Entry
-  pub exchanges : List (Exchange HostLine HostReply)
-  pub ended : Bool
-
--- how lines were answered, of its parts
-abbrev pub host_progress : Network → Bool → List Entry → List Entry
-    → List (Exchange HostLine HostReply) → Bool → HostProgress
-host_progress network required since history exchanges ended = record {
-  network = network;
-  required = required;
-  since = since;
-  history = history;
-  exchanges = exchanges;
-  ended = ended;
-}
-
 module _ {I O C E : Type 0} (tells : Tellings I O C E) (name : List ℕ) (old new : C) where
   -- The journal of a name was kept from its opening, when it stood for the first history, to its
-  -- closing. The exchanges, in their order, are those of the sequential book from there on: each is
-  -- a step at the history to which those before it led, and it is told whether the operator ended
-  -- the host. Where an image of the disk has one entry more than a part of the history, one of the
-  -- lines asked for it. The cabinet failed exactly where closing did, and failures of the disk were
-  -- told no more often than it failed. The history provides what it is to.
-  pub record KeepsHosted (made : HostProgress) (closing : Result ⊤ Failed) : Type 0 where
-    pub begun : HadContent tells.cabinet tells.disk old name
-        (IsHistoryOf made.network made.since)
-    pub begins : IsPrefix made.since made.history
+  -- closing. The exchanges, in their order, are those of the sequential book from there on, by a
+  -- host whose standby is required or not: each is a step at the history to which those before it
+  -- led, and it is told whether the operator ended the host. Where an image of the disk has one
+  -- entry more than a part of the history, one of the lines asked for it. The cabinet failed
+  -- exactly where closing did, and failures of the disk were told no more often than it failed. The
+  -- history provides what it is to.
+  pub record KeepsHosted (network : Network) (required : Bool) (since history : List Entry)
+      (exchanges : List (Exchange HostLine HostReply)) (ended : Bool) (closing : Result ⊤ Failed)
+      : Type 0 where
+    pub begun : HadContent tells.cabinet tells.disk old name (IsHistoryOf network since)
+    pub begins : IsPrefix since history
     pub state : HostState
-    pub leads : state.history ≡ made.history
-    pub steps : AreHostSteps made.network made.required made.exchanges (host_from made.since) state
-    pub ends : state.ended ≡ made.ended
-    pub decided : IsDecided made.network 0 (length made.since) made.history
-    pub told : TellsDisks 0 made.exchanges (tells.cabinet.frame new).returned
+    pub leads : state.history ≡ history
+    pub steps : AreHostSteps network required exchanges (host_from since) state
+    pub ends : state.ended ≡ ended
+    pub decided : IsDecided network 0 (length since) history
+    pub told : TellsDisks 0 exchanges (tells.cabinet.frame new).returned
     pub met : Met (object_of (tells.cabinet.frame old)) (object_of (tells.cabinet.frame new))
         closing
     pub left : OfHeld tells.cabinet name old new (λ was left. HasLeft tells.disk
-        (IsAskedOf made.required made.since made.exchanges) (tells.disk.may_leave was)
-        (opening_of tells.disk made.network made.since was) made.history left closing)
-    pub provides : Provides made.network made.since made.history
+        (IsAskedOf required since exchanges) (tells.disk.may_leave was)
+        (opening_of tells.disk network since was) history left closing)
+    pub provides : Provides network since history
 
   -- The journal was opened and closed, and stands for what it stood for.
   pub record StaysUnhosted (network : Network) : Type 0 where
     pub since : List Entry
     pub closing : Result ⊤ Failed
-    pub kept : KeepsHosted (host_progress network false since since [] false) closing
+    pub kept : KeepsHosted network false since since [] false closing
 
 -- Lines that were answered from a history on stand on the disk of a store: each image that a stop
 -- may leave now stands for the history to which they led, or for it and one entry more, for which
@@ -151,16 +132,10 @@ module _ {D N : Type 0} (doors : DoorsGhosts D N) (asked : DoorsAsked) (was now 
   -- closed again, since it could not be said that they are open.
   abbrev pub LeavesDoors : NotHosted → Type 0
   LeavesDoors none.Memory = (now ≡ was) ⊎ RefusesDoors refusal.Memory
-  LeavesDoors (none.Door word trouble) = (place : ℕ) × (word ≡ number_of asked place)
+  LeavesDoors (none.Door word trouble) = (place : ℕ)
+      × (word ≡ number_of asked.operator asked.first place)
       × RefusesDoors (refusal.Door place trouble)
   LeavesDoors none.Write = ClosesDoors
-
-  -- where it is told which door could not be opened, and why, the opening failed for that
-  abbrev pub TellsDoor : HostWhy → Type 0
-  TellsDoor (Ended why) = ⊤
-  TellsDoor (Door word trouble) = LeavesDoors (none.Door word trouble)
-  TellsDoor StandbyGone = ⊤
-  TellsDoor (StandbyAhead count) = ⊤
 
 -- whether the operator had ended a host that ended for this reason
 abbrev pub IsEndedFor : Parting → Bool → Type 0
@@ -201,9 +176,8 @@ module _ {I O C E D N : Type 0} (tells : Tellings I O C E) (by : DoorTellings D 
       may_be_alone = may_be_alone asked.standby;
       leads = LeadsBy network (is_required asked.standby) since;
       is_ahead = IsAheadBy network (is_required asked.standby) since;
-    }) (λ exchanges. KeepsHosted tells name old new
-        (host_progress network (is_required asked.standby) since history exchanges ended)
-        end.closing) end.why first last
+    }) (λ exchanges. KeepsHosted tells name old new network (is_required asked.standby) since
+        history exchanges ended end.closing) end.why first last
     pub is : IsLedgerOf network 0 history end.book
 
   -- what hosting by a journal that was opened comes to: connections were hosted; or nothing was
@@ -228,28 +202,26 @@ module _ {O : Type 0} (sink : SinkGhosts O) (output output' : O) where
       (line_of (codes "ready"))
       × Rose (sink.frame output) (sink.frame output')
 
-module _ {O : Type 0} (sink : SinkGhosts O) (output output' : O) where
+module _ {O : Type 0} (sink : SinkGhosts O) (output output' : O) (status : ℕ) where
+  -- The status and the last line tell that a host ended for this reason: the line follows a text,
+  -- or the output failed, and a part of both is out.
+  abbrev pub EndsFor : HostWhy → List ℕ → Type 0
+  EndsFor why text =
+      (status ≡ host_status why) × IsOut sink output output' (text ++ last_of_host why)
+
   -- How a text ends, by why the host ended and what closing came to: by the first fault of the
   -- doors and of closing; or by the line that tells of the standby.
-  abbrev pub EndsBy : ℕ → List ℕ → Parting → Result ⊤ Failed → Type 0
-  EndsBy status text parting.Asked (Ok _) =
-      EndsTold {T = ⊤} sink output output' status (Ok tt) text
-  EndsBy status text parting.Asked (Err failed) =
-      EndsTold {T = ⊤} sink output output' status (Err fault.Cabinet) text
-  EndsBy status text parting.Told closing =
-      EndsTold {T = ⊤} sink output output' status (Err fault.Door) text
-  EndsBy status text parting.Late closing = (status ≡ host_status StandbyGone)
-      × IsOut sink output output' (text ++ last_of_host StandbyGone)
-  EndsBy status text (parting.Ahead count) closing = (status ≡ host_status (StandbyAhead count))
-      × IsOut sink output output' (text ++ last_of_host (StandbyAhead count))
+  abbrev pub EndsBy : List ℕ → Parting → Result ⊤ Failed → Type 0
+  EndsBy text parting.Asked (Ok _) = EndsTold {T = ⊤} sink output output' status (Ok tt) text
+  EndsBy text parting.Asked (Err failed) = EndsFor (Ended (Stopped fault.Cabinet)) text
+  EndsBy text parting.Told closing = EndsFor (Ended (Stopped fault.Door)) text
+  EndsBy text parting.Late closing = EndsFor StandbyGone text
+  EndsBy text (parting.Ahead count) closing = EndsFor (StandbyAhead count) text
 
   -- How the output ends: after connections the text of the book is told, and the last line of a
   -- fault follows it; else there is the last line alone, and none after an output that failed.
-  abbrev pub EndsHosted : ℕ → Result HostEnd NotHosted → Type 0
-  EndsHosted status (Ok end) =
-      EndsBy status (audit_text end.book.network end.book.book) end.why end.closing
-  EndsHosted status (Err none.Memory) =
-      (status ≡ status_of fault.Memory) × IsOut sink output output' (last_line fault.Memory)
-  EndsHosted status (Err (none.Door word trouble)) =
-      (status ≡ status_of fault.Door) × IsOut sink output output' (door_line word)
-  EndsHosted status (Err none.Write) = (status ≡ status_of fault.Write) × (output' ≡ output)
+  abbrev pub EndsHosted : Result HostEnd NotHosted → Type 0
+  EndsHosted (Ok end) = EndsBy (audit_text end.book.network end.book.book) end.why end.closing
+  EndsHosted (Err none.Memory) = EndsFor (Ended (Stopped fault.Memory)) []
+  EndsHosted (Err (none.Door word trouble)) = EndsFor (Door word trouble) []
+  EndsHosted (Err none.Write) = (status ≡ status_of fault.Write) × (output' ≡ output)

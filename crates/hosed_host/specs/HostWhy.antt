@@ -14,14 +14,10 @@ host_status (Door word trouble) = 9
 host_status StandbyGone = 16
 host_status (StandbyAhead count) = 17
 
--- the line that tells which door could not be opened, by the number of its word
-abbrev pub door_line : ℕ → List ℕ
-door_line word = line_of (codes "door " ++ decimal word)
-
--- the last line
+-- the last line, which tells of a door that could not be opened the number of its word
 abbrev pub last_of_host : HostWhy → List ℕ
 last_of_host (Ended why) = why_line why
-last_of_host (Door word trouble) = door_line word
+last_of_host (Door word trouble) = line_of (codes "door " ++ decimal word)
 last_of_host StandbyGone = line_of (codes "standby")
 last_of_host (StandbyAhead count) = line_of (codes "ahead " ++ decimal count)
 

@@ -17,12 +17,12 @@ ghost use Rattle.hose_audit.specs.Audit.{audit_text};
 ghost use Rattle.hose_clerk.specs.steps.Linking.{goes_alone, path_at};
 ghost use Rattle.hose_offline.specs.steps.Journal.{OpensJournal, TouchesOnly};
 ghost use Rattle.hose_offline.specs.steps.Parts.{KeepsAll, LeavesBeside, held};
-ghost use Rattle.hosed_host.specs.HostBook.{Announces, EndsBy, EndsHosted, HostsByJournal, LeavesDoors, TellsDoor, door_tellings};
-ghost use Rattle.hosed_host.specs.HostDoors.{AreOpenedAt, door_names, may_be_alone};
+ghost use Rattle.hosed_host.specs.HostBook.{Announces, EndsBy, EndsHosted, HostsByJournal, LeavesDoors, door_tellings};
+ghost use Rattle.hosed_host.specs.HostDoors.{AreOpenedAt, door_words, may_be_alone};
 ghost use Rattle.hose_clerk.specs.declared.doors.DoorRule.{DoorRule};
-ghost use Rattle.hosed_host.specs.HostWhy.{TellsWhy, door_line, host_status, last_of_host};
+ghost use Rattle.hosed_host.specs.HostWhy.{TellsWhy, host_status, last_of_host};
 ghost use Rattle.hosed_host.specs.HostOutcome.{FailsHost, HostOutcome};
-ghost use Rattle.hosed_host.specs.steps.HostOutcome.{AreServable, FailsHosting, HostsJournal, IsWhyOf, asked_of, closed_as, doors_beside, plan_at, why_of_standby};
+ghost use Rattle.hosed_host.specs.steps.HostOutcome.{AreServable, FailsHosting, HostsJournal, IsWhyOf, asked_of, closed_as, plan_at, why_of_standby};
 
 use crate::opening::{HostDoors, Opened, StandbyPlan, opened_as};
 use crate::reading::open_led;
@@ -91,13 +91,15 @@ pub fn host_by_names<W: Wait, P: Prices, I: Source, O: Sink, C: Cabinet, D: Door
         (door_tellings D.Doors D.Network.Connections.did
         (D.Network.Connections.saw (LedState C.Disk)))
         (priced_names (P.prices costs.now) request.entry.topology.now request.entry.journal.now)
-        (asked_of request.entry.doors) (doors_beside outside.old doors.old)
-        (doors_beside outside.new doors.new) (host_status result) }
+        (asked_of request.entry.doors) (held outside.old) (held outside.new)
+        doors.old doors.new (host_status result) }
     ensures told { TellsWhy O.Sink outside.new.output.now result }
     ensures fails { FailsHost (tellings I.Source O.Sink C.Cabinet C.Disk.Disk)
+        (door_tellings D.Doors D.Network.Connections.did
+        (D.Network.Connections.saw (LedState C.Disk)))
         (priced_names (P.prices costs.now) request.entry.topology.now request.entry.journal.now)
-        (held outside.old) (held outside.new) result }
-    ensures door { TellsDoor D.Doors (asked_of request.entry.doors) doors.old doors.new result }
+        (asked_of request.entry.doors) (held outside.old) (held outside.new)
+        doors.old doors.new result }
     ensures not_words { host_status result ≢ 1 }
     ensures back { (C.frame outside.new.cabinet.now).out ≡ None }
     ensures keeps { KeepsAll (tellings I.Source O.Sink C.Cabinet C.Disk.Disk)
@@ -125,12 +127,11 @@ fn host_journal<W: Wait, I: Source, O: Sink, C: Cabinet, D: Doors, L: Log>(
     ensures hosts { HostsJournal (tellings I.Source O.Sink C.Cabinet C.Disk.Disk)
         (door_tellings D.Doors D.Network.Connections.did
         (D.Network.Connections.saw (LedState C.Disk))) request.entry.journal.now
-        (asked_of request.entry.doors) (doors_beside outside.old doors.old)
-        (doors_beside outside.new doors.new) (host_status result) topology }
+        (asked_of request.entry.doors) (held outside.old) (held outside.new)
+        doors.old doors.new (host_status result) topology }
     ensures told { TellsWhy O.Sink (held outside.new).output result }
-    ensures fails { FailsHosting C.Cabinet (held outside.old).cabinet (held outside.new).cabinet
-        result }
-    ensures door { TellsDoor D.Doors (asked_of request.entry.doors) doors.old doors.new result }
+    ensures fails { FailsHosting C.Cabinet D.Doors (asked_of request.entry.doors)
+        (held outside.old).cabinet (held outside.new).cabinet doors.old doors.new result }
     ensures input { (held outside.new).input ≡ (held outside.old).input }
     ensures alone { TouchesOnly C.Cabinet request.entry.journal.now (held outside.old).cabinet
         (held outside.new).cabinet }
@@ -239,7 +240,7 @@ fn open_doors<O: Sink, D: Doors>(
     doors: &mut D,
 ) -> Result<D::Network, NotHosted>
     requires servable { AreServable asked }
-    requires all { length addresses.now ≡ length (door_names (asked_of asked)) }
+    requires all { length addresses.now ≡ length (door_words (asked_of asked)) }
     ensures opened { IfOk result (λ network. D.opens doors.old addresses.now network doors.new) }
     ensures told { IfOk result (λ _. Grows (O.content output.old) (O.content output.new)
         (line_of (codes "ready")) × (O.frame output.new ≡ O.frame output.old)) }
@@ -285,7 +286,8 @@ fn tell_hosted<O: Sink>(came: Result<HostEnd, NotHosted>, output: &mut O) -> Hos
 
 // Writes which door could not be opened.
 fn put_door<O: Sink>(output: &mut O, word: u64) -> Result<(), Failed>
-    ensures { IsPut O.Sink output.old output.new (door_line word) result }
+    ensures { IsPut O.Sink output.old output.new (line_of (codes "door " ++ decimal word))
+        result }
 {
     let mut gather = Gather::new();
     gather.add_numbered(output, b"door ", word);

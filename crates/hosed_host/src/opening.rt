@@ -1,11 +1,11 @@
 // The doors of a host, as they are opened.
-ghost use Rattle.std.specs.Prelude.{◌≡◌, ◌+◌, ◌<◌, ◌≤◌, ℕ, List, [], IfOk, Option, get_or, length, map, take};
+ghost use Rattle.std.specs.Prelude.{◌≡◌, ◌+◌, ◌<◌, ◌≤◌, ℕ, List, [], IfOk, None, Option, get_or, length, map, take};
 ghost use Rattle.std.specs.String.{string_bytes};
 ghost use Rattle.hose_doors.specs.Doors.{NamesDoor};
 ghost use Rattle.hose_doors.specs.Limits.{most_doors};
 ghost use Rattle.hose_graph.specs.Limits.{operator};
-ghost use Rattle.hosed_host.specs.HostDoors.{AreOpenedAt, OpensAt, door_names, number_of, plain_rule, rule_for};
-ghost use Rattle.hosed_host.specs.HostDoors.DoorName.{Named};
+ghost use Rattle.hose_graph.specs.Name.{IsName};
+ghost use Rattle.hosed_host.specs.HostDoors.{AreOpenedAt, OpensAt, door_words, number_of, rule_for};
 ghost use Rattle.hosed_host.specs.steps.HostOutcome.{AreServable, asked_of};
 
 use hose_clerk::DoorRule;
@@ -57,7 +57,7 @@ impl<'w> HostDoors<'w> {
     /// How many doors there are.
     pub fn count(&self) -> usize
         requires { AreServable self.now }
-        ensures many { result ≡ length (door_names (asked_of self.now)) }
+        ensures many { result ≡ length (door_words (asked_of self.now)) }
         ensures few { result ≤ most_doors + 1 }
     {
         match self.operator {
@@ -69,8 +69,8 @@ impl<'w> HostDoors<'w> {
     /// The number of the word of a door, by its place, the operator's first.
     pub fn number(&self, place: usize) -> u64
         requires servable { AreServable self.now }
-        requires there { place < length (door_names (asked_of self.now)) }
-        ensures { result ≡ number_of (asked_of self.now) place }
+        requires there { place < length (door_words (asked_of self.now)) }
+        ensures { result ≡ number_of (asked_of self.now).operator (asked_of self.now).first place }
     {
         match self.operator {
             Some(path) if place == 0 => path.1,
@@ -82,9 +82,9 @@ impl<'w> HostDoors<'w> {
     /// The door at a place, the operator's first.
     pub fn door(&self, place: usize) -> GuardedDoor<'w>
         requires servable { AreServable self.now }
-        requires there { place < length (door_names (asked_of self.now)) }
+        requires there { place < length (door_words (asked_of self.now)) }
         ensures { OpensAt (asked_of self.now).operator
-            (get_or (door_names (asked_of self.now)) place (Named [])) result.address result.rule }
+            (get_or (door_words (asked_of self.now)) place []) result.address result.rule }
     {
         match self.operator {
             Some(path) if place == 0 => GuardedDoor {
@@ -108,8 +108,8 @@ impl<'w> HostDoors<'w> {
 // The door that a word names, with this rule where no name is bound.
 fn named(word: &str, plain: DoorRule) -> GuardedDoor<'_>
     requires { NamesDoor word.now }
-    ensures { (operators : Option (List ℕ × ℕ)) → plain_rule operators ≡ plain
-        → OpensAt operators (Named word.now) result.address result.rule }
+    ensures { (operators : Option (List ℕ × ℕ)) → rule_for None operators ≡ plain
+        → OpensAt operators word.now result.address result.rule }
 {
     let Some(opening) = opening_of(word) else {
         unreachable!()
@@ -122,8 +122,8 @@ fn named(word: &str, plain: DoorRule) -> GuardedDoor<'_>
 
 // The rule of a door that is bound to this name, or of one that is bound to none.
 fn rule_for(bound: Option<Name>, plain: DoorRule) -> DoorRule
-    ensures { (operators : Option (List ℕ × ℕ)) → plain_rule operators ≡ plain
-        → result ≡ rule_for operators bound }
+    ensures { (operators : Option (List ℕ × ℕ)) → rule_for None operators ≡ plain
+        → result ≡ rule_for bound operators }
 {
     match bound {
         Some(name) => DoorRule::Only(name),
@@ -133,7 +133,8 @@ fn rule_for(bound: Option<Name>, plain: DoorRule) -> DoorRule
 
 // The rule of the operator's socket.
 fn operator_rule() -> DoorRule
-    ensures { result ≡ DoorRule.Only operator }
+    ensures rule { result ≡ DoorRule.Only operator }
+    ensures name { IsName operator }
 {
     match Name::read(OPERATOR.as_bytes()) {
         Some(operator) => DoorRule::Only(operator),

@@ -11,7 +11,7 @@ use Rattle.hosed_host.specs.HostDoors.{DoorsAsked}
 use Rattle.hosed_host.specs.HostOutcome.{FailsHost, HostOutcome}
 use Rattle.hosed_host.specs.declared.why.HostWhy.{HostWhy}
 use Rattle.hosed_host.specs.steps.HostOutcome.{asked_of as doors_asked, plan_at}
-use Rattle.hosed_program.specs.HostCommand.{beside_doors, doors_of, place_of}
+use Rattle.hosed_program.specs.HostCommand.{doors_of, place_of}
 use Rattle.hosed_program.specs.steps.HostWords.{doors_said, plan_said}
 
 -- the standby that is led is the one that the words tell
@@ -30,13 +30,14 @@ same_doors names words said reads = λ i. record {
 
 -- what was lent is what there is now
 pub hosted_of : {I O C E D N : Type 0} {tells : Tellings I O C E} {by : DoorTellings D N E} {names : PricedNames} {asked : DoorsAsked} {before was : Parts I O C} {doors doors' : D} {status : ℕ} (after : Parts I O C) {input : I} {output : O} {cabinet : C} → before ≡ was → after.input ≡ input → after.output ≡ output → after.cabinet ≡ cabinet
-    → HostOutcome tells by names asked (beside_doors before doors) (beside_doors after doors') status → HostOutcome tells by names asked (beside_doors was doors) (beside_doors (parts input output cabinet) doors') status
+    → HostOutcome tells by names asked before after doors doors' status → HostOutcome tells by names asked was (parts input output cabinet) doors doors' status
 hosted_of {tells = tells} {by = by} {names = names} {asked = asked} {was = was} {doors = doors} {doors' = doors'} {status = status} after lent input output cabinet outcome =
-    subst (λ (now : Parts _ _ _). HostOutcome tells by names asked (beside_doors was doors) (beside_doors now doors') status) (λ i. parts (input i) (output i) (cabinet i))
-    (subst (λ (old : Parts _ _ _). HostOutcome tells by names asked (beside_doors old doors) (beside_doors after doors') status) lent outcome)
+    subst (λ (now : Parts _ _ _). HostOutcome tells by names asked was now doors doors' status) (λ i. parts (input i) (output i) (cabinet i))
+    (subst (λ (old : Parts _ _ _). HostOutcome tells by names asked old after doors doors' status) lent outcome)
 
--- and so is which of its files a host tells as the one that failed
-pub host_fails_of : {I O C E : Type 0} (tells : Tellings I O C E) (names : PricedNames) (why : HostWhy) {before was : Parts I O C} (after : Parts I O C) {input : I} {output : O} {cabinet : C} → before ≡ was → after.input ≡ input → after.output ≡ output → after.cabinet ≡ cabinet → FailsHost tells names before after why
-    → FailsHost tells names was (parts input output cabinet) why
-host_fails_of tells names why {was = was} after lent input output cabinet fails =
-    subst (λ (now : Parts _ _ _). FailsHost tells names was now why) (λ i. parts (input i) (output i) (cabinet i)) (subst (λ (old : Parts _ _ _). FailsHost tells names old after why) lent fails)
+-- and so is which of its files or doors a host tells as the one that failed
+pub host_fails_of : {I O C E D N : Type 0} (tells : Tellings I O C E) (by : DoorTellings D N E) (names : PricedNames) (asked : DoorsAsked) (doors doors' : D) (why : HostWhy) {before was : Parts I O C} (after : Parts I O C) {input : I} {output : O} {cabinet : C} → before ≡ was → after.input ≡ input → after.output ≡ output → after.cabinet ≡ cabinet
+    → FailsHost tells by names asked before after doors doors' why → FailsHost tells by names asked was (parts input output cabinet) doors doors' why
+host_fails_of tells by names asked doors doors' why {was = was} after lent input output cabinet fails =
+    subst (λ (now : Parts _ _ _). FailsHost tells by names asked was now doors doors' why) (λ i. parts (input i) (output i) (cabinet i))
+    (subst (λ (old : Parts _ _ _). FailsHost tells by names asked old after doors doors' why) lent fails)

@@ -9,7 +9,7 @@ use Rattle.hosed.specs.HostWords.{AreHostWords, HostAsked, IsFirstWrongOfHost, S
 use Rattle.hosed.specs.Offline.{Offer}
 use Rattle.hosed_host.specs.HostBook.{DoorTellings}
 use Rattle.hosed_host.specs.HostDoors.{DoorsAsked, StandbyPlace}
-use Rattle.hosed_host.specs.HostOutcome.{HostOutcome, OutsideDoors}
+use Rattle.hosed_host.specs.HostOutcome.{HostOutcome}
 
 -- where a standby is, and what is done where it is gone
 abbrev pub place_of : StandbyAsked → StandbyPlace
@@ -23,10 +23,6 @@ doors_of names asked = record {
   first = first_door names asked;
   standby = option_map place_of asked.standby;
 }
-
--- all that is outside of a host, of its parts
-abbrev pub beside_doors : {I O C D : Type 0} → Parts I O C → D → OutsideDoors I O C D
-beside_doors others doors = record { others = others; doors = doors }
 
 module _ {I O C E D N : Type 0} (tells : Tellings I O C E) (by : DoorTellings D N E) (offer : Offer)
     (before after : Parts I O C) (was now : D) (status : ℕ) where
@@ -42,5 +38,4 @@ module _ {I O C E D N : Type 0} (tells : Tellings I O C E) (by : DoorTellings D 
     pub hosts : (asked : HostAsked) → AreHostWords offer.pricing.names words asked
         → HostOutcome tells by
         (priced_names (offer.prices asked.tariff) asked.topology asked.journal)
-        (doors_of offer.pricing.names asked) (beside_doors before was) (beside_doors after now)
-        status
+        (doors_of offer.pricing.names asked) before after was now status

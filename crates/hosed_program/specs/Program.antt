@@ -1,17 +1,13 @@
 -- What the program's words ask for, and what comes of them.
-use Rattle.std.specs.Prelude.{◌≡◌, ◌⊎◌, ℕ, Bool, true, ◌-◌, ◌^◌, ◌<◌, List, [], ◌∷◌, codes, if◌then◌else◌, IfSome, length, Option}
+use Rattle.std.specs.Prelude.{◌≡◌, ◌⊎◌, ℕ, Bool, true, ◌-◌, ◌^◌, ◌<◌, List, [], ◌∷◌, codes, if◌then◌else◌, IfSome, length, Option, Ok, ⊤}
 use Rattle.std.specs.Str.{bytes_eq}
-use Rattle.hose_io.specs.Frame.{Rose}
-use Rattle.hose_io.specs.Stream.{Grows}
-use Rattle.hose_io.specs.Writing.{GrowsInPart}
-use Rattle.hose_io.specs.declared.sink.Sink.{Ghosts}
-use Rattle.hose_offline.specs.Ending.{IsOut}
+use Rattle.hose_offline.specs.Ending.{EndsTold, IsOut}
 use Rattle.hose_offline.specs.Fault.{last_line}
-use Rattle.hose_offline.specs.Parts.{Tellings}
+use Rattle.hose_offline.specs.Parts.{Parts, Tellings}
 use Rattle.hose_offline.specs.declared.fault.Fault.TheVariants.{Memory}
 use Rattle.hosed.specs.Hosed.{HosedOutcome}
 use Rattle.hosed.specs.Offline.{Offer}
-use Rattle.hosed.specs.ServerDoor.{OutsideDoor}
+use Rattle.hosed.specs.ServerDoor.{DoorSeen}
 use Rattle.hosed.specs.HostWords.{AsksToHost}
 use Rattle.hosed_host.specs.HostBook.{DoorTellings}
 use Rattle.hosed_program.specs.Given.{AreTextsOf}
@@ -32,26 +28,18 @@ text_or_command (word ∷ []) =
     else if bytes_eq word (codes "--version") then Version else Command
 text_or_command _ = Command
 
--- A text is out, the status is 0, and the sink has not failed; or it failed, a part is out, and the
--- status is 4.
-abbrev pub IsTextOut : {S : Type 0} → Ghosts S → S → S → List ℕ → ℕ → Type 0
-IsTextOut sink was now text status =
-    ((status ≡ 0) × (sink.frame now ≡ sink.frame was)
-    × Grows (sink.content was) (sink.content now) text)
-    ⊎ ((status ≡ 4) × Rose (sink.frame was) (sink.frame now)
-    × GrowsInPart (sink.content was) (sink.content now) text)
-
-module _ {I O C E : Type 0} (tells : Tellings I O C E) (before after : OutsideDoor I O C) where
+module _ {I O C E : Type 0} (tells : Tellings I O C E) (before after : Parts I O C)
+    (door door' : DoorSeen) where
   -- nothing but the output is another one
   pub record OutputAlone : Type 0 where
-    pub input : after.others.input ≡ before.others.input
-    pub cabinet : after.others.cabinet ≡ before.others.cabinet
-    pub door : after.door ≡ before.door
+    pub input : after.input ≡ before.input
+    pub cabinet : after.cabinet ≡ before.cabinet
+    pub door : door' ≡ door
 
-  -- nothing was done but that a text was put out
+  -- nothing was done but that a text was put out, or a part of it, where the output failed
   abbrev pub TellsText : List ℕ → ℕ → Type 0
   TellsText text status = OutputAlone
-      × IsTextOut tells.sink before.others.output after.others.output text status
+      × EndsTold {T = ⊤} tells.sink before.output after.output status (Ok tt) text
 
   module _ (offer : Offer) (status : ℕ) where
     -- What the program's words come to: a text about itself, or all that the server's one call
@@ -60,18 +48,17 @@ module _ {I O C E : Type 0} (tells : Tellings I O C E) (before after : OutsideDo
       pub help : text_or_command words ≡ Help → TellsText HELP.now status
       pub version : text_or_command words ≡ Version → TellsText VERSION.now status
       pub command : text_or_command words ≡ Command
-          → HosedOutcome tells offer before after status words
+          → HosedOutcome tells offer before after door door' status words
 
 module _ {I O C E D N : Type 0} (tells : Tellings I O C E) (by : DoorTellings D N E) (offer : Offer)
-    (before after : OutsideDoor I O C) (was now : D) (status : ℕ) where
+    (before after : Parts I O C) (door door' : DoorSeen) (was now : D) (status : ℕ) where
   -- What the program's words come to, those of a host too: it leaves the one door as it is, and all
   -- others the doors of a host.
   pub record WordsOutcome (words : List (List ℕ)) : Type 0 where
     pub others : (¬ AsksToHost words)
-        → ProgramOutcome tells before after offer status words × (now ≡ was)
+        → ProgramOutcome tells before after door door' offer status words × (now ≡ was)
     pub host : AsksToHost words
-        → HostCommand tells by offer before.others after.others was now status words
-        × (after.door ≡ before.door)
+        → HostCommand tells by offer before after was now status words × (door' ≡ door)
 
   -- What starting the program comes to, with words that are told or not: they were all taken, in
   -- order, and came to this; or there was no memory for them, and the last line says so.
@@ -79,5 +66,5 @@ module _ {I O C E D N : Type 0} (tells : Tellings I O C E) (by : DoorTellings D 
   StartOutcome told = ((words : List (List ℕ))
       × IfSome told (λ all. length all < 2 ^ 64 - 1 → AreTextsOf all words)
       × WordsOutcome words)
-      ⊎ ((status ≡ 7) × OutputAlone tells before after × (now ≡ was)
-      × IsOut tells.sink before.others.output after.others.output (last_line Memory))
+      ⊎ ((status ≡ 7) × OutputAlone tells before after door door' × (now ≡ was)
+      × IsOut tells.sink before.output after.output (last_line Memory))

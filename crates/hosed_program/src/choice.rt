@@ -1,14 +1,15 @@
 // What the program's words choose: a text about itself, or the server.
-ghost use Rattle.std.specs.Prelude.{◌≡◌, None, map};
+ghost use Rattle.std.specs.Prelude.{◌≡◌, None, Ok, map, ⊤};
 ghost use Rattle.std.specs.String.{string_bytes};
 ghost use Rattle.hose_io.specs.Frame.{Stays};
+ghost use Rattle.hose_offline.specs.Ending.{EndsTold};
 ghost use Rattle.hose_offline.specs.Parts.{AllStay, parts, tellings};
 ghost use Rattle.hose_offline.specs.Why.{IsTold, why_status};
 ghost use Rattle.hosed.specs.Failing.{FailsWords};
 ghost use Rattle.hosed.specs.Naming.{NamesOf};
 ghost use Rattle.hosed.specs.Offline.{offer_of};
-ghost use Rattle.hosed.specs.ServerDoor.{seen_of, with_door};
-ghost use Rattle.hosed_program.specs.Program.{ProgramOutcome, IsTextOut, asks_help, text_or_command};
+ghost use Rattle.hosed.specs.ServerDoor.{seen_of};
+ghost use Rattle.hosed_program.specs.Program.{ProgramOutcome, asks_help, text_or_command};
 ghost use Rattle.hosed_program.specs.declared.choice.TextOrCommand.TheVariants as asked;
 
 use crate::texts::{HELP, VERSION};
@@ -17,7 +18,7 @@ use hose_io::{Door, Sink, Source, write_all};
 use hose_offline::{Fault, Why};
 use hose_pool::Gate;
 use hose_tariff::{Prices, Tariff};
-use hosed::{Context, Ended};
+use hosed::{Context, Ended, asks_to_serve, hosed_ended, offline_ended};
 use std::sync::Wait;
 use std::thread::Threads;
 
@@ -56,10 +57,10 @@ pub fn program<
 ) -> Ended<'w>
     requires { (C.frame world.old.cabinet).out ≡ None }
     ensures outcome { ProgramOutcome (tellings I.Source O.Sink C.Cabinet C.Disk.Disk)
-        (with_door world.old.input world.old.output world.old.cabinet
-        (seen_of (L.frame world.old.door) (L.told world.old.door) (L.opened_at world.old.door)))
-        (with_door world.new.input world.new.output world.new.cabinet
-        (seen_of (L.frame world.new.door) (L.told world.new.door) (L.opened_at world.new.door)))
+        (parts world.old.input world.old.output world.old.cabinet)
+        (parts world.new.input world.new.output world.new.cabinet)
+        (seen_of (L.frame world.old.door) (L.told world.old.door) (L.opened_at world.old.door))
+        (seen_of (L.frame world.new.door) (L.told world.new.door) (L.opened_at world.new.door))
         (offer_of ⟦<Tariff as Prices>⟧.prices (λ tariff. tariff.name) (λ tariff. tariff.base)
         (λ tariff. tariff.per) tariffs.now)
         (why_status result.why) (map string_bytes words.now) }
@@ -89,13 +90,21 @@ pub fn program<
             why: tell(&mut world.output, VERSION),
             named: None,
         },
-        TextOrCommand::Command => hosed::hosed_ended(
+        TextOrCommand::Command if asks_to_serve(words) => hosed_ended(
             context,
             words,
             &mut world.input,
             &mut world.output,
             &mut world.cabinet,
             &mut world.door,
+            tariffs,
+        ),
+        TextOrCommand::Command => offline_ended(
+            context.alloc,
+            words,
+            &mut world.input,
+            &mut world.output,
+            &mut world.cabinet,
             tariffs,
         ),
     }
@@ -121,7 +130,8 @@ fn asks_help(word: &str) -> bool
 
 // Writes a text, and tells why that ended.
 fn tell<O: Sink>(output: &mut O, text: &str) -> Why
-    ensures out { IsTextOut O.Sink output.old output.new text.now (why_status result) }
+    ensures out { EndsTold {T = ⊤} O.Sink output.old output.new (why_status result) (Ok tt)
+        text.now }
     ensures told { IsTold O.Sink output.new result }
     ensures stays { Stays (O.frame output.old) (O.frame output.new) }
 {

@@ -8,7 +8,7 @@ ghost use Rattle.hosed.specs.HostWords.{AreHostWords, AsksToHost, HostAsked};
 ghost use Rattle.hosed.specs.Offline.{offer_of};
 ghost use Rattle.hosed.specs.ProgramWords.{costs_at};
 ghost use Rattle.hose_lead.specs.LedStore.{LedState};
-ghost use Rattle.hosed_host.specs.HostBook.{TellsDoor, door_tellings};
+ghost use Rattle.hosed_host.specs.HostBook.{door_tellings};
 ghost use Rattle.hosed_host.specs.HostOutcome.{FailsHost};
 ghost use Rattle.hosed_host.specs.HostWhy.{TellsWhy, host_status};
 ghost use Rattle.hosed_program.specs.HostCommand.{HostCommand, doors_of};
@@ -80,13 +80,11 @@ pub fn host_ended<
     ensures fails { (asked : HostAsked) → AreHostWords (map (λ tariff. tariff.name) tariffs.now)
         (map string_bytes words.now) asked
         → FailsHost (tellings I.Source O.Sink C.Cabinet C.Disk.Disk)
+        (door_tellings D.Doors D.Network.Connections.did
+        (D.Network.Connections.saw (LedState C.Disk)))
         (priced_names (costs_at ⟦<Tariff as Prices>⟧.prices tariffs.now asked.tariff)
-        asked.topology asked.journal)
+        asked.topology asked.journal) (doors_of (map (λ tariff. tariff.name) tariffs.now) asked)
         (parts input.old output.old cabinet.old) (parts input.new output.new cabinet.new)
-        result.why }
-    ensures door { (asked : HostAsked) → AreHostWords (map (λ tariff. tariff.name) tariffs.now)
-        (map string_bytes words.now) asked
-        → TellsDoor D.Doors (doors_of (map (λ tariff. tariff.name) tariffs.now) asked)
         host.old.doors host.new.doors result.why }
     ensures names { HostNamesOf (map (λ tariff. tariff.name) tariffs.now)
         (map string_bytes words.now) result.named }

@@ -2,10 +2,10 @@
 ghost use Rattle.std.specs.Prelude.{◌≡◌, ◌∷◌, [], None, codes, map};
 ghost use Rattle.hose_offline.specs.Ending.{IsOut};
 ghost use Rattle.hose_offline.specs.Fault.{last_line};
-ghost use Rattle.hose_offline.specs.Parts.{tellings};
+ghost use Rattle.hose_offline.specs.Parts.{parts, tellings};
 ghost use Rattle.hose_offline.specs.declared.fault.Fault.TheVariants as fault;
 ghost use Rattle.hosed.specs.Offline.{offer_of};
-ghost use Rattle.hosed.specs.ServerDoor.{seen_of, with_door};
+ghost use Rattle.hosed.specs.ServerDoor.{seen_of};
 ghost use Rattle.hose_lead.specs.LedStore.{LedState};
 ghost use Rattle.hosed_host.specs.HostBook.{door_tellings};
 ghost use Rattle.hosed_program.specs.Program.{StartOutcome};
@@ -60,10 +60,10 @@ pub fn start<
         (D.Network.Connections.saw (LedState C.Disk)))
         (offer_of ⟦<Tariff as Prices>⟧.prices (λ tariff. tariff.name) (λ tariff. tariff.base)
         (λ tariff. tariff.per) tariffs.now)
-        (with_door world.old.input world.old.output world.old.cabinet
-        (seen_of (L.frame world.old.door) (L.told world.old.door) (L.opened_at world.old.door)))
-        (with_door world.new.input world.new.output world.new.cabinet
-        (seen_of (L.frame world.new.door) (L.told world.new.door) (L.opened_at world.new.door)))
+        (parts world.old.input world.old.output world.old.cabinet)
+        (parts world.new.input world.new.output world.new.cabinet)
+        (seen_of (L.frame world.old.door) (L.told world.old.door) (L.opened_at world.old.door))
+        (seen_of (L.frame world.new.door) (L.told world.new.door) (L.opened_at world.new.door))
         host.old.doors host.new.doors result (W.words given.now) }
 {
     match program_words(given, context.alloc) {

@@ -1,9 +1,11 @@
 -- What serving the connections of a door comes to, and what it does to the journal: steps of
 -- proofs.
-use Rattle.std.specs.Prelude.{◌≡◌, ◌↔◌, ℕ, List, [], length, Option, None, IfSome, Result, Ok, Err, is_err, is_some, ⊤}
+use Rattle.std.specs.Prelude.{◌≡◌, ◌↔◌, ℕ, List, [], length, Option, None, Some, IfSome, Result, Ok, Err, is_err, is_some, ⊤}
 use mathlib.Core.List.{IsPrefix}
 use Rattle.hose_io.specs.Frame.{Frame, Stays}
+use Rattle.hose_io.specs.Stream.{Grows}
 use Rattle.hose_io.specs.declared.Failed.{Failed}
+use Rattle.hose_io.specs.declared.sink.Sink.{Ghosts as SinkGhosts}
 use Rattle.hose_graph.specs.Network.{Network}
 use Rattle.hose_graph.specs.declared.entry.Entry.{Entry}
 use Rattle.hose_law.specs.History.{EntryKind, IsDecided, IsDecidedAt}
@@ -19,21 +21,15 @@ use Rattle.hose_turn.specs.Known.{Known}
 use Rattle.hose_offline.specs.OnDisk.{opening_of}
 use Rattle.hose_offline.specs.steps.Ending.{IsWhyAfter}
 use Rattle.hose_offline.specs.steps.Journal.{IsJustOpened}
-use Rattle.hose_offline.specs.steps.Parts.{held}
 use Rattle.hose_offline.specs.declared.fault.Fault.{Fault}
-use Rattle.hose_offline.specs.declared.outside.Outside.{Outside}
+use Rattle.hose_offline.specs.declared.fault.Fault.TheVariants.{Memory}
 use Rattle.hose_offline.specs.declared.why.Why.{Why}
 use Rattle.hose_offline.specs.declared.why.Why.TheVariants.{Stopped}
 use Rattle.hosed.specs.declared.server.ServerEnd.{ServerEnd}
-use Rattle.hosed.specs.declared.words.ServeRequest.{ServeRequest}
 use Rattle.hosed.specs.ServeOutcome.{first_failed}
-use Rattle.hosed.specs.ServerDoor.{DoorSeen, DoorTask, OutsideDoor, ServerProgress, ServesBook}
+use Rattle.hosed.specs.ServerDoor.{DoorSeen, ServesBook, Speaks, ready_line}
 
 -- ---- what a server says
-
--- what the request says of the door
-abbrev pub door_task : ServeRequest → DoorTask
-door_task request = record { port = request.port; connections = request.connections }
 
 -- the output of a server is the one that it was, and so is its door, by what their frames were and
 -- are
@@ -41,9 +37,16 @@ pub record BothStay (before after was now : Frame) : Type 0 where
   pub output : Stays before after
   pub door : Stays was now
 
--- what is lent to a server
-abbrev pub door_beside : {I O C E : Type 0} → Outside I O C E → DoorSeen → OutsideDoor I O C
-door_beside outside door = record { others = held outside; door = door }
+module _ {O : Type 0} (sink : SinkGhosts O) (port : ℕ) (output output' : O)
+    (was now : DoorSeen) where
+  -- The door was opened at this port, and the line that the server is ready is out; or not, and so
+  -- it is told.
+  abbrev pub IsAnnounced : {T : Type 0} → Result T Fault → Type 0
+  IsAnnounced (Ok _) = (now ≡ record was { port = Some port })
+      × Grows (sink.content output) (sink.content output') ready_line
+      × (sink.frame output' ≡ sink.frame output)
+  IsAnnounced (Err Memory) = ⊥
+  IsAnnounced (Err why) = Speaks sink port output output' was now (Err why)
 
 -- why it ended: as closing and accepting came, or for what no connection was served
 abbrev pub IsWhyServed : Result ServerEnd Fault → Why → Type 0
@@ -117,17 +120,17 @@ module _ {E : Type 0} (disk : DiskGhosts E) where
 
 -- A disk was kept from its opening, when it stood for the first history, to its closing, when it
 -- stands for what this is now. All entries since are decided.
-pub record IsKeptOn {E : Type 0} (disk : DiskGhosts E) (was left : E) (made : ServerProgress)
-    (closing : Result ⊤ Failed) : Type 0 where
-  pub read : IfSome (disk.content was) (IsHistoryOf made.network made.since)
-  pub begins : IsPrefix made.since made.history
-  pub decided : IsDecided made.network 0 (length made.since) made.history
+pub record IsKeptOn {E : Type 0} (disk : DiskGhosts E) (was left : E) (network : Network)
+    (since history : List Entry) (tries : List Tried) (closing : Result ⊤ Failed) : Type 0 where
+  pub read : IfSome (disk.content was) (IsHistoryOf network since)
+  pub begins : IsPrefix since history
+  pub decided : IsDecided network 0 (length since) history
   pub told : (disk.frame left).has_failed ≡ is_err closing
-  pub leaves : HasLeft disk (IsTried made.history made.tries) (disk.may_leave was)
-      (opening_of disk made.network made.since was) made.history left closing
+  pub leaves : HasLeft disk (IsTried history tries) (disk.may_leave was)
+      (opening_of disk network since was) history left closing
 
 -- what serving by a store comes to on its disk
 abbrev pub ServesByStore : {E : Type 0} → DiskGhosts E → E → E → Network
     → (Known → Result ⊤ Failed → Type 0) → Result ServerEnd Fault → Type 0
 ServesByStore disk was left network Along came =
-    ServesBook network (IsKeptOn disk was left) (disk.frame left).faults Along came
+    ServesBook network (IsKeptOn disk was left network) (disk.frame left).faults Along came

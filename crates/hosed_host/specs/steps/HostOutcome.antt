@@ -1,25 +1,24 @@
 -- What stands after `host`: steps of proofs.
-use Rattle.std.specs.Prelude.{◌≡◌, ◌⊎◌, ℕ, ◌+◌, ◌^◌, ◌<◌, ◌≤◌, All, IsErr, List, Option, None, Some, Result, Ok, Err, ⊤, length, map, option_map}
+use Rattle.std.specs.Prelude.{◌≡◌, ◌⊎◌, ℕ, ◌+◌, ◌^◌, ◌<◌, ◌≤◌, All, IsErr, List, MatchOption, Option, None, Some, Result, Ok, Err, ⊤, length, map, option_map}
 use Rattle.std.specs.String.{string_bytes}
 use Rattle.hose_io.specs.declared.Failed.{Failed}
 use Rattle.hose_graph.specs.Network.{Network}
+use Rattle.hose_net.specs.declared.doors.Doors.{Ghosts as DoorsGhosts}
 use Rattle.hose_offline.specs.Ending.{IsOut}
 use Rattle.hose_offline.specs.Fault.{last_line, status_of}
-use Rattle.hose_offline.specs.Parts.{Tellings}
+use Rattle.hose_offline.specs.Parts.{Parts, Tellings}
 use Rattle.hose_offline.specs.Unopened.{OpensNoJournal}
-use Rattle.hose_offline.specs.steps.Parts.{held}
 use Rattle.hose_offline.specs.declared.fault.Fault.{Fault}
 use Rattle.hose_offline.specs.declared.fault.Fault.TheVariants as fault
-use Rattle.hose_offline.specs.declared.outside.Outside.{Outside}
 use Rattle.hose_offline.specs.declared.why.Why.{Why}
 use Rattle.hose_offline.specs.declared.why.Why.TheVariants.{Stopped}
 use Rattle.hose_offline.specs.steps.Failing.{FailsOpened}
 use Rattle.hose_disk.specs.declared.cabinet.Cabinet.{Ghosts as CabinetGhosts}
-use Rattle.hose_doors.specs.Doors.{NamesDoor}
+use Rattle.hose_doors.specs.Doors.{IsSocketPath, NamesDoor}
 use Rattle.hose_doors.specs.Limits.{most_doors}
-use Rattle.hosed_host.specs.HostBook.{DoorTellings}
+use Rattle.hosed_host.specs.HostBook.{DoorTellings, LeavesDoors}
 use Rattle.hosed_host.specs.HostDoors.{DoorsAsked, StandbyPlace}
-use Rattle.hosed_host.specs.HostOutcome.{HostsConnections, OutsideDoors}
+use Rattle.hosed_host.specs.HostOutcome.{HostsConnections}
 use Rattle.hosed_host.specs.declared.hosting.HostEnd.{HostEnd}
 use Rattle.hosed_host.specs.declared.hosting.NotHosted.{NotHosted}
 use Rattle.hosed_host.specs.declared.hosting.NotHosted.TheVariants as none
@@ -41,15 +40,13 @@ asked_of doors = record {
   standby = option_map plan_at doors.standby;
 }
 
--- each word names a door, and there are no more than there may be
+-- each word names a door, there are no more than there may be, and the operator's path is that of a
+-- socket
 pub record AreServable (doors : HostDoors) : Type 0 where
   pub named : All NamesDoor (map string_bytes doors.words.now)
   pub few : length doors.words.now ≤ most_doors
   pub numbers : doors.first + most_doors < 2 ^ 64
-
--- what is lent to a host
-abbrev pub doors_beside : {I O C E D : Type 0} → Outside I O C E → D → OutsideDoors I O C D
-doors_beside outside doors = record { others = held outside; doors = doors }
+  pub socket : MatchOption (option_map (λ path. path.0.now) doors.operator) ⊤ IsSocketPath
 
 -- what closing came to
 abbrev pub closed_as : Result ⊤ Failed → Result ⊤ Fault
@@ -74,21 +71,22 @@ IsWhyOf came (why.Door word trouble) = came ≡ Err (none.Door word trouble)
 IsWhyOf came why.StandbyGone = ⊤
 IsWhyOf came (why.StandbyAhead count) = ⊤
 
--- what is told of the files of a host once its topology was read
-abbrev pub FailsHosting : {C E : Type 0} → CabinetGhosts C E → C → C → HostWhy → Type 0
-FailsHosting cabinet old new (why.Ended other) = FailsOpened cabinet old new other
-FailsHosting cabinet old new (why.Door word trouble) = ⊤
-FailsHosting cabinet old new why.StandbyGone = ⊤
-FailsHosting cabinet old new (why.StandbyAhead count) = ⊤
+-- what is told of the files of a host once its topology was read, and of its doors
+abbrev pub FailsHosting : {C E D N : Type 0} → CabinetGhosts C E → DoorsGhosts D N → DoorsAsked → C
+    → C → D → D → HostWhy → Type 0
+FailsHosting cabinet doors asked old new was now (why.Ended other) =
+    FailsOpened cabinet old new other
+FailsHosting cabinet doors asked old new was now (why.Door word trouble) =
+    LeavesDoors doors asked was now (none.Door word trouble)
+FailsHosting cabinet doors asked old new was now why.StandbyGone = ⊤
+FailsHosting cabinet doors asked old new was now (why.StandbyAhead count) = ⊤
 
 -- What hosting by the journal of a name comes to: connections were hosted, or why not, once a store
 -- was opened; or none was, and the last line tells why.
 abbrev pub HostsJournal : {I O C E D N : Type 0} → Tellings I O C E → DoorTellings D N E → List ℕ
-    → DoorsAsked → OutsideDoors I O C D → OutsideDoors I O C D → ℕ → Network → Type 0
-HostsJournal tells by name asked before after status network =
-    HostsConnections tells by name asked before after status network
+    → DoorsAsked → Parts I O C → Parts I O C → D → D → ℕ → Network → Type 0
+HostsJournal tells by name asked before after was now status network =
+    HostsConnections tells by name asked before after was now status network
     ⊎ ((why : Fault) × (status ≡ status_of why)
-    × OpensNoJournal tells.cabinet tells.disk name before.others.cabinet after.others.cabinet
-    network (Err why)
-    × IsOut tells.sink before.others.output after.others.output (last_line why)
-    × (after.doors ≡ before.doors))
+    × OpensNoJournal tells.cabinet tells.disk name before.cabinet after.cabinet network (Err why)
+    × IsOut tells.sink before.output after.output (last_line why) × (now ≡ was))

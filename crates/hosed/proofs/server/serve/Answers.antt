@@ -15,10 +15,10 @@ use Rattle.hosed.proofs.server.serve.Goals as goal
 pub returns-in-Err-clause-outcome : goal.returns-in-Err-clause-outcome
 returns-in-Err-clause-outcome g c =
     let reads = subst (ReadsTopology g.C.Cabinet c.args.outside.now.cabinet.now c.read_topology.new.cabinet (g.P.Prices.prices c.args.costs.now) c.args.request.topology.now) c.in-Err.is c.read_topology.ensures.reads in
-    no_topology_read _ _ _ _ _ c.in-Err.why (why_status c.end.result) reads c.end.ensures.status c.end.ensures.last_line refl refl
+    no_topology_read _ _ _ _ _ _ _ _ c.in-Err.why (why_status c.end.result) reads c.end.ensures.status c.end.ensures.last_line refl refl
 
 pub returns-in-Err-clause-not_words : goal.returns-in-Err-clause-not_words
-returns-in-Err-clause-not_words g c = serve_not_1 _ _ _ _ _ (why_status c.end.result) (returns-in-Err-clause-outcome g c)
+returns-in-Err-clause-not_words g c = serve_not_1 _ _ _ _ _ _ _ _ (why_status c.end.result) (returns-in-Err-clause-outcome g c)
 
 pub returns-in-Err-clause-fails : goal.returns-in-Err-clause-fails
 returns-in-Err-clause-fails g c =
@@ -34,10 +34,10 @@ pub returns-in_default-clause-outcome : goal.returns-in_default-clause-outcome
 returns-in_default-clause-outcome g c =
     let reads = subst (ReadsTopology g.C.Cabinet c.args.outside.now.cabinet.now c.read_topology.new.cabinet (g.P.Prices.prices c.args.costs.now) c.args.request.topology.now) c.in-Ok.is c.read_topology.ensures.reads in
     let ended = c.end-in_default in
-    not_opened _ _ _ _ _ c.read_topology.new.cabinet c.in-Ok.topology (why_status ended.result) reads (record { absent = search rules; others = c.disk.ensures.others }) refl Cabinet (search rules) ended.ensures.status ended.ensures.last_line refl
+    not_opened _ _ _ _ _ _ _ _ c.read_topology.new.cabinet c.in-Ok.topology (why_status ended.result) reads (record { absent = search rules; others = c.disk.ensures.others }) refl Cabinet (search rules) ended.ensures.status ended.ensures.last_line refl
 
 pub returns-in_default-clause-not_words : goal.returns-in_default-clause-not_words
-returns-in_default-clause-not_words g c = serve_not_1 _ _ _ _ _ (why_status c.end-in_default.result) (returns-in_default-clause-outcome g c)
+returns-in_default-clause-not_words g c = serve_not_1 _ _ _ _ _ _ _ _ (why_status c.end-in_default.result) (returns-in_default-clause-outcome g c)
 
 pub returns-in_default-clause-fails : goal.returns-in_default-clause-fails
 returns-in_default-clause-fails g c =
@@ -61,10 +61,10 @@ returns-in-Err-open_store-clause-outcome g c =
     (record { out = record { content = taken.content; images = taken.images; moment = taken.moment; fresh = taken.opened; call = taken.call }; in_place = record { held = back.held; never_falls = back.never_falls; call = back.call } }) (Err refused.refused.0) refused.ensures.refused in
     let alone = lent_alone g.C.Cabinet g.C.Disk.Disk c.args.request.journal.now c.read_topology.new.cabinet c.disk.new.self c.back.new.self c.in-Ok-disk.disk refused.refused.1
     (record { content = taken.content; images = taken.images; moment = taken.moment; fresh = taken.opened; call = taken.call }) c.disk.ensures.others (record { held = back.held; never_falls = back.never_falls; call = back.call }) back.others in
-    not_opened _ _ _ _ _ c.read_topology.new.cabinet c.in-Ok.topology (why_status ended.result) reads alone refl refused.refused.0 not ended.ensures.status ended.ensures.last_line refl
+    not_opened _ _ _ _ _ _ _ _ c.read_topology.new.cabinet c.in-Ok.topology (why_status ended.result) reads alone refl refused.refused.0 not ended.ensures.status ended.ensures.last_line refl
 
 pub returns-in-Err-open_store-clause-not_words : goal.returns-in-Err-open_store-clause-not_words
-returns-in-Err-open_store-clause-not_words g c = serve_not_1 _ _ _ _ _ (why_status c.end-in-Err-open_store.result) (returns-in-Err-open_store-clause-outcome g c)
+returns-in-Err-open_store-clause-not_words g c = serve_not_1 _ _ _ _ _ _ _ _ (why_status c.end-in-Err-open_store.result) (returns-in-Err-open_store-clause-outcome g c)
 
 pub returns-in-Err-open_store-clause-fails : goal.returns-in-Err-open_store-clause-fails
 returns-in-Err-open_store-clause-fails g c =
@@ -98,7 +98,7 @@ returns-clause-outcome g c =
     _ served.result.came (search rules) (rw (c.of-was.ensures, c.in-Ok-open_store.ensures.network) at served.ensures.serves) in
     let alone = lent_alone g.C.Cabinet g.C.Disk.Disk c.args.request.journal.now c.read_topology.new.cabinet c.disk.new.self c.back-2.new.self c.in-Ok-disk.disk served.result.disk
     (record { content = taken.content; images = taken.images; moment = taken.moment; fresh = taken.opened; call = taken.call }) c.disk.ensures.others (record { held = back.held; never_falls = back.never_falls; call = back.call }) back.others in
-    is_served _ _ _ _ _ c.read_topology.new.cabinet c.in-Ok.topology (why_status c.tell_served.result) reads alone refl served.new.output served.result.came (rw given at kept) (rw given at served.ensures.speaks) c.tell_served.ensures.came
+    is_served _ _ _ _ _ _ _ _ c.read_topology.new.cabinet c.in-Ok.topology (why_status c.tell_served.result) reads alone refl served.new.output served.result.came (rw given at kept) (rw given at served.ensures.speaks) c.tell_served.ensures.came
 
 pub returns-clause-fails : goal.returns-clause-fails
 returns-clause-fails g c =
@@ -118,7 +118,7 @@ returns-clause-fails g c =
     let alone = lent_alone g.C.Cabinet g.C.Disk.Disk c.args.request.journal.now c.read_topology.new.cabinet c.disk.new.self c.back-2.new.self c.in-Ok-disk.disk served.result.disk
     (record { content = taken.content; images = taken.images; moment = taken.moment; fresh = taken.opened; call = taken.call }) c.disk.ensures.others (record { held = back.held; never_falls = back.never_falls; call = back.call }) back.others in
     fails_then tells names before after c.read_topology.new.cabinet c.in-Ok.topology reads alone.others c.tell_served.result
-    (serving_fails tells c.args.request.journal.now c.read_topology.new.cabinet c.back-2.new.self c.in-Ok.topology _ c.args.request.port _ _ served.result.came kept served.ensures.speaks c.tell_served.result c.tell_served.ensures.is)
+    (serving_fails tells c.args.request.journal.now c.read_topology.new.cabinet c.back-2.new.self c.in-Ok.topology _ c.args.request.port _ _ _ _ served.result.came kept served.ensures.speaks c.tell_served.result c.tell_served.ensures.is)
 
 pub returns-clause-not_words : goal.returns-clause-not_words
-returns-clause-not_words g c = serve_not_1 _ _ _ _ _ (why_status c.tell_served.result) (returns-clause-outcome g c)
+returns-clause-not_words g c = serve_not_1 _ _ _ _ _ _ _ _ (why_status c.tell_served.result) (returns-clause-outcome g c)

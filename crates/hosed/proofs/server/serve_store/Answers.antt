@@ -1,6 +1,7 @@
 use Rattle.std.proofs.Common.{ap, refl, subst, sym, rules}
 use Rattle.hose_turn.specs.declared.view.Origin.{Origin}
-use Rattle.hosed.specs.ServerDoor.{AreServedAlongPass, output_door, seen_of}
+use Rattle.hose_crew.specs.Crew.{AreServed}
+use Rattle.hosed.specs.ServerDoor.{seen_of}
 use Rattle.hosed.specs.steps.ServerDoor.{OpensAt}
 use Rattle.hosed.proofs.Sharing.{closed_at_once, gave_up, given_up, is_opening, just_opened, opens_at, serves_shared, stays_shared}
 use Rattle.hosed.proofs.server.serve_store.Goals as goal
@@ -15,7 +16,7 @@ returns-in_default-clause-serves g c =
     (closed_at_once g.D.Disk was c.give_up.result.disk network up.closed.0 asked.just.opened.history c.args.opening.store (just_opened g.D.Disk was network c.args.opening.store asked.just) up.closed.1)
 
 pub returns-in_default-clause-speaks : goal.returns-in_default-clause-speaks
-returns-in_default-clause-speaks g c = rw (c.give_up.ensures.came, c.give_up.ensures.door) refl
+returns-in_default-clause-speaks g c = rw (c.give_up.ensures.came, c.give_up.ensures.door) (refl, refl)
 
 pub returns-in-Err-clause-serves : goal.returns-in-Err-clause-serves
 returns-in-Err-clause-serves g c =
@@ -27,7 +28,7 @@ returns-in-Err-clause-serves g c =
     (closed_at_once g.D.Disk was c.give_up-in-Err.result.disk network up.closed.0 asked.just.opened.history c.in-Err.store (rw c.in-Err.ensures.back (just_opened g.D.Disk was network c.args.opening.store asked.just)) up.closed.1)
 
 pub returns-in-Err-clause-speaks : goal.returns-in-Err-clause-speaks
-returns-in-Err-clause-speaks g c = rw (c.give_up-in-Err.ensures.came, c.give_up-in-Err.ensures.door) refl
+returns-in-Err-clause-speaks g c = rw (c.give_up-in-Err.ensures.came, c.give_up-in-Err.ensures.door) (refl, refl)
 
 pub returns-in-Err-announce-clause-serves : goal.returns-in-Err-announce-clause-serves
 returns-in-Err-announce-clause-serves g c =
@@ -42,8 +43,8 @@ returns-in-Err-announce-clause-serves g c =
 pub returns-in-Err-announce-clause-speaks : goal.returns-in-Err-announce-clause-speaks
 returns-in-Err-announce-clause-speaks g c =
     let given = c.give_up-in-Err-announce in
-    gave_up g.O.Sink c.args.request.port _ _ _ given.result.came c.in-Err-announce.why given.ensures.came
-    (ap (λ (door : _). output_door c.announce.new.output (seen_of (g.L.Door.frame door) (g.L.Door.told door) (g.L.Door.opened_at door))) given.ensures.door)
+    gave_up g.O.Sink c.args.request.port _ _ _ _ _ given.result.came c.in-Err-announce.why given.ensures.came
+    (ap (λ (door : _). seen_of (g.L.Door.frame door) (g.L.Door.told door) (g.L.Door.opened_at door)) given.ensures.door)
     (rw c.in-Err-announce.is at c.announce.ensures.announced)
 
 pub returns-clause-serves : goal.returns-clause-serves
@@ -56,7 +57,7 @@ returns-clause-serves g c =
     serves_shared g.D.Disk was closed.result.1 network closed.result.0
     _ (λ since store opens. is_opening g.D.Disk g.N.AtOpening.opened was c.args.opening.store c.requires.opened since store opens) served.result.pass made.stands.first c.close-2.result (search rules)
     (subst (λ (origin : Origin). OpensAt g.D.Disk g.N.AtOpening.opened origin.since made.stands.first) (sym served.ensures.same.origin) made.stands.begins) c.close-2.ensures.history c.close-2.ensures.faults closed.ensures.closed
-    (AreServedAlongPass c.args.request.connections (seen_of (g.L.Door.frame c.args.door) (g.L.Door.told c.args.door) (g.L.Door.opened_at c.args.door)) (seen_of (g.L.Door.frame served.result.door) (g.L.Door.told served.result.door) (g.L.Door.opened_at served.result.door))) closed.result.2 served.result.accepting (search rules)
+    (AreServed (g.L.Door.told c.args.door) (g.L.Door.told served.result.door) c.args.request.connections) closed.result.2 served.result.accepting (search rules)
     (rw c.in-Ok.ensures.crew at (rw c.announce.ensures.told at served.ensures.served))
 
 pub share-requires-clause-stands : goal.share-requires-clause-stands

@@ -63,6 +63,7 @@ returns-clause-hosts g c = λ name before network is opens of.
     let by = door_tellings g.D.Doors g.D.Network.Connections.did (g.D.Network.Connections.saw (LedState _)) in
     let asked = asked_of c.args.request.doors in
     let all = take c.len.result c.in-Ok-opened_as.opened.addresses in
+    let opened : AreOpenedAt asked all c.in-Ok-opened_as.opened.rules.items = search rules in
     let core = c.with_rows-core in
     let made = c.new-clerk in
     let closed = c.close_journal-closing in
@@ -75,5 +76,5 @@ returns-clause-hosts g c = λ name before network is opens of.
     hosts_doors tells by name asked before c.args.outside.now.cabinet.now closed.new.cabinet network is c.args.led.store last.desk.core.books.store opens closed.result.0 closes
     c.args.doors.now c.open_doors.new.doors c.close.new.self c.in-Ok-open_doors.network c.host-why.new.network _ all made.result.doors.items made.result.desk.core.books last.desk.core.books last.sessions.items last.desk.is_ending last.desk.figures.tally (link_state last.awaited last.standby last.fence)
     (path_at made.result.awaited) (goes_alone made.result.awaited) is_store refl (ap path_at made.ensures.awaited ∙ c.in-Ok-awaited_by.ensures.path) (ap goes_alone made.ensures.awaited ∙ c.in-Ok-awaited_by.ensures.alone)
-    (subst (AreOpenedAt asked all) (sym made.ensures.doors) (search rules)) (ended_for c.host-why.result last.desk.is_ending c.host-why.ensures.asked c.host-why.ensures.told)
+    (subst (AreOpenedAt asked all) (sym made.ensures.doors) opened) (ended_for c.host-why.result last.desk.is_ending c.host-why.ensures.asked c.host-why.ensures.told)
     (c.host-why.ensures.hosted (opens.opens.opened.history, made.result) start) c.in-Ok-open_doors.ensures.opened c.close.ensures refl (search rules)

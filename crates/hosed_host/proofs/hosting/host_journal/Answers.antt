@@ -3,7 +3,7 @@ use Rattle.hose_offline.specs.steps.Parts.{held}
 use Rattle.hose_offline.proofs.Lending.{others_then}
 use Rattle.hosed_host.specs.steps.HostOutcome.{asked_of}
 use Rattle.hose_offline.proofs.Failing.{unopened_fails}
-use Rattle.hosed_host.proofs.HostOutcomes.{hosting_fails, told_door}
+use Rattle.hosed_host.proofs.HostOutcomes.{hosting_fails}
 use Rattle.hosed_host.proofs.hosting.host_journal.Goals as goal
 
 pub returns-in-Ok-clause-hosts : goal.returns-in-Ok-clause-hosts
@@ -16,11 +16,6 @@ returns-in-Ok-clause-hosts g c =
       announces = came.ensures.announces;
       ends = c.tell_hosted.ensures.came;
     })
-
-pub returns-in-Ok-clause-door : goal.returns-in-Ok-clause-door
-returns-in-Ok-clause-door g c =
-    let came = c.host_by_store-came in
-    told_door g.D.Doors (asked_of c.args.request.doors) c.args.doors.now came.new.doors came.result c.tell_hosted.result c.tell_hosted.ensures.why came.ensures.left
 
 pub returns-in-Err-clause-hosts : goal.returns-in-Err-clause-hosts
 returns-in-Err-clause-hosts g c = inr (c.in-Err.why, c.end.ensures.status, c.in-Err.ensures.refused, c.end.ensures.last_line, refl)
@@ -39,7 +34,7 @@ pub returns-in-Ok-clause-fails : goal.returns-in-Ok-clause-fails
 returns-in-Ok-clause-fails g c =
     let came = c.host_by_store-came in
     let hosts = came.ensures.hosts c.args.request.journal.now (held c.args.outside.now).cabinet c.args.topology (search rules) c.in-Ok.ensures.opens.0 c.in-Ok.ensures.opens.1 in
-    hosting_fails g.C.Cabinet (held c.args.outside.now).cabinet (held came.new.outside).cabinet came.result (λ end same failed. (rw same at hosts).hosted.comes_to.met.failed failed) c.tell_hosted.result c.tell_hosted.ensures.why
+    hosting_fails g.C.Cabinet g.D.Doors (asked_of c.args.request.doors) (held c.args.outside.now).cabinet (held came.new.outside).cabinet c.args.doors.now came.new.doors came.result (λ end same failed. (rw same at hosts).hosted.comes_to.met.failed failed) came.ensures.left c.tell_hosted.result c.tell_hosted.ensures.why
 
 pub returns-in-Err-clause-fails : goal.returns-in-Err-clause-fails
 returns-in-Err-clause-fails g c = rw c.end.ensures.is (unopened_fails g.C.Cabinet g.C.Disk.Disk c.args.request.journal.now (held c.args.outside.now).cabinet c.open_led.new.cabinet c.args.topology c.in-Err.why c.in-Err.ensures.refused)

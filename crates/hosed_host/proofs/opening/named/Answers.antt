@@ -1,4 +1,4 @@
 use Rattle.hosed_host.proofs.opening.named.Goals as goal
 
 pub returns : goal.returns
-returns c = λ operators same. (c.in-Some.opening.bound, c.in-Some.ensures.some, c.rule_for.ensures operators same)
+returns c = λ operators same. record { bound = c.in-Some.opening.bound; opens = c.in-Some.ensures.some; guards = c.rule_for.ensures operators same }

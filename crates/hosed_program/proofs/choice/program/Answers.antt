@@ -1,4 +1,5 @@
-use Rattle.std.proofs.Common.{refl}
+use Rattle.std.proofs.Common.{refl, rules}
+use Rattle.hosed.proofs.Outcomes.{beside_door}
 use Rattle.hosed_program.proofs.choice.program.Goals as goal
 
 pub returns-in-Help-clause-outcome : goal.returns-in-Help-clause-outcome
@@ -20,4 +21,11 @@ returns-in-Command-clause-outcome g c = record {
   help = λ is. absurd (cc (c.text_or_command.ensures, c.in-Command.is, is));
   version = λ is. absurd (cc (c.text_or_command.ensures, c.in-Command.is, is));
   command = λ is. c.hosed_ended.ensures.outcome;
+}
+
+pub returns-in-Command-2-clause-outcome : goal.returns-in-Command-2-clause-outcome
+returns-in-Command-2-clause-outcome g c = record {
+  help = λ is. absurd (cc (c.text_or_command.ensures, c.in-Command-2.is, is));
+  version = λ is. absurd (cc (c.text_or_command.ensures, c.in-Command-2.is, is));
+  command = λ is. beside_door _ _ _ _ _ _ _ (search rules) c.offline_ended.ensures.outcome;
 }
