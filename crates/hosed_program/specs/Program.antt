@@ -29,12 +29,12 @@ text_or_command (word ∷ []) =
 text_or_command _ = Command
 
 module _ {I O C E : Type 0} (tells : Tellings I O C E) (before after : Parts I O C)
-    (door door' : DoorSeen) where
+    (was now : DoorSeen) where
   -- nothing but the output is another one
   pub record OutputAlone : Type 0 where
     pub input : after.input ≡ before.input
     pub cabinet : after.cabinet ≡ before.cabinet
-    pub door : door' ≡ door
+    pub door : now ≡ was
 
   -- nothing was done but that a text was put out, or a part of it, where the output failed
   abbrev pub TellsText : List ℕ → ℕ → Type 0
@@ -48,7 +48,7 @@ module _ {I O C E : Type 0} (tells : Tellings I O C E) (before after : Parts I O
       pub help : text_or_command words ≡ Help → TellsText HELP.now status
       pub version : text_or_command words ≡ Version → TellsText VERSION.now status
       pub command : text_or_command words ≡ Command
-          → HosedOutcome tells offer before after door door' status words
+          → HosedOutcome tells offer before after was now status words
 
 module _ {I O C E D N : Type 0} (tells : Tellings I O C E) (by : DoorTellings D N E) (offer : Offer)
     (before after : Parts I O C) (door door' : DoorSeen) (was now : D) (status : ℕ) where

@@ -48,7 +48,7 @@ returns-in-Ok-clause-fails g c =
     (rw (c.costs_of-costs.ensures, c.plan_of.ensures, same_doors names words c.in-Ok.said reads) at c.host_by_names.ensures.fails))
 
 pub host_by_names-requires-clause-doors : goal.host_by_names-requires-clause-doors
-host_by_names-requires-clause-doors g c = record { named = search rules; few = search rules; numbers = search rules; socket = c.in-Ok.ensures.ok.asked.may.1.1.0 }
+host_by_names-requires-clause-doors g c = λ _ _. record { named = search rules; few = search rules; numbers = search rules; socket = c.in-Ok.ensures.ok.asked.may.1.1.0 }
 
 pub returns-in-Err-clause-fails : goal.returns-in-Err-clause-fails
 returns-in-Err-clause-fails g c = λ asked are. absurd (none_wrong_of_host _ _ asked _ are c.in-Err.ensures.wrong)
