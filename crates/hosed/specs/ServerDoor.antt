@@ -68,10 +68,10 @@ module _ {O : Type 0} (sink : SinkGhosts O) (port : ℕ) (output output' : O)
 module _ (network : Network) (IsKept : List Entry → List Entry → List Tried → Result ⊤ Failed
     → Type 0) where
   -- Connections were served along a pass, and its entries are in the journal, which is kept so from
-  -- the history at which the pass began to this one. The history begins with what the pass has
-  -- seen, and each of its entries since that beginning is the pass's own, as is what was tried
-  -- beside and not entered. The disk has met as many faults as the pass. The book is that of the
-  -- history.
+  -- the history at which the pass began to this one. This one begins with what the pass has seen,
+  -- and each of its entries since the one at which the pass began is the pass's own, as is what was
+  -- tried beside and not entered. The disk has met as many faults as the pass. The book is that of
+  -- the history.
   pub record ServesDoorAlong (faults : ℕ) (Along : Known → Type 0) (end : ServerEnd) : Type 0 where
     pub history : List Entry
     pub pass : Known

@@ -30,7 +30,7 @@ may_be_alone (Some standby) = not standby.or_stop
 abbrev pub is_required : Option StandbyPlace → Bool
 is_required standby = not (may_be_alone standby)
 
--- the word of the operator's socket, if there is one: a path to which the operator's name is bound
+-- the operator's socket, if there is one, as the word of a door that is bound to the operator
 abbrev pub operator_words : Option (List ℕ × ℕ) → List (List ℕ)
 operator_words None = []
 operator_words (Some path) = (path.0 ++ 61 ∷ operator) ∷ []
@@ -53,8 +53,8 @@ pub record OpensAt (operators : Option (List ℕ × ℕ)) (word : List ℕ) (at 
   pub opens : OpensAs word at bound
   pub guards : who ≡ rule_for bound operators
 
--- the number of the word of a door, by its place: the operator's, or one of the others, of which
--- the first has this number
+-- the number of the word that asked for a door, by its place: the path of the operator's socket, or
+-- one of the others, of which the first has this number
 abbrev pub number_of : Option (List ℕ × ℕ) → ℕ → ℕ → ℕ
 number_of None first place = first + place
 number_of (Some path) first zero = path.1
