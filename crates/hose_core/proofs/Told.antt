@@ -40,6 +40,4 @@ module _ {K R : Type 0} (books : Ghosts K R) (old : K) (epoch : ℕ) (history : 
 
   -- a link is told
   pub link_step : (link : ℕ) (answer : Reply) → IsLinkAnswer was.book link answer None → HasStepped books old old epoch history customer held (command.Link link) answer
-  link_step link (reply.LinkState told load out at) shown =
-      told_step (command.Link link) (reply.LinkState told load out at) ((subst (λ (b : Book). IsLinkAnswer b link (reply.LinkState told load out at) None) here shown, refl), refl)
-  link_step link answer shown = absurd shown
+  link_step link answer shown = told_step (command.Link link) answer ((subst (λ (b : Book). IsLinkAnswer b link answer None) here shown, refl), refl)
