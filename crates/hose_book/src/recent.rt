@@ -89,7 +89,9 @@ impl RecentChanges {
             self.changes.clear();
             self.floor = epoch;
         }
-        push_changes(&mut self.changes, epoch, amounts);
+        for (link, _) in amounts {
+            self.changes.push_reserved((epoch + 1, *link));
+        }
     }
 
     // Forgets all changes, and keeps those above an epoch from now on.
@@ -120,23 +122,4 @@ fn first_since(changes: &[(u64, u32)], seen: u64) -> usize
         → seen < (slice_index_or changes.now k d).0 }
 {
     changes.partition_point(|change| change.0 <= seen)
-}
-
-// Puts the links of an entry behind changes of no later epoch than this, as changes of the next.
-fn push_changes(changes: &mut Vec<(u64, u32)>, epoch: u64, amounts: &[ReservedLink])
-    requires room { length changes.old.items + length amounts.now ≤ vec_capacity changes.old }
-    requires epoch { epoch + 1 < 2 ^ 64 }
-    requires epochs { AreUpTo epoch changes.old.items }
-    requires order { AreInOrder changes.old.items }
-    requires links { AscendByLinks changes.old.items }
-    requires ascending { IsAscending amounts.now }
-    ensures items { changes.new.items
-        ≡ changes.old.items ++ changes_of (epoch + 1) (firsts amounts.now) }
-    ensures order { AreInOrder changes.new.items }
-    ensures links { AscendByLinks changes.new.items }
-    ensures capacity { vec_capacity changes.new ≡ vec_capacity changes.old }
-{
-    for (link, _) in amounts {
-        changes.push_reserved((epoch + 1, *link));
-    }
 }
