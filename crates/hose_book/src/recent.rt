@@ -1,6 +1,6 @@
 // Which links recent entries touched.
-ghost use Rattle.std.specs.Prelude.{[], ◌≡◌, ◌+◌, ◌<◌, ◌≤◌, ◌^◌, ◌∷◌, ◌++◌, ℕ, Contains, IfOk, length, slice_index_or, take, vec_capacity};
-ghost use Rattle.hose_book.specs.steps.Changes.{AreInOrder, AreSince, AreUpTo, AscendByLinks, opening_recent, with_changes};
+ghost use Rattle.std.specs.Prelude.{[], ◌≡◌, ◌+◌, ◌<◌, ◌≤◌, ◌^◌, ◌∷◌, ◌++◌, ℕ, IfOk, length, slice_index_or, take, vec_capacity};
+ghost use Rattle.hose_book.specs.steps.Changes.{AreInOrder, AreUpTo, AscendByLinks, opening_recent, with_changes};
 ghost use Rattle.hose_book.specs.declared.recent.TheConstants.{MOST_CHANGES};
 ghost use Rattle.hose_graph.specs.Ascending.{IsAscending, firsts};
 ghost use Rattle.hose_law.specs.steps.Tracks.{changes_of};
@@ -66,16 +66,6 @@ impl RecentChanges {
         &self.changes
     }
 
-    // The changes of a later epoch than this, and no others.
-    pub(crate) fn since(&self, seen: u64) -> &[(u64, u32)]
-        ensures all { (epoch link : ℕ) → seen < epoch → Contains self.now.changes (epoch, link)
-            → Contains result.now (epoch, link) }
-        ensures alone { AreSince seen result.now }
-    {
-        let changes = self.as_slice();
-        &changes[first_since(changes, seen)..]
-    }
-
     // Adds the links of an entry, as changes of the epoch after this one. Where the changes would
     // be too many, the earlier ones go.
     pub(crate) fn add(&mut self, epoch: u64, amounts: &[ReservedLink])
@@ -114,7 +104,7 @@ impl RecentChanges {
 }
 
 // The place before which no change is of a later epoch than this, and from which on each is.
-fn first_since(changes: &[(u64, u32)], seen: u64) -> usize
+pub(crate) fn first_since(changes: &[(u64, u32)], seen: u64) -> usize
     requires { AreInOrder changes.now }
     ensures inside { result ≤ length changes.now }
     ensures before { AreUpTo seen (take result changes.now) }
