@@ -73,8 +73,9 @@ impl Book {
     {
         // That this is a hose is told by the call that gives its endpoints.
         let _ends = hose.ends();
-        add_amounts(&mut self.loads, amounts.pairs());
-        self.recent.add(self.epoch, amounts.pairs());
+        let pairs = amounts.pairs();
+        add_amounts(&mut self.loads, pairs);
+        self.recent.add(self.epoch, pairs);
         self.epoch += 1;
         self.live.push(Vpn {
             id: self.epoch,

@@ -39,7 +39,7 @@ mod recent;
 mod served_links;
 
 use crate::live_vpns::LiveVpns;
-use crate::recent::RecentChanges;
+use crate::recent::{RecentChanges, first_since};
 use crate::served_links::ServedLinks;
 pub use books::{Books, Committed, Plain};
 pub use checking::BookRefusal;
@@ -202,6 +202,7 @@ impl Book {
             → Contains self.now.recent.changes (epoch, link) → Contains result.now (epoch, link) }
         ensures alone { AreSince seen result.now }
     {
-        self.recent.since(seen)
+        let changes = self.recent.as_slice();
+        &changes[first_since(changes, seen)..]
     }
 }

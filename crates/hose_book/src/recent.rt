@@ -1,6 +1,6 @@
 // Which links recent entries touched.
-ghost use Rattle.std.specs.Prelude.{[], ◌≡◌, ◌+◌, ◌<◌, ◌≤◌, ◌^◌, ◌∷◌, ◌++◌, ℕ, Contains, IfOk, length, slice_index_or, take, vec_capacity};
-ghost use Rattle.hose_book.specs.steps.Changes.{AreInOrder, AreSince, AreUpTo, AscendByLinks, opening_recent, with_changes};
+ghost use Rattle.std.specs.Prelude.{[], ◌≡◌, ◌+◌, ◌<◌, ◌≤◌, ◌^◌, ◌∷◌, ◌++◌, ℕ, IfOk, length, slice_index_or, take, vec_capacity};
+ghost use Rattle.hose_book.specs.steps.Changes.{AreInOrder, AreUpTo, AscendByLinks, opening_recent, with_changes};
 ghost use Rattle.hose_book.specs.declared.recent.TheConstants.{MOST_CHANGES};
 ghost use Rattle.hose_graph.specs.Ascending.{IsAscending, firsts};
 ghost use Rattle.hose_law.specs.steps.Tracks.{changes_of};
@@ -66,16 +66,6 @@ impl RecentChanges {
         &self.changes
     }
 
-    // The changes of a later epoch than this, and no others.
-    pub(crate) fn since(&self, seen: u64) -> &[(u64, u32)]
-        ensures all { (epoch link : ℕ) → seen < epoch → Contains self.now.changes (epoch, link)
-            → Contains result.now (epoch, link) }
-        ensures alone { AreSince seen result.now }
-    {
-        let changes = self.as_slice();
-        &changes[first_since(changes, seen)..]
-    }
-
     // Adds the links of an entry, as changes of the epoch after this one. Where the changes would
     // be too many, the earlier ones go.
     pub(crate) fn add(&mut self, epoch: u64, amounts: &[ReservedLink])
@@ -89,7 +79,9 @@ impl RecentChanges {
             self.changes.clear();
             self.floor = epoch;
         }
-        push_changes(&mut self.changes, epoch, amounts);
+        for (link, _) in amounts {
+            self.changes.push_reserved((epoch + 1, *link));
+        }
     }
 
     // Forgets all changes, and keeps those above an epoch from now on.
@@ -112,7 +104,7 @@ impl RecentChanges {
 }
 
 // The place before which no change is of a later epoch than this, and from which on each is.
-fn first_since(changes: &[(u64, u32)], seen: u64) -> usize
+pub(crate) fn first_since(changes: &[(u64, u32)], seen: u64) -> usize
     requires { AreInOrder changes.now }
     ensures inside { result ≤ length changes.now }
     ensures before { AreUpTo seen (take result changes.now) }
@@ -120,23 +112,4 @@ fn first_since(changes: &[(u64, u32)], seen: u64) -> usize
         → seen < (slice_index_or changes.now k d).0 }
 {
     changes.partition_point(|change| change.0 <= seen)
-}
-
-// Puts the links of an entry behind changes of no later epoch than this, as changes of the next.
-fn push_changes(changes: &mut Vec<(u64, u32)>, epoch: u64, amounts: &[ReservedLink])
-    requires room { length changes.old.items + length amounts.now ≤ vec_capacity changes.old }
-    requires epoch { epoch + 1 < 2 ^ 64 }
-    requires epochs { AreUpTo epoch changes.old.items }
-    requires order { AreInOrder changes.old.items }
-    requires links { AscendByLinks changes.old.items }
-    requires ascending { IsAscending amounts.now }
-    ensures items { changes.new.items
-        ≡ changes.old.items ++ changes_of (epoch + 1) (firsts amounts.now) }
-    ensures order { AreInOrder changes.new.items }
-    ensures links { AscendByLinks changes.new.items }
-    ensures capacity { vec_capacity changes.new ≡ vec_capacity changes.old }
-{
-    for (link, _) in amounts {
-        changes.push_reserved((epoch + 1, *link));
-    }
 }

@@ -65,7 +65,7 @@ pub fn admit_with_rows<K: Books, R: RowMaker>(
         (option_map (λ entry. entry.value) result.1) }
 {
     let Admission { known, hose } = asked;
-    if let Some(reply) = newest_now(books.book(), customer, known) {
+    if let Some(reply) = newest_now(books, customer, known) {
         return (reply, None);
     }
     match plan_now(alloc, books, hose, table, rows) {
@@ -98,7 +98,7 @@ pub fn admit_claimed_now<K: Books>(
         → HasNewest (K.ledger books.old).book customer.now known }
     ensures memory { IfSome result (λ reply. reply ≢ Reply.Memory) }
 {
-    if let Some(told) = newest_now(books.book(), customer, known) {
+    if let Some(told) = newest_now(books, customer, known) {
         return Some(told);
     }
     match take_now(books, quote, claim) {

@@ -107,8 +107,31 @@ impl<K: Books + Drop> Core<K> {
         ensures met { IsMet (K.frame self.old.books) (committed_of result)
             (K.frame self.new.books) }
         ensures names { NamesPlaces (K.ledger self.old.books).network result }
+        ensures goes { IsSameOrNext (K.ledger self.old.books) (K.ledger self.new.books) }
     {
-        self.answer(alloc, customer, command, rows)
+        match command {
+            Command::Admit(hose) => {
+                let asked = Admission { known: None, hose };
+                let (books, table) = (&mut self.books, self.table.as_ref());
+                let (reply, _entered) = admit_with_rows(alloc, books, customer, asked, table, rows);
+                reply
+            }
+            Command::AdmitAfter { known, hose } => {
+                let known = Some(known);
+                let asked = Admission { known, hose };
+                let (books, table) = (&mut self.books, self.table.as_ref());
+                let (reply, _entered) = admit_with_rows(alloc, books, customer, asked, table, rows);
+                reply
+            }
+            Command::Quote(hose) => self.quote(alloc, customer, hose, rows),
+            Command::Take(number) => self.take(alloc, customer, number),
+            Command::Release(id) => self.release(alloc, customer, id),
+            Command::Show(id) => self.show(alloc, customer, id),
+            Command::Vpns => self.vpns(alloc, customer),
+            Command::Link(link) => self.link(link),
+            Command::Down(link) => self.operate(alloc, customer, link, true),
+            Command::Up(link) => self.operate(alloc, customer, link, false),
+        }
     }
 
     /// The reply to a command of a customer who holds these quotes, in place of those that the core
@@ -133,63 +156,8 @@ impl<K: Books + Drop> Core<K> {
         ensures goes { IsSameOrNext (K.ledger self.old.books) (K.ledger self.new.books) }
     {
         swap(&mut self.quotes, quotes);
-        let reply = self.answer(alloc, customer, command, rows);
+        let reply = self.step(alloc, customer, command, rows);
         swap(&mut self.quotes, quotes);
-        reply
-    }
-
-    // Answers a command by the call for its kind.
-    fn answer<R: RowMaker>(
-        &mut self,
-        alloc: Global,
-        customer: &Name,
-        command: Command,
-        rows: &mut R,
-    ) -> Reply
-        requires { AsksOf (K.ledger self.old.books).network command }
-        ensures { HasAnswered K.Books self.old self.new customer.now command result }
-    {
-        match command {
-            Command::Admit(hose) => {
-                let asked = Admission { known: None, hose };
-                self.admit(alloc, customer, asked, rows)
-            }
-            Command::AdmitAfter { known, hose } => {
-                let known = Some(known);
-                self.admit(alloc, customer, Admission { known, hose }, rows)
-            }
-            Command::Quote(hose) => self.quote(alloc, customer, hose, rows),
-            Command::Take(number) => self.take(alloc, customer, number),
-            Command::Release(id) => self.release(alloc, customer, id),
-            Command::Show(id) => self.show(alloc, customer, id),
-            Command::Vpns => self.vpns(alloc, customer),
-            Command::Link(link) => self.link(link),
-            Command::Down(link) => self.operate(alloc, customer, link, true),
-            Command::Up(link) => self.operate(alloc, customer, link, false),
-        }
-    }
-
-    // Admits a hose.
-    fn admit<R: RowMaker>(
-        &mut self,
-        alloc: Global,
-        customer: &Name,
-        asked: Admission,
-        rows: &mut R,
-    ) -> Reply
-        requires { AreNodes (K.ledger self.old.books).network asked.hose }
-        ensures { HasAnswered K.Books self.old self.new customer.now
-            (admission_command asked.known asked.hose) result }
-    {
-        let table = self.table.as_ref();
-        let (reply, _entered) = admit_with_rows(
-            alloc,
-            &mut self.books,
-            customer,
-            asked,
-            table,
-            rows,
-        );
         reply
     }
 

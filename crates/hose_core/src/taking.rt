@@ -46,7 +46,7 @@ pub fn take_now<K: Books>(books: &mut K, quote: &Quote, claim: Claim<K>) -> Repl
     ensures memory { result ≢ Reply.Memory }
 {
     let Claim { entry, ready, told } = claim;
-    if !still_holds(books.book(), quote) {
+    if !still_holds(books, quote) {
         return Reply::Stale {
             seen: quote.seen,
             now: books.book().epoch(),
@@ -55,15 +55,17 @@ pub fn take_now<K: Books>(books: &mut K, quote: &Quote, claim: Claim<K>) -> Repl
     enter_planned(books, entry, ready, told, quote.cost)
 }
 
-// Whether the grounds of a quote hold at a book.
-fn still_holds(book: &hose_book::Book, quote: &Quote) -> bool
-    requires made { IsMade book.now.network quote.now }
-    requires since { HasGroundsSince book.now quote.now }
-    ensures holds { (earlier : Book) → IsMadeAt book.now.network earlier quote.now
+// Whether the grounds of a quote hold at books.
+fn still_holds<K: Books>(books: &K, quote: &Quote) -> bool
+    requires made { IsMade (K.ledger books.now).network quote.now }
+    requires since { HasGroundsSince (K.ledger books.now) quote.now }
+    ensures holds { let ledger = K.ledger books.now in
+        (earlier : Book) → IsMadeAt ledger.network earlier quote.now
         → (IsTrue result
-        ↔ HaveEqualGrounds book.now.network earlier book.now.book quote.now.hose) }
-    ensures network { IsNetwork book.now.network }
+        ↔ HaveEqualGrounds ledger.network earlier ledger.book quote.now.hose) }
+    ensures network { IsNetwork (K.ledger books.now).network }
 {
+    let book = books.book();
     let (top, service, loads) = (book.topology(), book.service(), book.loads());
     let seen = quote.seen;
     if seen >= book.floor() {

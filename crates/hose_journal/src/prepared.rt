@@ -48,7 +48,7 @@ fn begin(buffer: &mut Vec<u8>, len: u32)
     let mut field = [0; LENGTH_BYTES];
     BigEndian::write_u32(&mut field, len);
     buffer.clear();
-    add(buffer, &field);
+    let _added = buffer.extend_from_slice(&field);
 }
 
 // Adds bytes for which there is room.

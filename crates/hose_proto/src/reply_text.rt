@@ -1,19 +1,19 @@
 // The texts of replies on their way to a sink.
 ghost use Rattle.std.specs.List.{flat_map};
-ghost use Rattle.std.specs.Prelude.{◌≡◌, ◌⊎◌, ◌≤◌, ◌++◌, ◌∷◌, [], ℕ, List, All, OnOk, codes, decimal, length, map};
+ghost use Rattle.std.specs.Prelude.{◌≡◌, ◌≤◌, ◌++◌, ◌∷◌, [], ℕ, Bool, List, All, OnOk, codes, decimal, length, map};
 ghost use Rattle.hose_io.specs.Count.{one_more};
 ghost use Rattle.hose_io.specs.steps.Gather.{IsAdded};
 ghost use Rattle.hose_io.specs.steps.Writing.{IsPut};
 ghost use Rattle.hose_graph.specs.Amounts.{ReservedLink};
-ghost use Rattle.hose_graph.specs.Hose.{node_of};
-ghost use Rattle.hose_graph.specs.Network.{Network, IsLinkOf, IsNodeOf};
-ghost use Rattle.hose_graph.specs.declared.command.Reply.TheVariants.{Admitted, LinkState, Quoted, Refused, Shown, Stale, Vpns};
+ghost use Rattle.hose_graph.specs.Hose.{Endpoint};
+ghost use Rattle.hose_graph.specs.Network.{Network, IsNodeOf};
+ghost use Rattle.hose_graph.specs.declared.command.Reply.TheVariants.{LinkState, Refused, Shown, Stale, Vpns};
 ghost use Rattle.hose_proto.specs.ReplyWords.{pair_word, service_words};
 ghost use Rattle.hose_proto.specs.ReplyText.{line_of, node_text, reply_text, spaced};
 ghost use Rattle.hose_graph.specs.steps.Naming.{NamesPlaces};
 
 use crate::pieces::{add_ends, add_link, add_node, add_pairs};
-use hose_graph::{Amounts, Hose, NodeList, Reply, Topology, VpnList};
+use hose_graph::{Amounts, NodeList, Reply, Topology, VpnList};
 use hose_io::{Failed, GATHER_LIMIT, Gather, Sink};
 
 /// Writes a reply as a line. A line of up to 4,096 bytes is given to the sink as one piece, and
@@ -37,23 +37,22 @@ fn add_reply<S: Sink>(gather: &mut Gather, sink: &mut S, top: &Topology, reply: 
         (reply_text top.now reply.now) }
 {
     match reply {
-        Reply::Admitted { .. } => add_planned(gather, sink, reply),
-        Reply::Quoted { .. } => add_planned(gather, sink, reply),
-        Reply::Refused { at, side } => add_refused(gather, sink, top, *at, side),
-        Reply::Shown {
+        Reply::Admitted {
             id,
             cost,
             at,
-            hose,
             amounts,
-        } => add_shown(gather, sink, top, (*id, *cost, *at), (hose, amounts)),
-        Reply::Vpns { at, ids } => add_vpns(gather, sink, *at, ids),
-        Reply::LinkState {
-            link,
-            load,
-            out,
+        } => add_priced(gather, sink, b"admitted ", (*id, *cost, *at), amounts),
+        Reply::Quoted {
+            quote,
+            cost,
             at,
-        } => add_state(gather, sink, top, (*link, *load), (*out, *at)),
+            amounts,
+        } => add_priced(gather, sink, b"quoted ", (*quote, *cost, *at), amounts),
+        Reply::Refused { at, side } => add_refused(gather, sink, top, *at, side),
+        Reply::Shown { .. } => add_shown(gather, sink, top, reply),
+        Reply::Vpns { at, ids } => add_vpns(gather, sink, *at, ids),
+        Reply::LinkState { .. } => add_state(gather, sink, top, reply),
         Reply::Welcome { at } => add_last(gather, sink, b"welcome at ", *at),
         Reply::Stale { seen, now } => add_stale(gather, sink, *seen, *now),
         Reply::Released { id, at } => add_at(gather, sink, b"released ", *id, *at),
@@ -72,30 +71,6 @@ fn add_reply<S: Sink>(gather: &mut Gather, sink: &mut S, top: &Topology, reply: 
         Reply::Bad { word } => add_last(gather, sink, b"bad ", *word),
         Reply::Long => gather.add(sink, b"long"),
         Reply::Bye => gather.add(sink, b"bye"),
-    }
-}
-
-// Adds the text of a reply that tells a plan.
-fn add_planned<S: Sink>(gather: &mut Gather, sink: &mut S, reply: &Reply)
-    requires { (id cost at : ℕ) × (amounts : List ReservedLink)
-        × ((reply.now ≡ Admitted id cost at amounts) ⊎ (reply.now ≡ Quoted id cost at amounts)) }
-    ensures { (network : Network) → IsAdded S.Sink gather.old sink.old gather.new sink.new
-        (reply_text network reply.now) }
-{
-    match reply {
-        Reply::Admitted {
-            id,
-            cost,
-            at,
-            amounts,
-        } => add_priced(gather, sink, b"admitted ", (*id, *cost, *at), amounts),
-        Reply::Quoted {
-            quote,
-            cost,
-            at,
-            amounts,
-        } => add_priced(gather, sink, b"quoted ", (*quote, *cost, *at), amounts),
-        _ => {}
     }
 }
 
@@ -139,7 +114,8 @@ fn add_priced<S: Sink>(
 {
     let (id, cost, at) = costed;
     gather.add_numbered(sink, words, id);
-    add_at(gather, sink, b" cost ", cost, at);
+    gather.add_numbered(sink, b" cost ", cost);
+    gather.add_numbered(sink, b" at ", at);
     gather.add(sink, b" links");
     add_pairs(gather, sink, amounts.pairs());
 }
@@ -156,22 +132,25 @@ fn add_refused<S: Sink>(gather: &mut Gather, sink: &mut S, top: &Topology, at: u
 }
 
 // Adds the number of a VPN, its cost and an epoch, the endpoints of its hose, and links with their
-// amounts.
-fn add_shown<S: Sink>(
-    gather: &mut Gather,
-    sink: &mut S,
-    top: &Topology,
-    costed: (u64, u64, u64),
-    lists: (&Hose, &Amounts),
-)
-    requires { All (λ end. IsNodeOf top.now (node_of end)) lists.0.now }
-    ensures { IsAdded S.Sink gather.old sink.old gather.new sink.new (reply_text top.now
-        (Shown costed.0 costed.1 costed.2 lists.entry.0.now lists.entry.1.now)) }
+// amounts, where a VPN is shown.
+fn add_shown<S: Sink>(gather: &mut Gather, sink: &mut S, top: &Topology, reply: &Reply)
+    requires { NamesPlaces top.now reply.now }
+    ensures { (id cost at : ℕ) (hose : List Endpoint) (amounts : List ReservedLink)
+        → reply.now ≡ Shown id cost at hose amounts
+        → IsAdded S.Sink gather.old sink.old gather.new sink.new (reply_text top.now reply.now) }
 {
-    let (id, cost, at) = costed;
-    let (hose, amounts) = lists;
-    gather.add_numbered(sink, b"vpn ", id);
-    add_at(gather, sink, b" cost ", cost, at);
+    let Reply::Shown {
+        id,
+        cost,
+        at,
+        hose,
+        amounts,
+    } = reply
+    else {
+        return;
+    };
+    gather.add_numbered(sink, b"vpn ", *id);
+    add_at(gather, sink, b" cost ", *cost, *at);
     gather.add(sink, b" ends");
     add_ends(gather, sink, top, hose.ends());
     gather.add(sink, b" links");
@@ -199,25 +178,27 @@ fn add_ids<S: Sink>(gather: &mut Gather, sink: &mut S, ids: &[u64])
 }
 
 // Adds what there is to tell of a link: what is reserved on it, whether it is out of service, and
-// an epoch.
-fn add_state<S: Sink>(
-    gather: &mut Gather,
-    sink: &mut S,
-    top: &Topology,
-    loaded: (u64, u64),
-    service: (bool, u64),
-)
-    requires { IsLinkOf top.now loaded.0 }
-    ensures { IsAdded S.Sink gather.old sink.old gather.new sink.new
-        (reply_text top.now (LinkState loaded.0 loaded.1 service.0 service.1)) }
+// an epoch, where a link is told.
+fn add_state<S: Sink>(gather: &mut Gather, sink: &mut S, top: &Topology, reply: &Reply)
+    requires { NamesPlaces top.now reply.now }
+    ensures { (link load at : ℕ) (out : Bool) → reply.now ≡ LinkState link load out at
+        → IsAdded S.Sink gather.old sink.old gather.new sink.new (reply_text top.now reply.now) }
 {
-    let (link, load) = loaded;
+    let Reply::LinkState {
+        link,
+        load,
+        out,
+        at,
+    } = reply
+    else {
+        return;
+    };
     // The call tells the proof that each network has few links, so that their numbers fit.
     let _links = top.links();
-    gather.add_numbered(sink, b"link ", link);
-    add_link(gather, sink, top, &top.link(link as u32));
-    gather.add_numbered(sink, b" load ", load);
-    add_service(gather, sink, service.0, service.1);
+    gather.add_numbered(sink, b"link ", *link);
+    add_link(gather, sink, top, &top.link(*link as u32));
+    gather.add_numbered(sink, b" load ", *load);
+    add_service(gather, sink, *out, *at);
 }
 
 // Adds whether a link is out of service, and an epoch.

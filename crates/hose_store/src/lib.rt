@@ -16,7 +16,7 @@
 //! ```
 #![tactic(auto)]
 
-mod committing;
+mod closing;
 mod fault;
 mod laws;
 mod recovery;

@@ -16,14 +16,15 @@ ghost use Rattle.hose_store.specs.steps.Opening.{HasGiven, IsOpenedOn};
 ghost use Rattle.hose_store.specs.Recovery.{digest_of};
 ghost use Rattle.hose_store.specs.steps.Store.{HasHistory};
 
-use crate::committing::{add, settle_or_sync};
+use crate::closing::settle_or_sync;
 use crate::fault::StoreFault;
 use crate::recovery::recover;
 use crate::sealing::seal_plain;
 use hose_book::{Book, Books, Committed};
+use hose_codec::encode;
 use hose_disk::{Disk, Failed};
 use hose_graph::{Entry, Topology};
-use hose_journal::{Journal, Reading, Ready, open, ready};
+use hose_journal::{Journal, Reading, Ready, open};
 use hose_topo::digest;
 use std::alloc::{AllocError, Global};
 use std::marker::Model;
@@ -157,10 +158,17 @@ impl<D: Disk> Books for Store<D> {
     }
 
     fn prepare(alloc: Global, entry: &Entry) -> Result<Ready, AllocError> {
-        ready(alloc, entry)
+        let bytes = encode(alloc, entry)?;
+        Ok(Ready { bytes })
     }
 
     fn commit(&mut self, entry: Entry, ready: Ready) -> Committed {
-        add(&mut self.book, &mut self.journal, entry, &ready)
+        match self.journal.append(&ready) {
+            Ok(()) => {
+                self.book.apply(entry);
+                Committed::Done
+            }
+            Err(Failed) => Committed::Disk,
+        }
     }
 }

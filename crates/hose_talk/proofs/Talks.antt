@@ -31,8 +31,8 @@ use Rattle.hose_talk.specs.declared.talking.TalkFault.TheVariants as talk_fault
 use Rattle.hose_talk.proofs.StillReading.{IsStillReading, source_held}
 
 -- what did not end at the limit is within it
-pub within_limit : {T : Type 0} (value : T) (taken : ℕ) → (◌≡◌ {A = Result T TalkFault} (Ok value) (Err talk_fault.TooLong)) ↔ (INPUT_LIMIT < taken) → taken ≤ INPUT_LIMIT
-within_limit value taken is = let less : ¬ (INPUT_LIMIT < taken) = λ more. cc (is.1 more) in omega (arith, less)
+pub within_limit : {T F : Type 0} (value : T) (fault : F) (taken : ℕ) → (◌≡◌ {A = Result T F} (Ok value) (Err fault)) ↔ (INPUT_LIMIT < taken) → taken ≤ INPUT_LIMIT
+within_limit value fault taken is = let less : ¬ (INPUT_LIMIT < taken) = λ more. cc (is.1 more) in omega (arith, less)
 
 pub one_past : (taken : ℕ) → taken ≤ INPUT_LIMIT → taken ≤ INPUT_LIMIT + 1
 one_past taken below = omega (arith, below)
@@ -56,14 +56,13 @@ said_cut source Says start now lines near asked said = WhereTold-map (source.con
 module _ {A R S O : Type 0} (by : Ghosts A R) (source : SourceGhosts S) (sink : SinkGhosts O) where
   -- a line that was read was answered
   pub answered_line : (old new : Talk (Reader S) O A) (shown : Line) (reply : R) (puts : List ℕ → Type 0) → IsNext source old.lines new.lines (Ok (Some shown)) → ((from : by.origin) → ComesOn (by.says (by.about old.by)) (by.comes from) shown old.by new.by reply)
-      → by.about new.by ≡ by.about old.by → puts (by.text (by.about new.by) reply) → length new.lines.pending ≤ most_ahead → TakesReply by source sink old new puts
-  answered_line old new shown reply puts next answers about out near = record {
+      → by.about new.by ≡ by.about old.by → puts (by.text (by.about new.by) reply) → TakesReply by source sink old new puts
+  answered_line old new shown reply puts next answers about out = record {
     reply = reply;
     answers = λ from lines replies came.
         let more = answers from lines replies came in
         (more.0, takes_line source old.lines new.lines shown (λ bytes. by.says (by.about old.by) lines bytes more.0) next more.1, more.2);
     out = subst (λ (subject : by.subject). puts (by.text subject reply)) about out;
-    near = near;
     asked = next.asked;
     progress = next.progress;
   }
@@ -113,14 +112,14 @@ module _ {A R S O : Type 0} (by : Ghosts A R) (source : SourceGhosts S) (sink : 
           }
 
       -- a line more is taken, and its reply is cut off
-      talked_cut : ReadsOn source now.lines new.lines → Taken (GrowsInPart (sink.content now.output) (sink.content new.output)) → UpTo (IsCutByReader source start.lines new.lines) (LastCut text sink start.output new.output)
-      talked_cut reads taken =
+      talked_cut : ReadsOn source now.lines new.lines → Taken (GrowsInPart (sink.content now.output) (sink.content new.output)) → length new.lines.pending ≤ most_ahead → UpTo (IsCutByReader source start.lines new.lines) (LastCut text sink start.output new.output)
+      talked_cut reads taken near =
           let more = taken.answers from talked.lines talked.replies talked.comes in
           let out = subst (λ (subject : by.subject). GrowsInPart (sink.content now.output) (sink.content new.output) (by.text subject taken.reply)) about taken.out in
           record {
             lines = talked.lines ++ more.0 ∷ [];
             replies = talked.replies ++ taken.reply ∷ [];
-            said = said_cut source Says start.lines new.lines _ taken.near (asked_before source start.lines now.lines new.lines (λ bytes. by.says (by.about now.by) talked.lines bytes more.0) still.reads more.1 still.none reads.after_end taken.asked)
+            said = said_cut source Says start.lines new.lines _ near (asked_before source start.lines now.lines new.lines (λ bytes. by.says (by.about now.by) talked.lines bytes more.0) still.reads more.1 still.none reads.after_end taken.asked)
                 (said_more source Says start.lines now.lines new.lines talked.lines talked.said still.reads more.0 (λ bytes. by.says (by.about now.by) talked.lines bytes more.0) more.1 (λ bytes is. subst (λ (subject : by.subject). by.says subject talked.lines bytes more.0) about is));
             comes = more.2;
             out = (
@@ -157,7 +156,7 @@ module _ {A R S O : Type 0} (by : Ghosts A R) (source : SourceGhosts S) (sink : 
       pub talks_fault : (why : TalkFault) → ReadsOn source now.lines new.lines → Exchanges by source sink now new (Err why) → TalksByReader by source sink from start new (Err why)
       talks_fault talk_fault.Read reads line = ((until line_fault.Read line.0 line.2 line.3, still_open line.3), rw (source_held source sink start.lines now.lines start.output now.output still) at line.1, ap sink.frame line.2 ∙ still.held)
       talks_fault talk_fault.TooLong reads line = ((until line_fault.TooLong line.0 line.1 line.2, still_open line.2), held_on reads (λ read. cc (line.0.kept, read)), ap sink.frame line.1 ∙ still.held)
-      talks_fault talk_fault.Write reads line = (talked_cut reads line.0, held_on reads (λ read. cc (line.1, read)), rw still.held at line.2)
+      talks_fault talk_fault.Write reads line = (talked_cut reads line.0 line.3, held_on reads (λ read. cc (line.1, read)), rw still.held at line.2)
 
       -- no line is left
       pub talks_all : ReadsOn source now.lines new.lines → Exchanges by source sink now new (Ok false) → TalksByReader by source sink from start new (Ok talk_end.Input)

@@ -4,10 +4,10 @@ ghost use Rattle.hose_io.specs.Frame.{Stays};
 ghost use Rattle.hose_io.specs.Stream.{Gives};
 ghost use Rattle.hose_words.specs.steps.Reading.{ReadsOn};
 ghost use Rattle.hose_talk.specs.Talk.{talk};
-ghost use Rattle.hose_talk.specs.steps.Talk.{Exchanges, KeepsFault, TalksByInput, TalksByReader};
+ghost use Rattle.hose_talk.specs.steps.Talk.{KeepsFault, TalksByInput, TalksByReader};
 
 use crate::Answers;
-use hose_io::{Failed, Sink, Source};
+use hose_io::{Sink, Source};
 use hose_words::{INPUT_LIMIT, LineFault, LineReader};
 
 /// How a talk ended that met no fault.
@@ -41,17 +41,6 @@ impl From<LineFault> for TalkFault {
             LineFault::Read => TalkFault::Read,
             LineFault::TooLong => TalkFault::TooLong,
         }
-    }
-}
-
-impl From<Failed> for TalkFault {
-    ghost use Rattle.std.specs.Prelude.{◌≡◌};
-    ghost use Rattle.hose_talk.specs.declared.talking.TalkFault.TheVariants.{Write};
-
-    ghost from_gives = { λ _ made. made ≡ Write };
-
-    fn from(_failed: Failed) -> TalkFault {
-        TalkFault::Write
     }
 }
 
@@ -102,39 +91,17 @@ pub fn converse<A: Answers, S: Source, O: Sink>(
     ensures output { Stays (O.frame output.old) (O.frame output.new) }
 {
     while !answers.is_over() {
-        if !exchange(answers, lines, output)? {
+        let Some(line) = lines.next()? else {
             return Ok(TalkEnd::Input);
-        }
+        };
+        let reply = answers.answer(line);
+        let Ok(()) = answers.put(output, &reply) else {
+            // What was taken ahead is told with how much it is.
+            let _ahead = lines.pending();
+            return Err(TalkFault::Write);
+        };
     }
-    // What was taken ahead is told with how much it is.
+    // So it is here.
     let _ahead = lines.pending();
     Ok(TalkEnd::Over)
-}
-
-// Answers the next line, and says whether there was one.
-fn exchange<A: Answers, S: Source, O: Sink>(
-    answers: &mut A,
-    lines: &mut LineReader<S>,
-    output: &mut O,
-) -> Result<bool, TalkFault>
-    requires fits { A.fits answers.old }
-    requires goes_on { A.over answers.old ≡ false }
-    requires no_fault { lines.old.fault ≡ None }
-    ensures exchanges { Exchanges A.Answers S.Source O.Sink
-        (talk lines.old output.old answers.old) (talk lines.new output.new answers.new) result }
-    ensures about { A.about answers.new ≡ A.about answers.old }
-    ensures fits { A.fits answers.new }
-    ensures too_long { (result ≡ Err TalkFault.TooLong) ↔ (INPUT_LIMIT < lines.new.taken) }
-    ensures reads_on { ReadsOn S.Source lines.old lines.new }
-    ensures limit { lines.new.taken ≤ INPUT_LIMIT + 1 }
-    ensures output { Stays (O.frame output.old) (O.frame output.new) }
-{
-    let Some(line) = lines.next()? else {
-        return Ok(false);
-    };
-    let reply = answers.answer(line);
-    // What was taken ahead is told with how much it is.
-    let _ahead = lines.pending();
-    answers.put(output, &reply)?;
-    Ok(true)
 }

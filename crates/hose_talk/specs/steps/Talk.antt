@@ -37,7 +37,6 @@ module _ {A R S O : Type 0} (by : Ghosts A R) (source : SourceGhosts S) (sink : 
         (λ bytes. by.says (by.about old.by) lines bytes said)
         × by.comes from (lines ++ said ∷ []) (replies ++ reply ∷ []) new.by
     pub out : puts (by.text (by.about old.by) reply)
-    pub near : length new.lines.pending ≤ most_ahead
     pub asked : (new.lines.source ≡ old.lines.source)
         ⊎ IsAskedInLine source old.lines new.lines
     pub progress : length new.lines.pending + old.lines.taken
@@ -58,6 +57,7 @@ module _ {A R S O : Type 0} (by : Ghosts A R) (source : SourceGhosts S) (sink : 
   Exchanges (Err talk_fault.Write) =
       TakesReply (GrowsInPart (sink.content old.output) (sink.content new.output))
       × (new.lines.fault ≡ None) × Rose (sink.frame old.output) (sink.frame new.output)
+      × (length new.lines.pending ≤ most_ahead)
 
 -- ---- all lines
 

@@ -24,11 +24,11 @@ add_amounts-requires-clause-links c = λ k d inside.
     let sound : IsSoundAt network (record { epoch = c.self.inside.epoch; live = c.self.inside.live; out = c.self.inside.served.out }) entry =
     subst (λ (s : Ledger). IsSoundAt s.network s.book entry) (sym c.self.view_is) c.requires in
     let links = reserved_links network c.self.invariant.0 _ c.args.hose c.args.amounts sound.2.on_tree in
-    let link : (get_or c.args.amounts k d).0 < length network.links = links k d (omega (arith, inside, ap length c.pairs.ensures.value)) in
+    let link : (get_or c.args.amounts k d).0 < length network.links = links k d (omega (arith, inside, ap length c.pairs-pairs.ensures.value)) in
     omega (
       arith,
       link,
-      ap (λ (ps : List (ℕ × ℕ)). (get_or ps k d).0) c.pairs.ensures.value,
+      ap (λ (ps : List (ℕ × ℕ)). (get_or ps k d).0) c.pairs-pairs.ensures.value,
       ap length c.deref_mut.ensures.value,
       c.self.invariant.1.places,
     )
@@ -49,7 +49,7 @@ add_amounts-requires-clause-fits c = λ l inside.
       load_more book c.args.customer c.args.hose c.args.amounts l,
       here,
       ap (λ (s : List ℕ). get_or s l 0) loads_is,
-      ap (λ (ps : List (ℕ × ℕ)). amount_on l ps) c.pairs.ensures.value,
+      ap (λ (ps : List (ℕ × ℕ)). amount_on l ps) c.pairs-pairs.ensures.value,
     )
 
 pub invariant_of-self : goal.invariant_of-self
@@ -81,7 +81,7 @@ invariant_of-self c =
       c.add_amounts.ensures l (omega (arith, ap length loads_is, old.places)),
       ap (λ (s : List ℕ). get_or s l 0) loads_is,
       old.each l inside,
-      ap (λ (ps : List (ℕ × ℕ)). amount_on l ps) c.pairs.ensures.value,
+      ap (λ (ps : List (ℕ × ℕ)). amount_on l ps) c.pairs-pairs.ensures.value,
       load_more book c.args.customer c.args.hose c.args.amounts l,
     ) in
     let loads : AreKeptLoads network (next_book book entry) new = record { places = long; each = each; none_oversold = kept } in (
@@ -91,8 +91,8 @@ invariant_of-self c =
       omega (arith, sound.0),
       subst (HasRisingIds 0) next_is (rising_next 0 book entry c.self.invariant.3),
       subst (All (IsKept network)) (sym c.push.ensures) (All-push (IsKept network) book.live vpn c.self.invariant.4 is_kept),
-      subst (λ (r : Recent). r.floor ≤ book.epoch + 1) (sym c.add.ensures) (floor_next c.self.inside.recent book.epoch (firsts c.pairs-2.result.now) c.self.invariant.5),
-      subst (λ (r : Recent). AreUpTo (book.epoch + 1) r.changes) (sym c.add.ensures) (with_up_to c.self.inside.recent book.epoch (firsts c.pairs-2.result.now) c.self.invariant.6),
+      subst (λ (r : Recent). r.floor ≤ book.epoch + 1) (sym c.add.ensures) (floor_next c.self.inside.recent book.epoch (firsts c.pairs-pairs.result.now) c.self.invariant.5),
+      subst (λ (r : Recent). AreUpTo (book.epoch + 1) r.changes) (sym c.add.ensures) (with_up_to c.self.inside.recent book.epoch (firsts c.pairs-pairs.result.now) c.self.invariant.6),
       c.self.invariant.7,
     )
 
@@ -102,4 +102,4 @@ add-requires-clause-few c =
     let entry = Admit c.args.customer c.args.hose c.args.amounts in
     let sound : IsSoundAt network (record { epoch = c.self.inside.epoch; live = c.self.inside.live; out = c.self.inside.served.out }) entry =
     subst (λ (s : Ledger). IsSoundAt s.network s.book entry) (sym c.self.view_is) c.requires in
-    omega (arith, reserved_few network c.self.invariant.0 _ c.args.hose c.args.amounts sound.2.on_tree, ap length c.pairs-2.ensures.value)
+    omega (arith, reserved_few network c.self.invariant.0 _ c.args.hose c.args.amounts sound.2.on_tree, ap length c.pairs-pairs.ensures.value)

@@ -1,29 +1,22 @@
-use Rattle.std.proofs.Common.{inl, inr}
 use Rattle.hose_proto.proofs.reply_text.add_reply.Goals as goal
 
-pub add_planned-requires : goal.add_planned-requires
-add_planned-requires g c = (c.in-Admitted.id, c.in-Admitted.cost, c.in-Admitted.at, c.in-Admitted.amounts, inl c.in-Admitted.is)
-
 pub returns-in-Admitted : goal.returns-in-Admitted
-returns-in-Admitted g c = c.add_planned.ensures c.args.top.now
-
-pub add_planned-requires-in-Quoted : goal.add_planned-requires-in-Quoted
-add_planned-requires-in-Quoted g c = (c.in-Quoted.quote, c.in-Quoted.cost, c.in-Quoted.at, c.in-Quoted.amounts, inr c.in-Quoted.is)
+returns-in-Admitted g c = rw c.in-Admitted.is c.add_priced.ensures
 
 pub returns-in-Quoted : goal.returns-in-Quoted
-returns-in-Quoted g c = c.add_planned-in-Quoted.ensures c.args.top.now
+returns-in-Quoted g c = rw c.in-Quoted.is c.add_priced-in-Quoted.ensures
 
 pub returns-in-Refused : goal.returns-in-Refused
 returns-in-Refused g c = rw c.in-Refused.is c.add_refused.ensures
 
 pub returns-in-Shown : goal.returns-in-Shown
-returns-in-Shown g c = rw c.in-Shown.is c.add_shown.ensures
+returns-in-Shown g c = c.add_shown.ensures _ _ _ _ _ c.in-Shown.is
 
 pub returns-in-Vpns : goal.returns-in-Vpns
 returns-in-Vpns g c = rw c.in-Vpns.is (c.add_vpns.ensures c.args.top.now)
 
 pub returns-in-LinkState : goal.returns-in-LinkState
-returns-in-LinkState g c = rw c.in-LinkState.is c.add_state.ensures
+returns-in-LinkState g c = c.add_state.ensures _ _ _ _ c.in-LinkState.is
 
 pub returns-in-Stale : goal.returns-in-Stale
 returns-in-Stale g c = rw c.in-Stale.is (c.add_stale.ensures c.args.top.now)

@@ -6,16 +6,17 @@ use Rattle.hose_proto.specs.ReplyText.{spaced}
 use Rattle.hose_proto.proofs.Spacing.{added_after, added_list, added_words}
 use Rattle.hose_proto.proofs.reply_text.add_shown.Goals as goal
 
+pub returns-in_default : goal.returns-in_default
+returns-in_default g c = λ id cost at hose amounts is. absurd (c.in_default.not-Shown id cost at hose amounts is)
+
 pub returns : goal.returns
-returns g c =
+returns g c = λ _ _ _ _ _ is.
     let network = c.args.top.now in
-    let hose = c.args.lists.0.now in
-    let amounts = c.args.lists.1.now in
-    let costed = c.args.costed in
-    let front = codes "cost" ∷ decimal costed.1 ∷ codes "at" ∷ decimal costed.2 ∷ [] in
-    let ends = codes "ends" ∷ map (end_word network) hose in
-    let links = codes "links" ∷ map pair_word amounts in
-    let nodes = added_list (end_word network) hose (rw c.ends.ensures.value at c.add_ends.ensures) in
-    let pairs = added_list pair_word amounts (rw c.pairs.ensures.value at c.add_pairs.ensures) in
-    added_after (codes "vpn ") (decimal costed.0) (spaced (front ++ (ends ++ links))) c.add_numbered.ensures
-    (added_words front (ends ++ links) c.add_at.ensures (added_words ends links (IsAdded-next c.add.ensures nodes) (IsAdded-next c.add-2.ensures pairs)))
+    let shown = c.in-Shown in
+    let front = codes "cost" ∷ decimal shown.cost ∷ codes "at" ∷ decimal shown.at ∷ [] in
+    let ends = codes "ends" ∷ map (end_word network) shown.hose in
+    let links = codes "links" ∷ map pair_word shown.amounts in
+    let nodes = added_list (end_word network) shown.hose (rw c.ends.ensures.value at c.add_ends.ensures) in
+    let pairs = added_list pair_word shown.amounts (rw c.pairs.ensures.value at c.add_pairs.ensures) in
+    rw shown.is (added_after (codes "vpn ") (decimal shown.id) (spaced (front ++ (ends ++ links))) c.add_numbered.ensures
+    (added_words front (ends ++ links) c.add_at.ensures (added_words ends links (IsAdded-next c.add.ensures nodes) (IsAdded-next c.add-2.ensures pairs))))

@@ -5,8 +5,8 @@ use Rattle.hose_talk.specs.steps.Talk.{HasTalked}
 use Rattle.hose_talk.proofs.StillReading.{IsStillReading}
 use Rattle.hose_talk.proofs.talking.converse.Given as goal
 
-abbrev pub invariant-loop-answers : goal.invariant-loop-answers
-invariant-loop-answers g l = record {
+abbrev pub invariant-loop-lines : goal.invariant-loop-lines
+invariant-loop-lines g l = record {
   talked : (from : g.A.Answers.origin) → g.A.Answers.comes from [] [] l.fn.answers → HasTalked g.A.Answers g.S.Source g.O.Sink from (talk l.fn.lines l.fn.output l.fn.answers) (talk l.lines l.output l.answers);
   about : g.A.Answers.about l.answers ≡ g.A.Answers.about l.fn.answers;
   fits : g.A.Answers.fits l.answers;
@@ -14,5 +14,5 @@ invariant-loop-answers g l = record {
   still : IsStillReading g.S.Source g.O.Sink l.fn.lines l.lines l.fn.output l.output;
 }
 
-abbrev pub decreases-loop-answers : goal.decreases-loop-answers
-decreases-loop-answers g l = INPUT_LIMIT + 1 - l.lines.taken + length l.lines.pending
+abbrev pub decreases-loop-lines : goal.decreases-loop-lines
+decreases-loop-lines g l = INPUT_LIMIT + 1 - l.lines.taken + length l.lines.pending

@@ -5,7 +5,7 @@ use Rattle.hose_journal.specs.steps.Journal.{IsListAmid, with_doubt}
 use Rattle.hose_journal.specs.Moments.{Images, LeavesOnly}
 use Rattle.hose_journal.proofs.Accounts.{stands_amid, sure_lists}
 use Rattle.hose_journal.proofs.Runs.{goes_on, started}
-use Rattle.hose_store.proofs.committing.settle_or_sync.Goals as goal
+use Rattle.hose_store.proofs.closing.settle_or_sync.Goals as goal
 
 pub returns-then-doubt-clause-any_moment : goal.returns-then-doubt-clause-any_moment
 returns-then-doubt-clause-any_moment g c = λ account stands.
