@@ -144,10 +144,5 @@ impl Items for NewEnds {
 fn has_node(ends: &[Endpoint], node: u32) -> bool
     ensures { IsTrue result ↔ Any (λ end. node_of end ≡ node) ends.now }
 {
-    for end in ends {
-        if end.0 == node {
-            return true;
-        }
-    }
-    false
+    ends.iter().any(|end| end.0 == node)
 }
