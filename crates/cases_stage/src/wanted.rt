@@ -24,8 +24,8 @@ pub fn from_difference<'a>(given: &'a [u8], wanted: &'a [u8]) -> (&'a [u8], &'a 
     (given, wanted)
 }
 
-/// Whether what was given is a front of what is wanted. It may end in a line, of which nothing behind
-/// the first gap is looked at.
+/// Whether what was given is a front of what is wanted. It may end within a line, of which nothing
+/// behind the first gap is looked at.
 pub fn is_front(given: &[u8], wanted: &[u8]) -> bool {
     let (line, form) = from_difference(given, wanted);
     let (form, _) = first_line(form);
