@@ -16,6 +16,7 @@ tells, is by planner.py, but for the reservations of the largest entry, which ar
 usage: bench/cases/memory_cases.py | diff - crates/cases_program/data/memory.cases
 """
 import os
+import re
 import sys
 from hashlib import sha256
 from typing import NamedTuple
@@ -98,6 +99,11 @@ def largest():
     return order
 
 
+def by_load(line):
+    """A line of an audit; of a link its number and what it carries, with a gap between them."""
+    return re.sub(r"^link (\d+) .* load ", r"link \1 {..} load ", line)
+
+
 def moved(order):
     held = order.journal(1)
     for live in (False, True):
@@ -138,7 +144,7 @@ def audited(order):
     live = {epoch: vpn for epoch in range(1, order.times + 1)}
     yield [f"case {order.told('audited')}", "words audit t j",
            *written("=", order.network), f"journal {held}",
-           *(f"> {line}" for line in audit_lines(network, order.times, live)), "status 0",
+           *(f"> {by_load(line)}" for line in audit_lines(network, order.times, live)), "status 0",
            f"left {held}"]
 
 
@@ -179,7 +185,7 @@ def in_a_session(order):
            "words serve t j 7000 1 1", *written("=", order.network), "> ready",
            f"1< hello {order.customer}", "1> welcome at 0",
            *(line for words, reply in told for line in (f"1< {words}", f"1> {reply}")),
-           "1< bye", "1> bye", *(f"> {line}" for line in audit), "status 0", f"left {left}"]
+           "1< bye", "1> bye", *(f"> {by_load(line)}" for line in audit), "status 0", f"left {left}"]
 
 
 def sessions():
@@ -198,7 +204,7 @@ def sessions():
            f"{SESSIONS}< admit-after {ADMITTED} a:1 b:1",
            f"{SESSIONS}> newest {ADMITTED + 1} at {ADMITTED + 1}",
            f"{SESSIONS}< bye", f"{SESSIONS}> bye", f"> epoch {ADMITTED + 1}",
-           f"> link 0 a b capacity 1000 cost 1 load {ADMITTED + 1}",
+           f"> link 0 {{..}} load {ADMITTED + 1}",
            f">{ADMITTED + 1} vpn {{1}} acme cost 1 ends a:1 b:1 links 0:1",
            f"> live {ADMITTED + 1} cost {ADMITTED + 1}", "status 0"]
 

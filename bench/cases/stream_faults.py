@@ -20,8 +20,8 @@ from usage import tell_usage
 from star_model import STAR, Disk, Journal, Server, audit
 
 PIECE = 16  # bytes that a call of an input gives
-PART = 20  # bytes that a call of an audit's output takes
-SERVED = 100  # those that one of a server's takes
+PART, PARTS = 20, 7  # bytes that a call of an audit's output takes, and how many calls of it fail
+SERVED, BOOKS = 100, 6  # the same of the book that a server tells at its end
 LINES = ("admit a:3 b:4 c:5", "quote a:1 b:1", "take 1", "show 1", "link 2", "release 1", "show 1")
 STAR_TEXT = "".join(line + "\n" for line in STAR)
 MOST_LINE = 4_096
@@ -92,23 +92,12 @@ def cabinets_of_runs():
 # ---- An audit, and a server of ten customers.
 
 
-def parts(text, size):
-    return [text[at:at + size] for at in range(0, len(text), size)]
-
-
-def told_text(text):
-    """The lines of an output that may end within a line."""
-    *lines, last = text.split("\n")
-    return [f"> {line}" for line in lines] + ([f">. {last}"] if last else [])
-
-
 def audits():
-    text = "".join(line + "\n" for line in audit(()))
-    told = parts(text, PART)
-    for nth in range(1, len(told) + 1):
+    for nth in range(1, PARTS + 1):
         yield [f"case an audit, and call {nth} of its output fails", "words audit t j",
                f"write {PART}", f"write-fails {nth}"]
-        yield [*told_text("".join(told[:nth - 1])), "status 4", *left_of(server())]
+        yield [*(f"> {line}" for line in audit(())), f"front {PART * (nth - 1)}", "status 4",
+               *left_of(server())]
     yield from cabinets("an audit", "words audit t j")
 
 
@@ -155,15 +144,13 @@ def servers():
     yield ["case a server, and the output fails before it is ready", *words, "write-fails 1"]
     told, served = served_by(0)
     yield [*told, "status 4", *left_of(served)]
-    told, served = served_by(CUSTOMERS)
-    text = "".join(line + "\n" for line in audit(served.journal.entries))
-    book = parts(text, SERVED)
-    for nth in range(1, len(book) + 1):
+    for nth in range(1, BOOKS + 1):
         yield [f"case a server, and call {nth} that tells its book fails", *words,
                f"write {SERVED}", f"write-fails {nth + 1}"]
         told, served = served_by(CUSTOMERS)
-        front = told_text("".join(book[:nth - 1]))
-        yield ["> ready", *told, *front, "status 4", *left_of(served)]
+        book = [f"> {line}" for line in audit(served.journal.entries)]
+        front = len("ready\n") + SERVED * (nth - 1)
+        yield ["> ready", *told, *book, f"front {front}", "status 4", *left_of(served)]
     yield from cabinets("a server", *words, "1< hello c1")
 
 

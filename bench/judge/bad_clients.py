@@ -39,6 +39,7 @@ sys.path.insert(0, os.path.join(os.path.dirname(os.path.abspath(__file__)), ".."
 from usage import tell_usage
 
 from histories import HANGS, TRIES, Differs, client, same, start, start_host, told_of_host, way_of
+from planner import link_line
 
 HOST = "127.0.0.1"
 STAR = "demo/star.txt"
@@ -151,10 +152,10 @@ ALONE = (
     "welcome at 0\nadmitted 1 cost 26 at 1 links 0:3 1:4 2:5\n"
     "vpn 1 cost 26 at 1 ends a:3 b:4 c:5 links 0:3 1:4 2:5\nbye\n"
 )
-BOOK_OF_ONE = """epoch 1
-link 0 a h capacity 10 cost 1 load 3
-link 1 b h capacity 10 cost 2 load 4
-link 2 c h capacity 10 cost 3 load 5
+BOOK_OF_ONE = f"""epoch 1
+{link_line(0, "a", "h", 10, 1, 3)}
+{link_line(1, "b", "h", 10, 2, 4)}
+{link_line(2, "c", "h", 10, 3, 5)}
 vpn 1 acme cost 26 ends a:3 b:4 c:5 links 0:3 1:4 2:5
 live 1 cost 26
 """

@@ -28,6 +28,8 @@ from functools import partial
 sys.path.insert(0, os.path.join(os.path.dirname(os.path.abspath(__file__)), "..", "parts"))
 from usage import TOP, tell_usage
 
+from planner import link_line
+
 os.chdir(TOP)
 PROGRAM = os.path.abspath((sys.argv[1:] + ["./hosed"])[0])
 HANGS = 120  # seconds
@@ -312,7 +314,7 @@ def trial_of_json(work):
     """A text in JSON may be as long as its limit; a folder of such a name is the cabinet's fault."""
     place = Place(work, "json")
     text = '{"nodes":["a","b"],"links":[{"a":"a","b":"b","capacity":1,"length":1}]'
-    book = "epoch 0\nlink 0 a b capacity 1 cost 1 load 0\nlive 0 cost 0\n"
+    book = f"epoch 0\n{link_line(0, 'a', 'b', 1, 1, 0)}\nlive 0 cost 0\n"
     os.mkdir(place.at("folder.json"))
     for name, size, wanted in (
         (".json", len(text) + 1, (0, book)),

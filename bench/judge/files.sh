@@ -7,13 +7,15 @@
 [ "${1-}" != --help ] || exec sed -n '2,/^[^#]/s/^# \{0,1\}//p' "$0"
 . "$(dirname "$0")/../parts/setup.sh"
 
-python3 - "$program" "$work" <<'END'
+PYTHONPATH=tools:bench/parts python3 - "$program" "$work" <<'END'
 import hashlib
 import os
 import resource
 import signal
 import subprocess
 import sys
+
+from planner import link_line
 
 PROGRAM, PLACE = os.path.abspath(sys.argv[1]), sys.argv[2]
 SECONDS = 60  # after which a program hangs
@@ -31,10 +33,10 @@ ONES = b"\0\0\0\0\0\1" + b"\0\1\0\0\0\1"
 ADMISSION = b"\1\4acme" + b"\2" + ONES + b"\0\2" + ONES
 RELEASE = b"\2\4acme" + b"\0\0\0\1"
 ADMIT, ADMITTED = "acme admit a:1 b:1\n", "admitted 1 cost 3 at 1 links 0:1 1:1\n"
-BOOK = """epoch 1
-link 0 a h capacity 10 cost 1 load 1
-link 1 b h capacity 10 cost 2 load 1
-link 2 c h capacity 10 cost 3 load 0
+BOOK = f"""epoch 1
+{link_line(0, "a", "h", 10, 1, 1)}
+{link_line(1, "b", "h", 10, 2, 1)}
+{link_line(2, "c", "h", 10, 3, 0)}
 vpn 1 acme cost 3 ends a:1 b:1 links 0:1 1:1
 live 1 cost 3
 """
@@ -93,7 +95,7 @@ holds("short", journal())
 comes("a file of 140 bytes at most", ["run", "full"], STAR + ADMIT + ADMIT, 0,
       ADMITTED + "disk at 1\n", limit=140)
 comes("the same without a limit", ["run", "full"], STAR + "x link 0\n", 0,
-      "link 0 a h capacity 10 cost 1 load 1 at 1\n")
+      link_line(0, "a", "h", 10, 1, 1) + " at 1\n")
 holds("full", journal(ADMISSION), rest=140 - 109)
 
 # A topology is read in pieces of 4,096 bytes, in two of which it stands here.

@@ -35,6 +35,8 @@ import tempfile
 sys.path.insert(0, os.path.join(os.path.dirname(os.path.abspath(__file__)), "..", "parts"))
 from usage import TOP, tell_usage
 
+from planner import link_line
+
 PROGRAM = os.path.join(TOP, "crates", "hosed_main", "out", "hosed_main")
 SECONDS = 120  # after which a program hangs
 NOBODY = 65_534  # a user without rights
@@ -357,7 +359,7 @@ def commands(trials):
     trials.comes(["run", *hops, "well"], 0, None, TWO_NODES + "acme admit a:2 b:2\n",
                  "admitted 1 cost 2 at 1 links 0:2\n")
     trials.comes(["audit", *hops, "net.txt", "well"], 0, None, "",
-                 "epoch 1\nlink 0 a b capacity 10 cost 1 load 2\n"
+                 f"epoch 1\n{link_line(0, 'a', 'b', 10, 1, 2)}\n"
                  "vpn 1 acme cost 2 ends a:2 b:2 links 0:2\nlive 1 cost 2\n")
     certificate = trials.comes(["prove", *hops, "net.txt", "a:2", "b:2"], 0, None)
     trials.comes(["check", *hops, "net.txt"], 0, None, certificate, "yes 2\n")
@@ -398,7 +400,7 @@ def hosts(trials):
         port = free.getsockname()[1]
     words = ["--operator", "./operator", "net.txt", "hosted", "./any", "./acme=acme", str(port)]
     order = "admitted 1 cost 7 at 1 links 0:1"
-    book = ("epoch 1\nlink 0 a b capacity 10 cost 7 load 1\n"
+    book = (f"epoch 1\n{link_line(0, 'a', 'b', 10, 7, 1)}\n"
             "vpn 1 acme cost 7 ends a:1 b:1 links 0:1\nlive 1 cost 7\n")
     figures = ("figures connections 1 ever 6 lines 11 admitted 1 refused 0 released 0 down 0 up 0 "
                "disk 0 memory 0 lost 0 .. at 1")
@@ -440,8 +442,8 @@ def hosts(trials):
 def standbys(trials):
     """A host ends where its standby has more orders, and where one that had all is gone."""
     trials.comes(["run", "more"], 0, None, TWO_NODES + "acme admit a:1 b:1\n")
-    empty = "epoch 0\nlink 0 a b capacity 10 cost 7 load 0\nlive 0 cost 0\n"
-    with_order = ("epoch 1\nlink 0 a b capacity 10 cost 7 load 1\n"
+    empty = f"epoch 0\n{link_line(0, 'a', 'b', 10, 7, 0)}\nlive 0 cost 0\n"
+    with_order = (f"epoch 1\n{link_line(0, 'a', 'b', 10, 7, 1)}\n"
                   "vpn 1 acme cost 7 ends a:1 b:1 links 0:1\nlive 1 cost 7\n")
     for follower, status, sentence, book, last in (
             ("more", 17, "the standby has 1 orders, more than the journal: orders of the journal "
@@ -507,7 +509,7 @@ def most_ends(trials):
     ends = " ".join(f"n{leaf}:1" for leaf in range(ENDS))
     links = " ".join(f"{leaf}:1" for leaf in range(ENDS))
     named, hops = f"cost {ENDS} ends {ends} links {links}", ["--tariff", "hops"]
-    book = ("epoch 4\n" + "".join(f"link {leaf} n{leaf} h capacity 10 cost 1 load 2\n"
+    book = ("epoch 4\n" + "".join(link_line(leaf, f"n{leaf}", "h", 10, 1, 2) + "\n"
                                   for leaf in range(ENDS))
             + f"vpn 2 acme {named}\nvpn 3 acme {named}\nlive 2 cost {2 * ENDS}\n")
     with tempfile.TemporaryDirectory() as folder, socket.socket(socket.AF_UNIX) as door:

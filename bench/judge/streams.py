@@ -19,24 +19,25 @@ import tempfile
 sys.path.insert(0, os.path.join(os.path.dirname(os.path.abspath(__file__)), "..", "parts"))
 from usage import TOP, tell_usage
 
+from planner import link_line
+
 GIB = 1 << 30
 MOST_WORD = 4_096
 
 os.chdir(TOP)
 with open("demo/star.txt", "rb") as star:
     STAR = star.read()
-LINK = b"link 0 a h capacity 10 cost 1 load 0 at 0\n"
+LINK = link_line(0, "a", "h", 10, 1, 0).encode() + b" at 0\n"
 ORDERS = b"acme admit a:1 b:1\nbeta admit a:2 b:2\n"
-LOADED = b"link 0 a h capacity 10 cost 1 load 3 at 2\n"
-AUDIT = (
-    b"epoch 2\n"
-    b"link 0 a h capacity 10 cost 1 load 3\n"
-    b"link 1 b h capacity 10 cost 2 load 3\n"
-    b"link 2 c h capacity 10 cost 3 load 0\n"
-    b"vpn 1 acme cost 3 ends a:1 b:1 links 0:1 1:1\n"
-    b"vpn 2 beta cost 6 ends a:2 b:2 links 0:2 1:2\n"
-    b"live 2 cost 9\n"
-)
+LOADED = link_line(0, "a", "h", 10, 1, 3).encode() + b" at 2\n"
+AUDIT = f"""epoch 2
+{link_line(0, "a", "h", 10, 1, 3)}
+{link_line(1, "b", "h", 10, 2, 3)}
+{link_line(2, "c", "h", 10, 3, 0)}
+vpn 1 acme cost 3 ends a:1 b:1 links 0:1 1:1
+vpn 2 beta cost 6 ends a:2 b:2 links 0:2 1:2
+live 2 cost 9
+""".encode()
 HANGS = 60  # seconds
 
 # Words, the input, the status, the output.

@@ -7,13 +7,16 @@
 [ "${1-}" != --help ] || exec sed -n '2,/^[^#]/s/^# \{0,1\}//p' "$0"
 . "$(dirname "$0")/../parts/setup.sh"
 
-python3 - "$program" "$work/journal" <<'END'
+PYTHONPATH=tools:bench/parts python3 - "$program" "$work/journal" <<'END'
 import subprocess
 import sys
 import threading
 
+from planner import link_line
+
 PROGRAM, JOURNAL = sys.argv[1:]
 SECONDS = 60  # after which a program hangs
+LINK = link_line(0, "a", "h", 10, 1, 2) + " at 2"
 
 with open("demo/star.txt") as star:
     STAR = star.read()
@@ -70,9 +73,9 @@ def main():
         first.answers("acme show 1", "vpn 1 cost 3 at 1 ends a:1 b:1 links 0:1 1:1"),
         first.answers("acme admit a:1 c:1", "admitted 2 cost 4 at 2 links 0:1 2:1"),
         whole("the second again", "", 6, "cabinet\n"),
-        first.answers("beta link 0", "link 0 a h capacity 10 cost 1 load 2 at 2"),
+        first.answers("beta link 0", LINK),
         first.ends(),
-        whole("the third", "acme link 0\n", 0, "link 0 a h capacity 10 cost 1 load 2 at 2\n"),
+        whole("the third", "acme link 0\n", 0, LINK + "\n"),
     ]
     print(f"two: {sum(right)} of {len(right)} as wanted")
     sys.exit(0 if all(right) else 1)

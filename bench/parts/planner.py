@@ -265,13 +265,17 @@ def refusal_told(network, side, epoch):
     return told("Refused", epoch, [network.nodes[node] for node in side])
 
 
+def link_line(number, a, b, capacity, cost, load):
+    """What an audit tells of a link: what the reply has before its epoch."""
+    return told("LinkState", number, a, b, capacity, cost, load, False, 0)[:-len(" at 0")]
+
+
 def audit_lines(network, epoch, live):
     """The audit of a book whose live VPNs stand by their numbers."""
     loads, lines = loads_of(network, live.values()), [f"epoch {epoch}"]
     for number, link in enumerate(network.links):
         a, b = network.nodes[link.a], network.nodes[link.b]
-        rest = f"capacity {link.capacity} cost {link.cost} load {loads[number]}"
-        lines.append(f"link {number} {a} {b} {rest}")
+        lines.append(link_line(number, a, b, link.capacity, link.cost, loads[number]))
     for number, vpn in live.items():
         rest = f"ends {ends_text(network, vpn.hose)} links {pairs_text(vpn.plan)}"
         lines.append(f"vpn {number} {vpn.customer} cost {vpn.cost} {rest}")

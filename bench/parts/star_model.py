@@ -3,9 +3,9 @@
 It follows docs/GUIDE.md: a disk that is a text of bytes, of which a failed call changes nothing; a
 journal of version 2, or one of version 1 that is sealed when it is opened, whose entry counts once
 its gate is written and synced, and whose entry in doubt is revoked before the next one and at the
-end; replies, whose texts are those of the table in tools/lines.py, and what an audit tells. It
-knows no plans but those of a star, where each endpoint is at the end of a link, and shares no code
-with the crates.
+end; replies, whose texts are those of the table in tools/lines.py, and what an audit tells. Of a
+link they have its number and what it carries, with a gap between them. It knows no plans but those
+of a star, where each endpoint is at the end of a link, and shares no code with the crates.
 """
 
 from collections import Counter
@@ -120,8 +120,8 @@ def audit(entries):
     """The text of the book of some entries."""
     live = live_of(entries)
     yield f"epoch {len(entries)}"
-    for link, cost in enumerate(COSTS):
-        yield f"link {link} {NAMES[link]} h capacity 10 cost {cost} load {load_of(entries, link)}"
+    for link in range(len(COSTS)):
+        yield f"link {link} {{..}} load {load_of(entries, link)}"
     for epoch, (customer, hose) in live.items():
         links, cost = plan(hose)
         rest = f"ends {pairs_text(ends_of(hose))} links {pairs_text(links)}"
@@ -277,8 +277,7 @@ class Server:
             return self.admit(customer, self.quotes.pop(1))
         number = int(words[0])
         if command == "link":
-            load = load_of(self.journal.entries, number)
-            return told("LinkState", number, NAMES[number], "h", 10, COSTS[number], load, False, at)
+            return f"link {number} {{..}} load {load_of(self.journal.entries, number)} at {at}"
         if not self.is_live(customer, number):
             return told("NoVpn", number, at)
         if command == "show":

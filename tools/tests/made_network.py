@@ -5,6 +5,7 @@ same way each time; no server has admitted these VPNs.
 import random
 
 from places import steps_from
+from tests.runs import link_line
 
 SEED = 1
 CUSTOMERS = 200
@@ -35,7 +36,7 @@ def made(nodes, links, vpns):
     audit = [f"epoch {vpns}"]
     for link, (a, b) in enumerate(pairs):
         topology.append(f"link n{a} n{b} {capacities[link]} 1")
-        audit.append(f"link {link} n{a} n{b} capacity {capacities[link]} cost 1 load {loads[link]}")
+        audit.append(link_line(link, f"n{a}", f"n{b}", capacities[link], 1, loads[link]))
     audit += [*vpn_lines, f"live {vpns} cost {total}"]
     return "\n".join([*topology, "end", ""]), "\n".join([*audit, ""])
 

@@ -6,9 +6,16 @@ import sys
 from unittest import mock
 
 import networks
+from lines import told
 
 TOOLS = os.path.dirname(os.path.dirname(os.path.abspath(__file__)))
 DEMO = os.path.join(TOOLS, "..", "demo")
+
+
+def link_line(link, a, b, capacity, cost, load, *, out=False, at=None):
+    """What is told of a link: in a reply at an epoch, else in an audit."""
+    line = told("LinkState", link, a, b, capacity, cost, load, out, at or 0)
+    return line[:-len(" at 0")] if at is None else line
 
 
 def within(name, main, *words, text=""):

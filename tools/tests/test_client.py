@@ -12,7 +12,7 @@ import client
 import replies
 from client import ConnectionLost, LinkState, MalformedReply, NoAnswer, Session
 from tests.fake_server import FakeServer
-from tests.runs import TOOLS, within
+from tests.runs import TOOLS, link_line, within
 
 # A reply of each kind, and its value.
 REPLIES = [
@@ -97,7 +97,7 @@ class Sessions(unittest.TestCase):
             WELCOME, b"admitted 1 cost 9 at 1 links 0:3\n", b"quoted 1 cost 6 at 1 links 0:2 1:2\n",
             b"admitted 2 cost 6 at 2 links 0:2 1:2\n",
             b"vpn 2 cost 6 at 2 ends a:2 b:2 links 0:2 1:2\n", b"released 2 at 3\n",
-            b"link 1 b h capacity 10 cost 2 load 0 out at 3\n", BYE,
+            link_line(1, "b", "h", 10, 2, 0, out=True, at=3).encode() + b"\n", BYE,
         ]) as server:
             with Session("127.0.0.1", server.port, "acme") as session:
                 self.assertEqual(session.welcome.epoch, 0)

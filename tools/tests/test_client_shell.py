@@ -12,7 +12,7 @@ import client
 from client_shell import HELPS, Known, Shell
 from reply_tables import tabled
 from tests.fake_server import FakeServer
-from tests.runs import TOOLS, within
+from tests.runs import TOOLS, link_line, within
 from tests.test_client import REPLIES
 
 WELCOME, BYE = b"welcome at 0\n", b"bye\n"
@@ -26,8 +26,9 @@ TABLED = """admitted
 ------+----------
     0 |        3
    11 |        4"""
-LINKS = [b"link 0 a h capacity 9 cost 1 load 0 at 0\n",
-         b"link 1 b h capacity 9 cost 1 load 0 at 0\n", b"bad 2\n"]
+LINKS = [*(link_line(link, name, "h", 9, 1, 0, at=0).encode() + b"\n"
+           for link, name in enumerate("ab")), b"bad 2\n"]
+TOLD = link_line(0, "a", "h", 9, 1, 0, at=4)
 
 
 def typed(server, *lines, **how):
@@ -125,8 +126,7 @@ class Lines(unittest.TestCase):
         """A question and a release are given again, a take is not, and an `admit-after` is looked
         for first."""
         for line, second, said, asked in (
-                ("link 0", [b"link 0 a h capacity 9 cost 1 load 0 at 4\n"],
-                 ["link 0 a h capacity 9 cost 1 load 0 at 4"], ["link 0"]),
+                ("link 0", [TOLD.encode() + b"\n"], [TOLD], ["link 0"]),
                 ("release 7", [b"no vpn 7 at 8\n"], ["no vpn 7 at 8"], ["release 7"]),
                 ("admit-after 2 a:1 b:1",
                  [b"vpns 2 3 at 3\n", b"vpn 3 cost 2 at 3 ends a:1 b:1 links 0:1\n"],

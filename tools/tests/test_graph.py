@@ -7,12 +7,12 @@ import unittest
 
 import graph
 import networks
-from tests.runs import within
+from tests.runs import link_line, within
 
-AUDIT = """epoch 1
-link 0 a h capacity 10 cost 1 load 0
-link 1 b h capacity 10 cost 2 load 5
-link 2 c h capacity 10 cost 3 load 10
+AUDIT = f"""epoch 1
+{link_line(0, "a", "h", 10, 1, 0)}
+{link_line(1, "b", "h", 10, 2, 5)}
+{link_line(2, "c", "h", 10, 3, 10)}
 live 0 cost 40
 """
 TOPOLOGY = "node a\nnode b\nnode c\nnode h\n" \
@@ -28,10 +28,10 @@ DRAWN = [
     '  "c" -- "h" [label="2: 10", penwidth=12.0, color="0.000 1 0.8"];',
     '}',
 ]
-REPLIES = """bye
-link 2 c h capacity 10 cost 3 load 10 out at 1
-link 1 b h capacity 10 cost 2 load 5 out at 2
-link 1 b h capacity 10 cost 2 load 5 at 3
+REPLIES = f"""bye
+{link_line(2, "c", "h", 10, 3, 10, out=True, at=1)}
+{link_line(1, "b", "h", 10, 2, 5, out=True, at=2)}
+{link_line(1, "b", "h", 10, 2, 5, at=3)}
 """
 
 

@@ -15,7 +15,7 @@ import metrics_server
 import networks
 from live_journal import LiveJournal
 from tests.fake_server import FakeServer
-from tests.runs import DEMO, within
+from tests.runs import DEMO, link_line, within
 from tests.test_read_journal import ADMISSION, CHAINED, PLAIN, RELEASE, SEALED
 from tests.test_server_state import FIGURES
 
@@ -28,10 +28,10 @@ BODIES = [bytes.fromhex(body) for body in (ADMISSION, BETA, RELEASE, OUT)]
 LOADS = [[3, 4, 5], [4, 5, 5], [1, 1, 0], [1, 1, 0]]
 COSTS = [3 + 8 + 15, 4 + 10 + 15, 1 + 2, 1 + 2]
 LIVE = [{"acme": 1}, {"acme": 1, "beta": 1}, {"beta": 1}, {"beta": 1}]
-AUDIT = """epoch 2
-link 0 a h capacity 10 cost 1 load 4
-link 1 b h capacity 10 cost 2 load 5
-link 2 c h capacity 10 cost 3 load 5
+AUDIT = f"""epoch 2
+{link_line(0, "a", "h", 10, 1, 4)}
+{link_line(1, "b", "h", 10, 2, 5)}
+{link_line(2, "c", "h", 10, 3, 5)}
 vpn 1 acme cost 26 ends a:3 b:4 c:5 links 0:3 1:4 2:5
 vpn 2 beta cost 3 ends a:1 b:1 links 0:1 1:1
 live 2 cost 29

@@ -13,7 +13,7 @@ import page
 import picture
 import places
 from tests import made_network
-from tests.runs import DEMO, TOOLS, within
+from tests.runs import DEMO, TOOLS, link_line, within
 
 STAR = """node a
 node b
@@ -26,14 +26,14 @@ link b h 40 2
 link h b 40 3
 end
 """
-STAR_AUDIT = """epoch 7
-link 0 a h capacity 10 cost 1 load 10
-link 1 b h capacity 40 cost 2 load 10
-link 2 h b capacity 40 cost 3 load 0
+STAR_AUDIT = f"""epoch 7
+{link_line(0, "a", "h", 10, 1, 10)}
+{link_line(1, "b", "h", 40, 2, 10)}
+{link_line(2, "h", "b", 40, 3, 0)}
 vpn 7 acme cost 30 ends a:10 b:12 links 0:10 1:10
 live 1 cost 30
 """
-OUT = "link 2 h b capacity 40 cost 3 load 0 out at 7\n"
+OUT = link_line(2, "h", "b", 40, 3, 0, out=True, at=7) + "\n"
 # The picture is 1000 wide, with margins of 60: a unit of a place is 44 of it. Y grows downward.
 NODES = [["a", 60, 280], ["b", 940, 280], ["h", 500, 60]]
 LINKS = [[0, 2, 10, 1, 1, 10, 0], [1, 2, 40, 2, 2, 10, 0], [2, 1, 40, 3, 3, 0, 1]]
@@ -229,8 +229,8 @@ class Tariffs(unittest.TestCase):
         self.assertEqual((topology.nodes, topology.links, topology.places),
                          (text.nodes, text.links, text.places))
         self.assertEqual(len(topology.places), len(topology.nodes))
-        lines = "".join(f"link {link.number} {link.a} {link.b} capacity {link.capacity} cost 1 "
-                        "load 0\n" for link in text.links)
+        lines = "".join(link_line(link.number, link.a, link.b, link.capacity, 1, 0) + "\n"
+                        for link in text.links)
         with tempfile.NamedTemporaryFile("w") as audit:
             audit.write(f"epoch 0\n{lines}live 0 cost 0\n")
             audit.flush()

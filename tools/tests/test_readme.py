@@ -5,6 +5,8 @@ import subprocess
 import tempfile
 import unittest
 
+from tests.runs import link_line
+
 TOP = os.path.join(os.path.dirname(os.path.abspath(__file__)), "..", "..")
 EXAMPLE = re.compile(r"^\$ (python3 tools/(\S+) [^|>\n]*) > \S+$", re.MULTILINE)
 FOLDER = "examples/readme"
@@ -38,6 +40,6 @@ class Examples(unittest.TestCase):
         """The audit of an empty book on the network of demo/alps.txt, where each link costs 1."""
         with open(os.path.join(TOP, "demo", "alps.txt"), encoding="ascii") as file:
             links = [line.split() for line in file if line.startswith("link ")]
-        lines = [f"link {at} {a} {b} capacity {capacity} cost 1 load 0"
+        lines = [link_line(at, a, b, capacity, 1, 0)
                  for at, (_, a, b, capacity, _) in enumerate(links)]
         return "\n".join(["epoch 0", *lines, "live 0 cost 0", ""])

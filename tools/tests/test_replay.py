@@ -6,12 +6,12 @@ import unittest
 
 import networks
 import replay
-from tests.runs import DEMO, within
+from tests.runs import DEMO, link_line, within
 
-AUDIT = networks.read_audit("""epoch 9
-link 0 a h capacity 10 cost 1 load 5
-link 1 b h capacity 10 cost 2 load 4
-link 2 c h capacity 10 cost 3 load 3
+AUDIT = networks.read_audit(f"""epoch 9
+{link_line(0, "a", "h", 10, 1, 5)}
+{link_line(1, "b", "h", 10, 2, 4)}
+{link_line(2, "c", "h", 10, 3, 3)}
 vpn 2 acme cost 9 ends a:3 b:4 links 0:3 1:3
 vpn 5 beta cost 8 ends a:2 c:9 links 0:2 2:2
 vpn 9 acme cost 5 ends b:1 c:1 links 1:1 2:1

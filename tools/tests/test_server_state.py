@@ -8,11 +8,12 @@ from unittest import mock
 import server_state
 from replies import read_reply
 from tests.fake_server import FakeServer
+from tests.runs import link_line
 
 FIGURES = (b"figures connections 1 ever 2 lines 3 admitted 4 refused 5 released 6 down 7 up 8 disk 9 "
            b"memory 10 lost 11 timed 3 took 4000000 over-100us 3 over-1ms 2 over-10ms 1 over-100ms 1 "
            b"over-1s 1 over-10s 0 synced 1500 at 12\n")
-WELCOME, LINK = b"welcome at 0\n", b"link 0 a b capacity 9 cost 1 load 0 at 0\n"
+WELCOME, LINK = b"welcome at 0\n", link_line(0, "a", "b", 9, 1, 0, at=0).encode() + b"\n"
 LOCKS = """1: FLOCK  ADVISORY  WRITE 77 {other} 0 EOF
 2: FLOCK  ADVISORY  WRITE 78 {one} 0 EOF
 2: -> FLOCK  ADVISORY  WRITE 79 {one} 0 EOF

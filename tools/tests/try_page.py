@@ -14,10 +14,10 @@ import networks
 import page
 from tests import made_network
 from tests.browser import Browser
-from tests.runs import DEMO
+from tests.runs import DEMO, link_line
 
 SIZES = {"wide": (1280, 720), "middle": (768, 1024), "narrow": (390, 844)}
-OUT = "link 5 den kcy capacity 10000 cost 7 load 1000 out at 2\n"
+OUT = link_line(5, "den", "kcy", 10000, 7, 1000, out=True, at=2) + "\n"
 MOST_MILLISECONDS = 3000
 TAB, ENTER, ESCAPE = ("Tab", 9), ("Enter", 13, "\r"), ("Escape", 27)
 SHOWN_LINKS = "[...document.querySelectorAll('.link.on')].map(link => +link.dataset.link)"
@@ -62,11 +62,11 @@ link a c 10 1
 link c d 10 1
 end
 """
-TAIL_AUDIT = """epoch 4
-link 0 a b capacity 10 cost 1 load 1
-link 1 b c capacity 10 cost 1 load 3
-link 2 a c capacity 10 cost 1 load 0
-link 3 c d capacity 10 cost 1 load 4
+TAIL_AUDIT = f"""epoch 4
+{link_line(0, "a", "b", 10, 1, 1)}
+{link_line(1, "b", "c", 10, 1, 3)}
+{link_line(2, "a", "c", 10, 1, 0)}
+{link_line(3, "c", "d", 10, 1, 4)}
 vpn 4 acme cost 8 ends a:1 b:2 d:9 links 0:1 1:3 3:4
 live 1 cost 8
 """

@@ -55,6 +55,8 @@ pub struct CaseOutput {
     pub failing: Vec<u64>,
     /// Whether each call of it fails in turn.
     pub cuts: bool,
+    /// How many bytes of that come, where not all do.
+    pub front: Option<u64>,
 }
 
 /// A connection of the door, which is accepted after those before it.
@@ -193,6 +195,7 @@ impl CaseOutput {
             piece: CasePiece { bytes: PIECE },
             failing: Vec::new(alloc),
             cuts: false,
+            front: None,
         }
     }
 
@@ -201,6 +204,7 @@ impl CaseOutput {
             "write" => self.piece = CasePiece::new(number(rest)?)?,
             "write-fails" => self.failing = calls_of(alloc, rest)?,
             "cuts" => self.cuts = true,
+            "front" => self.front = Some(number(rest)?),
             _ => return Ok(false),
         }
         Ok(true)

@@ -14,4 +14,5 @@ pub use case::{
     CaseStop, Wanted,
 };
 pub use file::{FileRefusal, read_cases};
+pub use pattern::GAP;
 pub use trouble::CaseTrouble;

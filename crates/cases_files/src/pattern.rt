@@ -4,6 +4,9 @@ use crate::trouble::{BAD_BRACE, CaseTrouble, NO_NUMBER};
 use cases_common::first;
 use itoa::Buffer;
 
+/// A gap in a line of what must come: any text of a byte or more may stand there.
+pub const GAP: &str = "{..}";
+
 /// What stands after `<`, `>` or `=` in a case file.
 #[derive(Clone, Copy)]
 pub struct Pattern<'a> {
@@ -73,6 +76,7 @@ fn add_mark(bytes: &mut Vec<u8>, mark: &str, nth: u64) -> Result<(), CaseTrouble
         "r" => bytes.push(b'\r')?,
         "o" => bytes.push(b'{')?,
         "c" => bytes.push(b'}')?,
+        ".." => bytes.extend_from_slice(GAP.as_bytes())?,
         mark => match mark.strip_prefix('b') {
             Some(byte) => bytes.push(byte.parse().ok().ok_or(CaseTrouble::Case(BAD_BRACE))?)?,
             None => add_count(bytes, mark, nth)?,

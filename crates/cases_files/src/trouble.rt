@@ -9,7 +9,7 @@ pub const NO_SUCH_LINE: &str = "the line begins with no word that a case file kn
 pub const NO_NUMBER: &str = "a number is wanted";
 
 pub const BAD_BRACE: &str =
-    "a brace holds s, t, r, o, c, b and a byte, or a number to count up from, and is closed";
+    "a brace holds s, t, r, o, c, .., b and a byte, or a number to count up from, and is closed";
 
 pub const ZERO: &str = "a piece has one byte at least, and calls are counted from 1";
 

@@ -72,9 +72,17 @@ fn cabinet_of(alloc: Global) -> Result<MemCabinet, AllocError>
 
 fn tell_output<R: Print>(rt: &R, output: &[u8]) -> io::Result<()> {
     for line in std::str::from_utf8(output).unwrap_or("?").lines() {
-        println!(rt; "    told {line}")?;
+        tell_line(rt, line)?;
     }
     Ok(())
+}
+
+// Tells a line: of the link between both nodes its number and what it carries.
+fn tell_line<R: Print>(rt: &R, line: &str) -> io::Result<()> {
+    match (line.split_once(" a b "), line.split_once(" load ")) {
+        (Some((link, _)), Some((_, load))) => println!(rt; "    told {link} .. load {load}"),
+        _ => println!(rt; "    told {line}"),
+    }
 }
 
 fn tell_why<R: Print>(rt: &R, why: HostWhy) -> io::Result<()> {

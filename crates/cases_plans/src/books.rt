@@ -211,8 +211,29 @@ fn tell_recent(book: &Book, seen: u64, told: &mut CaseText) {
 
 fn tell_audit(book: &Book, told: &mut CaseText) -> Result<(), Trouble> {
     let sink = audited(told.alloc(), book)?;
-    told.put(str::from_utf8(sink.bytes()).unwrap_or("no text").trim_end());
+    for (above, line) in str::from_utf8(sink.bytes())
+        .unwrap_or("no text")
+        .lines()
+        .enumerate()
+    {
+        if above > 0 {
+            told.put("\n");
+        }
+        tell_line(line, told);
+    }
     Ok(())
+}
+
+// Tells a line of an audit: of a link its number and what it carries.
+fn tell_line(line: &str, told: &mut CaseText) {
+    match line.split_once(" load ") {
+        Some((front, load)) => {
+            let (word, rest) = first(front);
+            let (number, _) = first(rest);
+            told.add(format!(in told.alloc(); "{word} {number} .. load {load}"));
+        }
+        None => told.put(line),
+    }
 }
 
 // A sink with the audit of a book.

@@ -5,6 +5,7 @@ use crate::outcome::Outcome;
 use crate::places::{admitted, never_go_back};
 use crate::running::Runs;
 use crate::stops::{cuts_that_differ, epoch_of, stops_that_differ, topology_of};
+use crate::wanted::{from_difference, is_as_wanted, is_front};
 use cases_common::CaseText;
 use cases_files::{Call, Case, CaseTrouble};
 use std::alloc::{AllocError, Global};
@@ -106,7 +107,22 @@ fn add_output(told: &mut CaseText, case: &Case, outcome: &Outcome) {
     if case.is_judged && output.ends_with(wanted) {
         return;
     }
-    add_bytes(told, "the output", output, wanted);
+    match case.output.front {
+        Some(count) => add_front(told, output, wanted, count),
+        None => add_bytes(told, "the output", output, wanted),
+    }
+}
+
+// Adds a line where other bytes came than the first ones of what is wanted, so many.
+fn add_front(told: &mut CaseText, output: &[u8], wanted: &[u8], count: u64) {
+    let len = output.len() as u64;
+    if len != count {
+        told.add(format!(in told.alloc();
+            "{len} bytes of the output come, and the first {count} are wanted\n"
+        ));
+    } else if !is_front(output, wanted) {
+        add_difference(told, "the output", output, wanted);
+    }
 }
 
 // Adds a line for how many connections do not keep the rules.
@@ -214,19 +230,29 @@ fn add_epoch<C: Runs>(
 
 // Adds a line for where what was written differs first, and what stands there.
 fn add_bytes(told: &mut CaseText, name: &str, output: &[u8], wanted: &[u8]) {
-    if output != wanted {
+    if !is_as_wanted(output, wanted) {
         add_difference(told, name, output, wanted);
     }
 }
 
 fn add_difference(told: &mut CaseText, name: &str, output: &[u8], wanted: &[u8]) {
-    let place = common(output, wanted);
+    let (rest, form) = from_difference(output, wanted);
+    let same = common(rest, form);
+    let place = place_in(output, rest, same);
     let line = line_at(output, place);
     told.add(format!(in told.alloc(); "line {line} of {name} has "));
     add_shown(told, output, place);
     told.put(", and ");
-    add_shown(told, wanted, place);
+    add_shown(told, wanted, place_in(wanted, form, same));
     told.put(" is wanted\n");
+}
+
+// Where a place in the rest of some bytes stands in all of them.
+fn place_in(bytes: &[u8], rest: &[u8], place: usize) -> usize
+    ensures { result ≤ length bytes.now }
+{
+    let behind = rest.len().saturating_sub(place);
+    bytes.len().saturating_sub(behind)
 }
 
 // Adds what stands round a place.

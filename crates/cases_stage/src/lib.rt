@@ -11,6 +11,7 @@ mod running;
 mod stage;
 mod stops;
 mod streams;
+mod wanted;
 
 pub use customers::{Asking, Hearing, customer};
 pub use outcome::{Outcome, outcome_of_two};

@@ -5,6 +5,7 @@ use crate::outcome::{Outcome, held};
 use crate::places::last_place;
 use crate::running::Runs;
 use crate::stage::{JOURNAL, TEXT};
+use crate::wanted::is_as_wanted;
 use cases_common::STOP_PICKS;
 use cases_files::{Case, CaseTrouble};
 use hose_disk::{MemDisk, Pick};
@@ -129,7 +130,7 @@ impl NamedBooks<'_> {
     fn has(&self, told: &[u8]) -> bool {
         for number in self.numbers {
             if let Some(book) = self.books.get(number.wrapping_sub(1) as usize) {
-                if book.as_slice() == told {
+                if is_as_wanted(told, book) {
                     return true;
                 }
             }
