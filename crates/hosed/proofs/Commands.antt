@@ -30,7 +30,7 @@ use Rattle.hosed.specs.declared.verb.ProgramVerb.TheVariants as command
 use Rattle.hosed.specs.declared.verb.TheConstants.{PROGRAM_VERBS}
 use Rattle.hosed.specs.declared.words.OfJournal.{OfJournal}
 use Rattle.hosed.specs.declared.words.OfTopology.{OfTopology}
-use Rattle.hose_offline.specs.declared.auditing.Names.{Names}
+use Rattle.hose_outside.specs.declared.reading.Names.{Names}
 use Rattle.hosed.specs.steps.Reading.{AreJournalWords, Chooses, ChoosesLive, NamesFile, NamesJournal, NamesMove, NamesNoJournal, NamesNoTariff, NamesNoTopology, NamesTopology}
 
 -- ---- words of a slice

@@ -1,7 +1,7 @@
 -- What words name, from what their task names.
 use Rattle.std.proofs.Common.{◌≡◌, ◌≢◌, ℕ, List, None, refl}
-use Rattle.hose_offline.specs.declared.fault.Fault.{Fault}
-use Rattle.hose_offline.specs.declared.fault.Fault.TheVariants.{Cabinet, Text}
+use Rattle.hose_outside.specs.declared.fault.Fault.{Fault}
+use Rattle.hose_outside.specs.declared.fault.Fault.TheVariants.{Cabinet, Text}
 use Rattle.hosed.specs.Naming.{AreNamed, TaskNames, named_bytes, task_names}
 use Rattle.hosed.specs.steps.Naming.{failed_file}
 use Rattle.hosed.specs.steps.Arguments.{AreArgumentWords, ArgumentTask}

@@ -1,11 +1,11 @@
 -- What the program's words come to, from what their command came to.
 use Rattle.std.proofs.Common.{◌≡◌, ◌≢◌, ℕ, List, refl, subst, sym}
-use Rattle.hose_offline.specs.Ending.{IsOut}
-use Rattle.hose_offline.specs.Fault.{last_line}
-use Rattle.hose_offline.specs.declared.fault.Fault.TheVariants.{Words}
-use Rattle.hose_offline.specs.Parts.{Parts, Tellings, parts}
-use Rattle.hose_offline.specs.declared.why.Why.{Why}
-use Rattle.hose_offline.specs.Auditing.{PricedNames}
+use Rattle.hose_outside.specs.Ending.{IsOut}
+use Rattle.hose_outside.specs.Fault.{last_line}
+use Rattle.hose_outside.specs.declared.fault.Fault.TheVariants.{Words}
+use Rattle.hose_outside.specs.Parts.{Parts, Tellings, parts}
+use Rattle.hose_outside.specs.declared.why.Why.{Why}
+use Rattle.hose_outside.specs.Reading.{PricedNames}
 use Rattle.hose_words.specs.Words.{IsFirst}
 use Rattle.hosed.specs.Failing.{FailsTask, FailsWords}
 use Rattle.hosed.specs.Hosed.{HosedOutcome}

@@ -9,22 +9,22 @@ use Rattle.hose_graph.specs.declared.entry.Entry.{Entry}
 use Rattle.hose_crew.specs.Crew.{AreServed}
 use Rattle.hose_audit.specs.Audit.{audit_text}
 use Rattle.hose_store.specs.Recovery.{IsHistoryOf}
-use Rattle.hose_offline.specs.AuditOutcome.{Purpose}
-use Rattle.hose_offline.specs.Auditing.{PricedNames, ReadsTopology}
-use Rattle.hose_offline.specs.Ending.{EndsTold, IsOut, NoneFailed}
-use Rattle.hose_offline.specs.Fault.{last_line, status_of}
-use Rattle.hose_offline.specs.steps.Journal.{TouchesOnly}
-use Rattle.hose_offline.specs.OnDisk.{CabinetFailed, JournalIsTold}
-use Rattle.hose_offline.specs.Parts.{Parts, Tellings}
-use Rattle.hose_offline.specs.Unopened.{OpensNoJournal}
-use Rattle.hose_offline.specs.steps.Ending.{IsWhyAfter}
-use Rattle.hose_offline.specs.steps.Failing.{FailsOpened}
-use Rattle.hose_offline.specs.declared.why.Why.{Why}
+use Rattle.hose_outside.specs.NamedOutcome.{Purpose}
+use Rattle.hose_outside.specs.Reading.{PricedNames, ReadsTopology}
+use Rattle.hose_outside.specs.Ending.{EndsTold, IsOut, NoneFailed}
+use Rattle.hose_outside.specs.Fault.{last_line, status_of}
+use Rattle.hose_outside.specs.steps.Journal.{TouchesOnly}
+use Rattle.hose_outside.specs.OnDisk.{CabinetFailed, JournalIsTold}
+use Rattle.hose_outside.specs.Parts.{Parts, Tellings}
+use Rattle.hose_outside.specs.Unopened.{OpensNoJournal}
+use Rattle.hose_outside.specs.steps.Ending.{IsWhyAfter}
+use Rattle.hose_outside.specs.steps.Failing.{FailsOpened}
+use Rattle.hose_outside.specs.declared.why.Why.{Why}
 use Rattle.hose_turn.specs.Known.{Known}
-use Rattle.hose_offline.specs.declared.fault.Fault.{Fault}
-use Rattle.hose_offline.specs.declared.fault.Fault.TheVariants.{Cabinet, Door, Memory, Write}
-use Rattle.hose_offline.proofs.Audited.{named_not_1, named_not_read, named_read, no_store, no_topology, told_status}
-use Rattle.hose_offline.proofs.Outcomes.{clash}
+use Rattle.hose_outside.specs.declared.fault.Fault.{Fault}
+use Rattle.hose_outside.specs.declared.fault.Fault.TheVariants.{Cabinet, Door, Memory, Write}
+use Rattle.hose_outside.proofs.Named.{named_not_1, named_not_read, named_read, no_store, no_topology, told_status}
+use Rattle.hose_outside.proofs.Outcomes.{clash}
 use Rattle.hosed.specs.ServeOutcome.{EndsServed, IsServed, ServeOutcome, first_failed}
 use Rattle.hosed.specs.ServerDoor.{DoorSeen, ServesByJournal, Speaks}
 use Rattle.hosed.specs.steps.ServerDoor.{IsWhyServed}

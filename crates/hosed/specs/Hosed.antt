@@ -1,16 +1,16 @@
 -- What the program's words come to.
 use Rattle.std.specs.Prelude.{◌≡◌, ◌↔◌, ℕ, List}
 use Rattle.hose_words.specs.Shapes.{IsFirstWrong}
-use Rattle.hose_offline.specs.Auditing.{priced_names}
-use Rattle.hose_offline.specs.Ending.{IsOut}
-use Rattle.hose_offline.specs.Fault.{last_line}
-use Rattle.hose_offline.specs.Parts.{Parts, Tellings}
+use Rattle.hose_outside.specs.Reading.{priced_names}
+use Rattle.hose_outside.specs.Ending.{IsOut}
+use Rattle.hose_outside.specs.Fault.{last_line}
+use Rattle.hose_outside.specs.Parts.{Parts, Tellings}
 use Rattle.hosed.specs.Offline.{Offer, OfflineOutcome}
 use Rattle.hosed.specs.ProgramWords.{AreWords, AreWrongWords, AsksToServe, Task, words_shape}
 use Rattle.hosed.specs.declared.verb.ProgramVerb.TheVariants as command
 use Rattle.hosed.specs.ServeOutcome.{ServeOutcome}
 use Rattle.hosed.specs.ServerDoor.{DoorSeen}
-use Rattle.hose_offline.specs.declared.fault.Fault.TheVariants.{Words}
+use Rattle.hose_outside.specs.declared.fault.Fault.TheVariants.{Words}
 
 module _ {I O C E : Type 0} (tells : Tellings I O C E) (offer : Offer)
     (before after : Parts I O C) (was now : DoorSeen) (status : ℕ) where

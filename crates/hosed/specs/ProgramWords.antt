@@ -6,7 +6,7 @@ use Rattle.hose_words.specs.Shapes.{Shape, Tells, Values, flag, items, last, lin
 use Rattle.hose_gen.specs.Limits.{least_nodes, most_hoses}
 use Rattle.hose_graph.specs.Network.{Network}
 use Rattle.hose_graph.specs.Limits.{least_ends, most_epoch, most_links, most_nodes}
-use Rattle.hose_offline.specs.TopologyTold.{own_costs}
+use Rattle.hose_outside.specs.TopologyTold.{own_costs}
 use Rattle.hose_proto.specs.EndWords.{AreNewEndWords}
 use Rattle.hose_pool.specs.Limits.{most_workers}
 use Rattle.hose_price.specs.Limits.{most_tariffs}

@@ -6,13 +6,13 @@ use Rattle.hose_io.specs.declared.sink.Sink.{Ghosts as SinkGhosts}
 use Rattle.hose_graph.specs.Network.{Network}
 use Rattle.hose_crew.specs.Crew.{AreServed}
 use Rattle.hose_audit.specs.Audit.{audit_text}
-use Rattle.hose_offline.specs.AuditOutcome.{NamedOutcome}
-use Rattle.hose_offline.specs.Auditing.{PricedNames}
-use Rattle.hose_offline.specs.Ending.{EndsTold, IsOut}
-use Rattle.hose_offline.specs.Fault.{last_line, status_of}
-use Rattle.hose_offline.specs.Parts.{Parts, Tellings}
-use Rattle.hose_offline.specs.declared.fault.Fault.{Fault}
-use Rattle.hose_offline.specs.declared.fault.Fault.TheVariants.{Cabinet, Door, Write}
+use Rattle.hose_outside.specs.NamedOutcome.{NamedOutcome}
+use Rattle.hose_outside.specs.Reading.{PricedNames}
+use Rattle.hose_outside.specs.Ending.{EndsTold, IsOut}
+use Rattle.hose_outside.specs.Fault.{last_line, status_of}
+use Rattle.hose_outside.specs.Parts.{Parts, Tellings}
+use Rattle.hose_outside.specs.declared.fault.Fault.{Fault}
+use Rattle.hose_outside.specs.declared.fault.Fault.TheVariants.{Cabinet, Door, Write}
 use Rattle.hosed.specs.ServerDoor.{DoorSeen, ServesByJournal, Speaks}
 use Rattle.hosed.specs.declared.server.ServerEnd.{ServerEnd}
 

@@ -1,20 +1,19 @@
 // What the program's words ask for is done, for every command that waits for nobody.
 ghost use Rattle.std.specs.Prelude.{◌≡◌, ℕ, List, None, map};
-ghost use Rattle.hose_offline.specs.Parts.{tellings};
-ghost use Rattle.hose_offline.specs.Why.{IsTold, why_status};
-ghost use Rattle.hose_offline.specs.steps.Parts.{KeepsAll, held};
+ghost use Rattle.hose_outside.specs.Parts.{tellings};
+ghost use Rattle.hose_outside.specs.Why.{IsTold, why_status};
+ghost use Rattle.hose_outside.specs.steps.Parts.{KeepsAll, held};
 ghost use Rattle.hosed.specs.Failing.{FailsWords};
 ghost use Rattle.hosed.specs.Offline.{OfflineOutcome, offer_of};
 ghost use Rattle.hosed.specs.steps.ProgramWords.{AreWordsOf, tariff_in};
 
 use crate::chosen::costs_of;
 use crate::words::Request;
+use hose_copying::{Cut, cut_journal, follow, move_journal, ship};
 use hose_disk::Cabinet;
 use hose_io::{Sink, Source};
-use hose_offline::{
-    Cut, EndWords, Outside, Why, audit, check, cut_journal, follow, move_journal, price, prove,
-    run, run_generated, ship,
-};
+use hose_offline::{EndWords, audit, check, price, prove, run, run_generated};
+use hose_outside::{Outside, Why};
 use hose_tariff::{Prices, Tariff};
 use std::alloc::Global;
 

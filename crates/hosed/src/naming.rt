@@ -5,7 +5,8 @@ ghost use Rattle.hosed.specs.steps.Naming.{failed_file};
 ghost use Rattle.hosed.specs.steps.ProgramWords.{AreServeWords, AreWordsOf};
 
 use crate::words::{Request, ServeRequest};
-use hose_offline::{Fault, Move, Names};
+use hose_copying::Move;
+use hose_outside::{Fault, Names};
 
 /// The files and the port that words name, where they name one.
 #[derive(Clone, Copy)]

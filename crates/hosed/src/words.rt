@@ -13,9 +13,11 @@ ghost use Rattle.hosed.specs.declared.verb.ProgramVerb.TheVariants as command;
 
 use crate::end_words::ends_at;
 use crate::verb::{ProgramVerb, verb_of};
+use hose_copying::Move;
 use hose_gen::{LEAST_NODES, MOST_HOSES};
 use hose_graph::{MOST_EPOCH, MOST_LINKS, MOST_NODES};
-use hose_offline::{Move, Names, Sizes};
+use hose_offline::Sizes;
+use hose_outside::Names;
 use hose_pool::MOST_WORKERS;
 use hose_price::MOST_TARIFFS;
 use hose_tariff::{Tariff, find};

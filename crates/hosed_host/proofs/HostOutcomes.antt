@@ -13,23 +13,23 @@ use Rattle.hose_audit.specs.Audit.{audit_text}
 use Rattle.hose_disk.specs.Cabinet.{object_of}
 use Rattle.hose_disk.specs.declared.cabinet.Cabinet.{Ghosts as CabinetGhosts}
 use Rattle.hose_store.specs.Recovery.{IsHistoryOf}
-use Rattle.hose_offline.specs.AuditOutcome.{Purpose}
-use Rattle.hose_offline.specs.Auditing.{PricedNames, ReadsTopology}
-use Rattle.hose_offline.specs.CabinetText.{OnlyTextsRead}
-use Rattle.hose_offline.specs.Ending.{EndsTold, IsOut, NoneFailed}
-use Rattle.hose_offline.specs.Fault.{last_line, status_of}
-use Rattle.hose_offline.specs.steps.Journal.{TouchesOnly}
-use Rattle.hose_offline.specs.OnDisk.{CabinetFailed, CabinetWorked, JournalIsTold, OthersStay}
-use Rattle.hose_offline.specs.Parts.{Parts, Tellings}
-use Rattle.hose_offline.specs.declared.fault.Fault.{Fault}
-use Rattle.hose_offline.specs.declared.fault.Fault.TheVariants as fault
-use Rattle.hose_offline.specs.declared.why.Why.{Why}
-use Rattle.hose_offline.specs.declared.why.Why.TheVariants.{Stopped}
-use Rattle.hose_offline.specs.steps.Ending.{IsWhyAfter}
-use Rattle.hose_offline.proofs.Audited.{named_not_1, named_not_read, named_read, no_store, no_topology}
-use Rattle.hose_offline.proofs.Audits.{has_before, held_before}
-use Rattle.hose_offline.proofs.Failing.{fails_then}
-use Rattle.hose_offline.proofs.Outcomes.{clash}
+use Rattle.hose_outside.specs.NamedOutcome.{Purpose}
+use Rattle.hose_outside.specs.Reading.{PricedNames, ReadsTopology}
+use Rattle.hose_outside.specs.CabinetText.{OnlyTextsRead}
+use Rattle.hose_outside.specs.Ending.{EndsTold, IsOut, NoneFailed}
+use Rattle.hose_outside.specs.Fault.{last_line, status_of}
+use Rattle.hose_outside.specs.steps.Journal.{TouchesOnly}
+use Rattle.hose_outside.specs.OnDisk.{CabinetFailed, CabinetWorked, JournalIsTold, OthersStay}
+use Rattle.hose_outside.specs.Parts.{Parts, Tellings}
+use Rattle.hose_outside.specs.declared.fault.Fault.{Fault}
+use Rattle.hose_outside.specs.declared.fault.Fault.TheVariants as fault
+use Rattle.hose_outside.specs.declared.why.Why.{Why}
+use Rattle.hose_outside.specs.declared.why.Why.TheVariants.{Stopped}
+use Rattle.hose_outside.specs.steps.Ending.{IsWhyAfter}
+use Rattle.hose_outside.proofs.Named.{named_not_1, named_not_read, named_read, no_store, no_topology}
+use Rattle.hose_outside.proofs.TextsRead.{has_before, held_before}
+use Rattle.hose_outside.proofs.Failing.{fails_then}
+use Rattle.hose_outside.proofs.Outcomes.{clash}
 use Rattle.hosed_host.specs.HostBook.{Announces, DoorTellings, EndsBy, EndsHosted, HostsByJournal, KeepsHosted, LeavesDoors}
 use Rattle.hosed_host.specs.HostDoors.{DoorsAsked, is_required}
 use Rattle.hosed_host.specs.HostOutcome.{FailsHost, HostOutcome, HostsConnections}

@@ -1,10 +1,10 @@
 -- What stands after `host`, by what ended it.
 use Rattle.std.specs.Prelude.{◌≡◌, ◌≢◌, ℕ, List, Result, ⊤}
 use Rattle.hose_graph.specs.Network.{Network}
-use Rattle.hose_offline.specs.AuditOutcome.{NamedOutcome}
-use Rattle.hose_offline.specs.Auditing.{PricedNames}
-use Rattle.hose_offline.specs.Failing.{FailsNamed}
-use Rattle.hose_offline.specs.Parts.{Parts, Tellings}
+use Rattle.hose_outside.specs.NamedOutcome.{NamedOutcome}
+use Rattle.hose_outside.specs.Reading.{PricedNames}
+use Rattle.hose_outside.specs.Failing.{FailsNamed}
+use Rattle.hose_outside.specs.Parts.{Parts, Tellings}
 use Rattle.hosed_host.specs.HostBook.{Announces, DoorTellings, EndsHosted, HostsByJournal, LeavesDoors}
 use Rattle.hosed_host.specs.HostDoors.{DoorsAsked}
 use Rattle.hosed_host.specs.declared.hosting.HostEnd.{HostEnd}

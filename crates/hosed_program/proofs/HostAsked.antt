@@ -1,7 +1,7 @@
 -- The doors that the words of a host ask for, and what comes of a host that was lent what it needs.
 use Rattle.std.proofs.Common.{◌≡◌, ℕ, List, Option, None, Some, option_map, refl, subst}
-use Rattle.hose_offline.specs.Auditing.{PricedNames}
-use Rattle.hose_offline.specs.Parts.{Parts, Tellings, parts}
+use Rattle.hose_outside.specs.Reading.{PricedNames}
+use Rattle.hose_outside.specs.Parts.{Parts, Tellings, parts}
 use Rattle.hosed.specs.HostNaming.{ReadsHost, asked_of, standby_of}
 use Rattle.hosed.specs.declared.host_line.HostWords.{HostWords}
 use Rattle.hosed.specs.declared.host_line.StandbyWords.{StandbyWords}

@@ -1,10 +1,10 @@
 -- What the words of a host come to.
 use Rattle.std.specs.Prelude.{◌≡◌, ◌↔◌, ℕ, List, option_map}
-use Rattle.hose_offline.specs.Auditing.{priced_names}
-use Rattle.hose_offline.specs.Ending.{IsOut}
-use Rattle.hose_offline.specs.Fault.{last_line}
-use Rattle.hose_offline.specs.Parts.{Parts, Tellings}
-use Rattle.hose_offline.specs.declared.fault.Fault.TheVariants.{Words}
+use Rattle.hose_outside.specs.Reading.{priced_names}
+use Rattle.hose_outside.specs.Ending.{IsOut}
+use Rattle.hose_outside.specs.Fault.{last_line}
+use Rattle.hose_outside.specs.Parts.{Parts, Tellings}
+use Rattle.hose_outside.specs.declared.fault.Fault.TheVariants.{Words}
 use Rattle.hosed.specs.HostWords.{AreHostWords, HostAsked, IsFirstWrongOfHost, StandbyAsked, first_door, operator_number}
 use Rattle.hosed.specs.Offline.{Offer}
 use Rattle.hosed_host.specs.HostBook.{DoorTellings}

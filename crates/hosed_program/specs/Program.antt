@@ -1,10 +1,10 @@
 -- What the program's words ask for, and what comes of them.
 use Rattle.std.specs.Prelude.{◌≡◌, ◌⊎◌, ℕ, Bool, true, ◌-◌, ◌^◌, ◌<◌, List, [], ◌∷◌, codes, if◌then◌else◌, IfSome, length, Option, Ok, ⊤}
 use Rattle.std.specs.Str.{bytes_eq}
-use Rattle.hose_offline.specs.Ending.{EndsTold, IsOut}
-use Rattle.hose_offline.specs.Fault.{last_line}
-use Rattle.hose_offline.specs.Parts.{Parts, Tellings}
-use Rattle.hose_offline.specs.declared.fault.Fault.TheVariants.{Memory}
+use Rattle.hose_outside.specs.Ending.{EndsTold, IsOut}
+use Rattle.hose_outside.specs.Fault.{last_line}
+use Rattle.hose_outside.specs.Parts.{Parts, Tellings}
+use Rattle.hose_outside.specs.declared.fault.Fault.TheVariants.{Memory}
 use Rattle.hosed.specs.Hosed.{HosedOutcome}
 use Rattle.hosed.specs.Offline.{Offer}
 use Rattle.hosed.specs.ServerDoor.{DoorSeen}

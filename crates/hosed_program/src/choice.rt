@@ -2,9 +2,9 @@
 ghost use Rattle.std.specs.Prelude.{◌≡◌, None, Ok, map, ⊤};
 ghost use Rattle.std.specs.String.{string_bytes};
 ghost use Rattle.hose_io.specs.Frame.{Stays};
-ghost use Rattle.hose_offline.specs.Ending.{EndsTold};
-ghost use Rattle.hose_offline.specs.Parts.{AllStay, parts, tellings};
-ghost use Rattle.hose_offline.specs.Why.{IsTold, why_status};
+ghost use Rattle.hose_outside.specs.Ending.{EndsTold};
+ghost use Rattle.hose_outside.specs.Parts.{AllStay, parts, tellings};
+ghost use Rattle.hose_outside.specs.Why.{IsTold, why_status};
 ghost use Rattle.hosed.specs.Failing.{FailsWords};
 ghost use Rattle.hosed.specs.Naming.{NamesOf};
 ghost use Rattle.hosed.specs.Offline.{offer_of};
@@ -15,7 +15,7 @@ ghost use Rattle.hosed_program.specs.declared.choice.TextOrCommand.TheVariants a
 use crate::texts::{HELP, VERSION};
 use hose_disk::Cabinet;
 use hose_io::{Door, Sink, Source, write_all};
-use hose_offline::{Fault, Why};
+use hose_outside::{Fault, Why};
 use hose_pool::Gate;
 use hose_tariff::{Prices, Tariff};
 use hosed::{Context, Ended, asks_to_serve, hosed_ended, offline_ended};

@@ -1,8 +1,8 @@
 // A host, as the program's words ask for it.
 ghost use Rattle.std.specs.Prelude.{◌≡◌, None, map, option_map};
 ghost use Rattle.std.specs.String.{string_bytes};
-ghost use Rattle.hose_offline.specs.Auditing.{priced_names};
-ghost use Rattle.hose_offline.specs.Parts.{AllStay, parts, tellings};
+ghost use Rattle.hose_outside.specs.Reading.{priced_names};
+ghost use Rattle.hose_outside.specs.Parts.{AllStay, parts, tellings};
 ghost use Rattle.hosed.specs.HostNaming.{HostNamesOf};
 ghost use Rattle.hosed.specs.HostWords.{AreHostWords, AsksToHost, HostAsked};
 ghost use Rattle.hosed.specs.Offline.{offer_of};
@@ -18,7 +18,7 @@ use hose_disk::Cabinet;
 use hose_io::{Sink, Source};
 use hose_log::ErrorLog;
 use hose_net::Doors;
-use hose_offline::{Fault, Outside, end};
+use hose_outside::{Fault, Outside, end};
 use hose_tariff::{Prices, Tariff};
 use hosed::{HostWords, StandbyWords, costs_of, host_words};
 use hosed_host::{HostDoors, HostRequest, HostWhy, StandbyPlan, host_by_names};

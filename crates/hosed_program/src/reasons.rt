@@ -3,7 +3,7 @@ use crate::hosting::HostEnded;
 use crate::known::{Known, told};
 use hose_disk::Trouble;
 use hose_net::DoorTrouble;
-use hose_offline::{Fault, MoveStop, Refusal, Why};
+use hose_outside::{Fault, MoveStop, Refusal, Why};
 use hosed::{Ended, NamedByWords};
 use hosed_host::HostWhy;
 use std::fmt::{Display, Formatter};

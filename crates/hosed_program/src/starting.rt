@@ -1,9 +1,9 @@
 // The program's one call.
 ghost use Rattle.std.specs.Prelude.{◌≡◌, ◌∷◌, [], None, codes, map};
-ghost use Rattle.hose_offline.specs.Ending.{IsOut};
-ghost use Rattle.hose_offline.specs.Fault.{last_line};
-ghost use Rattle.hose_offline.specs.Parts.{parts, tellings};
-ghost use Rattle.hose_offline.specs.declared.fault.Fault.TheVariants as fault;
+ghost use Rattle.hose_outside.specs.Ending.{IsOut};
+ghost use Rattle.hose_outside.specs.Fault.{last_line};
+ghost use Rattle.hose_outside.specs.Parts.{parts, tellings};
+ghost use Rattle.hose_outside.specs.declared.fault.Fault.TheVariants as fault;
 ghost use Rattle.hosed.specs.Offline.{offer_of};
 ghost use Rattle.hosed.specs.ServerDoor.{seen_of};
 ghost use Rattle.hose_lead.specs.LedStore.{LedState};
@@ -19,7 +19,7 @@ use crate::words::program_words;
 use hose_disk::Cabinet;
 use hose_io::{Door, Sink, Source, write_all};
 use hose_net::Doors;
-use hose_offline::{Fault, Why};
+use hose_outside::{Fault, Why};
 use hose_pool::Gate;
 use hose_tariff::{Prices, Tariff};
 use hosed::{Context, Ended, asks_to_host};

@@ -1,6 +1,6 @@
 use Rattle.std.proofs.Common.{ap, map, refl, rules}
 use Rattle.std.specs.String.{string_bytes}
-use Rattle.hose_offline.specs.steps.Parts.{held}
+use Rattle.hose_outside.specs.steps.Parts.{held}
 use Rattle.hosed.specs.steps.ProgramWords.{task_of}
 use Rattle.hosed.specs.declared.verb.ProgramVerb.TheVariants as command
 use Rattle.hosed.proofs.Outcomes.{are_wrong, fails_none, fails_of, fails_words, served_of}

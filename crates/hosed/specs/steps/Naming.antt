@@ -1,7 +1,7 @@
 -- What the words of a command name: steps of proofs.
 use Rattle.std.specs.Prelude.{List, ℕ, Option, None}
-use Rattle.hose_offline.specs.declared.fault.Fault.{Fault}
-use Rattle.hose_offline.specs.declared.fault.Fault.TheVariants.{Cabinet, Text}
+use Rattle.hose_outside.specs.declared.fault.Fault.{Fault}
+use Rattle.hose_outside.specs.declared.fault.Fault.TheVariants.{Cabinet, Text}
 use Rattle.hosed.specs.Naming.{TaskNames}
 
 -- the file that is meant where a fault tells of one at which the cabinet failed

@@ -9,7 +9,7 @@ use Rattle.hosed.specs.declared.verb.ProgramVerb.{ProgramVerb}
 use Rattle.hosed.specs.declared.verb.ProgramVerb.TheVariants as command
 use Rattle.hosed.specs.declared.words.OfJournal.{OfJournal}
 use Rattle.hosed.specs.declared.words.OfTopology.{OfTopology}
-use Rattle.hose_offline.specs.declared.auditing.Names.{Names}
+use Rattle.hose_outside.specs.declared.reading.Names.{Names}
 use Rattle.hosed.specs.declared.words.Request.{Request}
 
 -- the request of the words, or the first of them that is not allowed

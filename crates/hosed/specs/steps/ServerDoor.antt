@@ -18,13 +18,13 @@ use Rattle.hose_store.specs.steps.Store.{KeptStore}
 use Rattle.hose_shared.specs.Trying.{IsTried}
 use Rattle.hose_turn.specs.declared.view.Tried.{Tried}
 use Rattle.hose_turn.specs.Known.{Known}
-use Rattle.hose_offline.specs.OnDisk.{opening_of}
-use Rattle.hose_offline.specs.steps.Ending.{IsWhyAfter}
-use Rattle.hose_offline.specs.steps.Journal.{IsJustOpened}
-use Rattle.hose_offline.specs.declared.fault.Fault.{Fault}
-use Rattle.hose_offline.specs.declared.fault.Fault.TheVariants.{Memory}
-use Rattle.hose_offline.specs.declared.why.Why.{Why}
-use Rattle.hose_offline.specs.declared.why.Why.TheVariants.{Stopped}
+use Rattle.hose_outside.specs.OnDisk.{opening_of}
+use Rattle.hose_outside.specs.steps.Ending.{IsWhyAfter}
+use Rattle.hose_outside.specs.steps.Journal.{IsJustOpened}
+use Rattle.hose_outside.specs.declared.fault.Fault.{Fault}
+use Rattle.hose_outside.specs.declared.fault.Fault.TheVariants.{Memory}
+use Rattle.hose_outside.specs.declared.why.Why.{Why}
+use Rattle.hose_outside.specs.declared.why.Why.TheVariants.{Stopped}
 use Rattle.hosed.specs.declared.server.ServerEnd.{ServerEnd}
 use Rattle.hosed.specs.ServeOutcome.{first_failed}
 use Rattle.hosed.specs.ServerDoor.{DoorSeen, ServesBook, Speaks, ready_line}

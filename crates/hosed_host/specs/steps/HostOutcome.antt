@@ -4,15 +4,15 @@ use Rattle.std.specs.String.{string_bytes}
 use Rattle.hose_io.specs.declared.Failed.{Failed}
 use Rattle.hose_graph.specs.Network.{Network}
 use Rattle.hose_net.specs.declared.doors.Doors.{Ghosts as DoorsGhosts}
-use Rattle.hose_offline.specs.Ending.{IsOut}
-use Rattle.hose_offline.specs.Fault.{last_line, status_of}
-use Rattle.hose_offline.specs.Parts.{Parts, Tellings}
-use Rattle.hose_offline.specs.Unopened.{OpensNoJournal}
-use Rattle.hose_offline.specs.declared.fault.Fault.{Fault}
-use Rattle.hose_offline.specs.declared.fault.Fault.TheVariants as fault
-use Rattle.hose_offline.specs.declared.why.Why.{Why}
-use Rattle.hose_offline.specs.declared.why.Why.TheVariants.{Stopped}
-use Rattle.hose_offline.specs.steps.Failing.{FailsOpened}
+use Rattle.hose_outside.specs.Ending.{IsOut}
+use Rattle.hose_outside.specs.Fault.{last_line, status_of}
+use Rattle.hose_outside.specs.Parts.{Parts, Tellings}
+use Rattle.hose_outside.specs.Unopened.{OpensNoJournal}
+use Rattle.hose_outside.specs.declared.fault.Fault.{Fault}
+use Rattle.hose_outside.specs.declared.fault.Fault.TheVariants as fault
+use Rattle.hose_outside.specs.declared.why.Why.{Why}
+use Rattle.hose_outside.specs.declared.why.Why.TheVariants.{Stopped}
+use Rattle.hose_outside.specs.steps.Failing.{FailsOpened}
 use Rattle.hose_disk.specs.declared.cabinet.Cabinet.{Ghosts as CabinetGhosts}
 use Rattle.hose_doors.specs.Doors.{IsSocketPath, NamesDoor}
 use Rattle.hose_doors.specs.Limits.{most_doors}

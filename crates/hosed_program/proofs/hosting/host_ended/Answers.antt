@@ -1,9 +1,9 @@
 use Rattle.std.proofs.Common.{ap, map, refl, rules}
 use Rattle.std.specs.String.{string_bytes}
 use Rattle.hose_tariff.specs.contracts.prices.TariffPrices.TheImpl.{prices-value}
-use Rattle.hose_offline.specs.Auditing.{priced_names}
-use Rattle.hose_offline.specs.Parts.{tellings}
-use Rattle.hose_offline.specs.steps.Parts.{held}
+use Rattle.hose_outside.specs.Reading.{priced_names}
+use Rattle.hose_outside.specs.Parts.{tellings}
+use Rattle.hose_outside.specs.steps.Parts.{held}
 use Rattle.hosed.specs.HostNaming.{asked_of}
 use Rattle.hosed.specs.ProgramWords.{costs_at}
 use Rattle.hosed.proofs.HostShapes.{none_wrong_of_host, of_one_host}
