@@ -132,7 +132,8 @@ module _ {E : Type 0} (disk : DiskGhosts E) (network : Network) where
       × OnlyMoves disk opened network entries left
       × IsComplete disk opened network entries moved
 
-module _ {C E : Type 0} (cabinet : CabinetGhosts C E) (disk : DiskGhosts E) (network : Network) where
+module _ {C E : Type 0} (cabinet : CabinetGhosts C E) (disk : DiskGhosts E)
+    (network : Network) where
   -- The journal of a name was read, which has to be there; or it was not found among the texts, or
   -- its disk was not taken out.
   abbrev pub ReadsOld : Scope → List ℕ → C → C → Result Stated Fault → Type 0

@@ -66,9 +66,9 @@ pub record IsRightFor (prices : Network → Network → Type 0) (network : Netwo
 
 -- The input is the text of a network, of which prices make this one, and then lines that were
 -- answered: the replies are those of the script of the lines from the history with which the book
--- began, where no customer holds a quote. The history that it leads to goes on from there, is sound,
--- and decided from there on, and provides what it is to. `stops` says how the input stands to what
--- comes after the lines and to what is left.
+-- began, where no customer holds a quote. The history that it leads to goes on from there, is
+-- sound, and decided from there on, and provides what it is to. `stops` says how the input stands
+-- to what comes after the lines and to what is left.
 pub record HasRun (prices : Network → Network → Type 0) (keeping : Keeping)
     (old new : Option Stream) (stops : List ℕ → List ℕ → List ℕ → Type 0) : Type 0 where
   pub told : Network
