@@ -30,7 +30,7 @@
 ghost use Rattle.std.specs.Prelude.{◌≡◌, None, map};
 ghost use Rattle.std.specs.String.{string_bytes};
 ghost use Rattle.hose_io.specs.Frame.{Stays};
-ghost use Rattle.hose_outside.specs.Parts.{AllStay, parts, tellings};
+ghost use Rattle.hose_outside.specs.Parts.{AllStay, door_parts, parts, tellings};
 ghost use Rattle.hose_outside.specs.Why.{IsTold, why_status};
 ghost use Rattle.hosed.specs.Failing.{FailsWords};
 ghost use Rattle.hosed.specs.Hosed.{HosedOutcome};
@@ -127,9 +127,10 @@ pub fn hosed<
     ensures outcome { HosedOutcome (tellings I.Source O.Sink C.Cabinet C.Disk.Disk)
         (offer_of ⟦<Tariff as Prices>⟧.prices (λ tariff. tariff.name) (λ tariff. tariff.base)
         (λ tariff. tariff.per) tariffs.now)
-        (parts input.old output.old cabinet.old) (parts input.new output.new cabinet.new)
-        (seen_of (L.frame door.old) (L.told door.old) (L.opened_at door.old))
-        (seen_of (L.frame door.new) (L.told door.new) (L.opened_at door.new))
+        (door_parts (parts input.old output.old cabinet.old)
+        (seen_of (L.frame door.old) (L.told door.old) (L.opened_at door.old)))
+        (door_parts (parts input.new output.new cabinet.new)
+        (seen_of (L.frame door.new) (L.told door.new) (L.opened_at door.new)))
         result (map string_bytes words.now) }
     ensures back { (C.frame cabinet.new).out ≡ None }
     ensures keeps { AllStay (tellings I.Source O.Sink C.Cabinet C.Disk.Disk)
@@ -172,9 +173,10 @@ pub fn hosed_ended<
     ensures outcome { HosedOutcome (tellings I.Source O.Sink C.Cabinet C.Disk.Disk)
         (offer_of ⟦<Tariff as Prices>⟧.prices (λ tariff. tariff.name) (λ tariff. tariff.base)
         (λ tariff. tariff.per) tariffs.now)
-        (parts input.old output.old cabinet.old) (parts input.new output.new cabinet.new)
-        (seen_of (L.frame door.old) (L.told door.old) (L.opened_at door.old))
-        (seen_of (L.frame door.new) (L.told door.new) (L.opened_at door.new))
+        (door_parts (parts input.old output.old cabinet.old)
+        (seen_of (L.frame door.old) (L.told door.old) (L.opened_at door.old)))
+        (door_parts (parts input.new output.new cabinet.new)
+        (seen_of (L.frame door.new) (L.told door.new) (L.opened_at door.new)))
         (why_status result.why) (map string_bytes words.now) }
     ensures told { IsTold O.Sink output.new result.why }
     ensures fails { FailsWords (tellings I.Source O.Sink C.Cabinet C.Disk.Disk)

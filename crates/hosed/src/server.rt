@@ -8,11 +8,11 @@ ghost use Rattle.hose_outside.specs.Reading.{priced_names};
 ghost use Rattle.hose_outside.specs.Failing.{FailsNamed};
 ghost use Rattle.hose_outside.specs.steps.Ending.{WroteWhy};
 ghost use Rattle.hose_outside.specs.Why.{IsTold, why_status};
-ghost use Rattle.hose_outside.specs.Parts.{tellings};
+ghost use Rattle.hose_outside.specs.Parts.{door_parts, tellings};
 ghost use Rattle.hose_outside.specs.steps.Parts.{KeepsAll, held};
 ghost use Rattle.hosed.specs.ServeOutcome.{EndsServed, ServeOutcome, first_failed};
 ghost use Rattle.hosed.specs.ServerDoor.{Speaks, seen_of};
-ghost use Rattle.hosed.specs.steps.ServerDoor.{BothStay, IsAnnounced, IsClosedOn, IsOpenedAs, IsWhyServed, Opened, ServesByStore};
+ghost use Rattle.hosed.specs.steps.ServerDoor.{BothStay, IsAnnounced, IsClosedOn, IsOpenedAs, IsWhyServed, Opened, ServesByStore, serving};
 
 use crate::words::ServeRequest;
 use hose_book::{Book, Books};
@@ -246,9 +246,10 @@ pub fn serve<
     requires workers { (1 ≤ request.workers) × (request.workers ≤ MOST_WORKERS) }
     ensures outcome { ServeOutcome (tellings I.Source O.Sink C.Cabinet C.Disk.Disk)
         (priced_names (P.prices costs.now) request.entry.topology.now request.entry.journal.now)
-        request.entry.port request.entry.connections (held outside.old) (held outside.new)
-        (seen_of (L.frame door.old) (L.told door.old) (L.opened_at door.old))
-        (seen_of (L.frame door.new) (L.told door.new) (L.opened_at door.new))
+        (serving request.entry.port request.entry.connections) (door_parts (held outside.old)
+        (seen_of (L.frame door.old) (L.told door.old) (L.opened_at door.old)))
+        (door_parts (held outside.new)
+        (seen_of (L.frame door.new) (L.told door.new) (L.opened_at door.new)))
         (why_status result) }
     ensures told { IsTold O.Sink outside.new.output.now result }
     ensures fails { FailsNamed (tellings I.Source O.Sink C.Cabinet C.Disk.Disk)

@@ -3,7 +3,7 @@ ghost use Rattle.std.specs.Prelude.{◌≡◌, None, Ok, map, ⊤};
 ghost use Rattle.std.specs.String.{string_bytes};
 ghost use Rattle.hose_io.specs.Frame.{Stays};
 ghost use Rattle.hose_outside.specs.Ending.{EndsTold};
-ghost use Rattle.hose_outside.specs.Parts.{AllStay, parts, tellings};
+ghost use Rattle.hose_outside.specs.Parts.{AllStay, door_parts, parts, tellings};
 ghost use Rattle.hose_outside.specs.Why.{IsTold, why_status};
 ghost use Rattle.hosed.specs.Failing.{FailsWords};
 ghost use Rattle.hosed.specs.Naming.{NamesOf};
@@ -57,10 +57,10 @@ pub fn program<
 ) -> Ended<'w>
     requires { (C.frame world.old.cabinet).out ≡ None }
     ensures outcome { ProgramOutcome (tellings I.Source O.Sink C.Cabinet C.Disk.Disk)
-        (parts world.old.input world.old.output world.old.cabinet)
-        (parts world.new.input world.new.output world.new.cabinet)
-        (seen_of (L.frame world.old.door) (L.told world.old.door) (L.opened_at world.old.door))
-        (seen_of (L.frame world.new.door) (L.told world.new.door) (L.opened_at world.new.door))
+        (door_parts (parts world.old.input world.old.output world.old.cabinet)
+        (seen_of (L.frame world.old.door) (L.told world.old.door) (L.opened_at world.old.door)))
+        (door_parts (parts world.new.input world.new.output world.new.cabinet)
+        (seen_of (L.frame world.new.door) (L.told world.new.door) (L.opened_at world.new.door)))
         (offer_of ⟦<Tariff as Prices>⟧.prices (λ tariff. tariff.name) (λ tariff. tariff.base)
         (λ tariff. tariff.per) tariffs.now)
         (why_status result.why) (map string_bytes words.now) }

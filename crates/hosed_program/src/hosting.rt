@@ -2,7 +2,7 @@
 ghost use Rattle.std.specs.Prelude.{◌≡◌, None, map, option_map};
 ghost use Rattle.std.specs.String.{string_bytes};
 ghost use Rattle.hose_outside.specs.Reading.{priced_names};
-ghost use Rattle.hose_outside.specs.Parts.{AllStay, parts, tellings};
+ghost use Rattle.hose_outside.specs.Parts.{AllStay, door_parts, parts, tellings};
 ghost use Rattle.hosed.specs.HostNaming.{HostNamesOf};
 ghost use Rattle.hosed.specs.HostWords.{AreHostWords, AsksToHost, HostAsked};
 ghost use Rattle.hosed.specs.Offline.{offer_of};
@@ -74,8 +74,9 @@ pub fn host_ended<
         (D.Network.Connections.saw (LedState C.Disk)))
         (offer_of ⟦<Tariff as Prices>⟧.prices (λ tariff. tariff.name) (λ tariff. tariff.base)
         (λ tariff. tariff.per) tariffs.now)
-        (parts input.old output.old cabinet.old) (parts input.new output.new cabinet.new)
-        host.old.doors host.new.doors (host_status result.why) (map string_bytes words.now) }
+        (door_parts (parts input.old output.old cabinet.old) host.old.doors)
+        (door_parts (parts input.new output.new cabinet.new) host.new.doors)
+        (host_status result.why) (map string_bytes words.now) }
     ensures told { TellsWhy O.Sink output.new result.why }
     ensures fails { (asked : HostAsked) → AreHostWords (map (λ tariff. tariff.name) tariffs.now)
         (map string_bytes words.now) asked
@@ -84,8 +85,8 @@ pub fn host_ended<
         (D.Network.Connections.saw (LedState C.Disk)))
         (priced_names (costs_at ⟦<Tariff as Prices>⟧.prices tariffs.now asked.tariff)
         asked.topology asked.journal) (doors_of (map (λ tariff. tariff.name) tariffs.now) asked)
-        (parts input.old output.old cabinet.old) (parts input.new output.new cabinet.new)
-        host.old.doors host.new.doors result.why }
+        (door_parts (parts input.old output.old cabinet.old) host.old.doors)
+        (door_parts (parts input.new output.new cabinet.new) host.new.doors) result.why }
     ensures names { HostNamesOf (map (λ tariff. tariff.name) tariffs.now)
         (map string_bytes words.now) result.named }
     ensures back { (C.frame cabinet.new).out ≡ None }

@@ -2,7 +2,7 @@
 ghost use Rattle.std.specs.Prelude.{◌≡◌, ◌∷◌, [], None, codes, map};
 ghost use Rattle.hose_outside.specs.Ending.{IsOut};
 ghost use Rattle.hose_outside.specs.Fault.{last_line};
-ghost use Rattle.hose_outside.specs.Parts.{parts, tellings};
+ghost use Rattle.hose_outside.specs.Parts.{door_parts, parts, tellings};
 ghost use Rattle.hose_outside.specs.declared.fault.Fault.TheVariants as fault;
 ghost use Rattle.hosed.specs.Offline.{offer_of};
 ghost use Rattle.hosed.specs.ServerDoor.{seen_of};
@@ -60,11 +60,14 @@ pub fn start<
         (D.Network.Connections.saw (LedState C.Disk)))
         (offer_of ⟦<Tariff as Prices>⟧.prices (λ tariff. tariff.name) (λ tariff. tariff.base)
         (λ tariff. tariff.per) tariffs.now)
-        (parts world.old.input world.old.output world.old.cabinet)
-        (parts world.new.input world.new.output world.new.cabinet)
-        (seen_of (L.frame world.old.door) (L.told world.old.door) (L.opened_at world.old.door))
-        (seen_of (L.frame world.new.door) (L.told world.new.door) (L.opened_at world.new.door))
-        host.old.doors host.new.doors result (W.words given.now) }
+        (door_parts (parts world.old.input world.old.output world.old.cabinet) (
+          seen_of (L.frame world.old.door) (L.told world.old.door) (L.opened_at world.old.door),
+          host.old.doors,
+        ))
+        (door_parts (parts world.new.input world.new.output world.new.cabinet) (
+          seen_of (L.frame world.new.door) (L.told world.new.door) (L.opened_at world.new.door),
+          host.new.doors,
+        )) result (W.words given.now) }
 {
     match program_words(given, context.alloc) {
         Ok(words) => {

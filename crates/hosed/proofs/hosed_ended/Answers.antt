@@ -39,7 +39,7 @@ returns-in-Err-clause-outcome g c =
     record {
       offline = λ never. absurd (never (search rules));
       words_at_1 = λ asks. ((λ one. are_wrong _ _ _ wrong), λ none. c.end.ensures.status);
-      wrong_words = λ asks one. (refl, refl, refl, (_, unfit_wrong _ _ _ wrong, c.end.ensures.last_line));
+      wrong_words = λ asks one. (record { input = refl; cabinet = refl; door = refl }, (_, unfit_wrong _ _ _ wrong, c.end.ensures.last_line));
       serves = λ task are. absurd (no_task _ _ command.Serve task _ are wrong);
     }
 

@@ -31,7 +31,7 @@ returns-in-Err-clause-outcome g c =
     let wrong = c.in-Err.ensures.wrong in
     record {
       words_at_1 = ((λ one asked are. none_wrong_of_host _ _ asked _ are wrong), λ none. c.end.ensures.status);
-      wrong_words = λ one. (refl, refl, refl, (_, wrong, c.end.ensures.last_line));
+      wrong_words = λ one. (record { input = refl; cabinet = refl; door = refl }, (_, wrong, c.end.ensures.last_line));
       hosts = λ asked are. absurd (none_wrong_of_host _ _ asked _ are wrong);
     }
 

@@ -33,4 +33,4 @@ returns-else-asks_to_host g c =
     )
 
 pub returns-in-Err : goal.returns-in-Err
-returns-in-Err g c = inr (c.no_memory.ensures.status, record { input = refl; cabinet = refl; door = refl }, refl, c.no_memory.ensures.line)
+returns-in-Err g c = inr (c.no_memory.ensures.status, record { input = refl; cabinet = refl; door = refl }, c.no_memory.ensures.line)
