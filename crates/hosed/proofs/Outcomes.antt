@@ -13,11 +13,11 @@ use Rattle.hosed.specs.Offline.{Does, Offer, OfflineOutcome}
 use Rattle.hosed.specs.ServeOutcome.{ServeOutcome}
 use Rattle.hosed.specs.steps.ServerDoor.{serving}
 use Rattle.hosed.specs.ServerDoor.{DoorSeen}
-use Rattle.hosed.specs.ProgramWords.{AreWrongWords, AsksToServe, program_word}
-use Rattle.hosed.specs.steps.Arguments.{AreArgumentWords, ArgumentTask, IsFirstUnfit}
-use Rattle.hosed.specs.declared.verb.ProgramVerb.{ProgramVerb}
-use Rattle.hosed.specs.declared.verb.ProgramVerb.TheVariants as command
-use Rattle.hosed.proofs.ProgramShapes.{are_told, each_task, no_task, task_told, unfit_wrong}
+use Rattle.hosed_requests.specs.ProgramWords.{AreWrongWords, AsksToServe, program_word}
+use Rattle.hosed_requests.specs.steps.Arguments.{AreArgumentWords, ArgumentTask, IsFirstUnfit}
+use Rattle.hosed_requests.specs.declared.verb.ProgramVerb.{ProgramVerb}
+use Rattle.hosed_requests.specs.declared.verb.ProgramVerb.TheVariants as command
+use Rattle.hosed_requests.proofs.ProgramShapes.{are_told, each_task, no_task, task_told, unfit_wrong}
 
 -- words of which one is the first that is not allowed are wrong
 pub are_wrong : (names words : List (List ℕ)) (number : ℕ) → IsFirstUnfit names words number → AreWrongWords names words

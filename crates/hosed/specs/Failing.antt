@@ -8,9 +8,9 @@ use Rattle.hose_copying.specs.Moving.{move_names, scope_of}
 use Rattle.hose_outside.specs.Parts.{Parts, Tellings}
 use Rattle.hose_outside.specs.declared.why.Why.{Why}
 use Rattle.hosed.specs.Offline.{Offer}
-use Rattle.hosed.specs.ProgramWords.{AreWords, Task}
-use Rattle.hosed.specs.declared.verb.ProgramVerb.{ProgramVerb}
-use Rattle.hosed.specs.declared.verb.ProgramVerb.TheVariants as command
+use Rattle.hosed_requests.specs.ProgramWords.{AreWords, Task}
+use Rattle.hosed_requests.specs.declared.verb.ProgramVerb.{ProgramVerb}
+use Rattle.hosed_requests.specs.declared.verb.ProgramVerb.TheVariants as command
 
 module _ {I O C E : Type 0} (tells : Tellings I O C E) (offer : Offer) (before after : Parts I O C)
     (why : Why) where

@@ -6,8 +6,8 @@ use Rattle.hose_outside.specs.Ending.{IsOut}
 use Rattle.hose_outside.specs.Fault.{last_line}
 use Rattle.hose_outside.specs.Parts.{DoorParts, Tellings}
 use Rattle.hosed.specs.Offline.{Offer, OfflineOutcome}
-use Rattle.hosed.specs.ProgramWords.{AreWords, AreWrongWords, AsksToServe, Task, words_shape}
-use Rattle.hosed.specs.declared.verb.ProgramVerb.TheVariants as command
+use Rattle.hosed_requests.specs.ProgramWords.{AreWords, AreWrongWords, AsksToServe, Task, words_shape}
+use Rattle.hosed_requests.specs.declared.verb.ProgramVerb.TheVariants as command
 use Rattle.hosed.specs.ServeOutcome.{ServeOutcome}
 use Rattle.hosed.specs.ServerDoor.{DoorSeen}
 use Rattle.hose_outside.specs.declared.fault.Fault.TheVariants.{Words}

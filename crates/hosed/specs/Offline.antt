@@ -18,9 +18,9 @@ use Rattle.hose_offline.specs.ProveOutcome.{ProveOutcome, ends_from}
 use Rattle.hose_offline.specs.RunOutcome.{RunOutcome}
 use Rattle.hose_copying.specs.ShipOutcome.{ShipOutcome}
 use Rattle.hose_outside.specs.declared.fault.Fault.TheVariants.{Words}
-use Rattle.hosed.specs.ProgramWords.{AreWords, AreWrongWords, Task, costs_at, first_end, words_shape}
-use Rattle.hosed.specs.declared.verb.ProgramVerb.{ProgramVerb}
-use Rattle.hosed.specs.declared.verb.ProgramVerb.TheVariants as command
+use Rattle.hosed_requests.specs.ProgramWords.{AreWords, AreWrongWords, Task, costs_at, first_end, words_shape}
+use Rattle.hosed_requests.specs.declared.verb.ProgramVerb.{ProgramVerb}
+use Rattle.hosed_requests.specs.declared.verb.ProgramVerb.TheVariants as command
 
 -- ---- the program's tariffs
 

@@ -34,21 +34,14 @@ ghost use Rattle.hose_outside.specs.Parts.{AllStay, door_parts, parts, tellings}
 ghost use Rattle.hose_outside.specs.Why.{IsTold, why_status};
 ghost use Rattle.hosed.specs.Failing.{FailsWords};
 ghost use Rattle.hosed.specs.Hosed.{HosedOutcome};
-ghost use Rattle.hosed.specs.Naming.{NamesOf};
+ghost use Rattle.hosed_requests.specs.Naming.{NamesOf};
 ghost use Rattle.hosed.specs.Offline.{OfflineOutcome, offer_of};
-ghost use Rattle.hosed.specs.ProgramWords.{AsksToServe};
+ghost use Rattle.hosed_requests.specs.ProgramWords.{AsksToServe};
 ghost use Rattle.hosed.specs.ServerDoor.{seen_of};
 
-mod chosen;
 mod doing;
-mod end_words;
-mod host_line;
-mod naming;
 mod server;
-mod verb;
-mod words;
 
-pub use chosen::{ChosenCosts, costs_of};
 use doing::do_request;
 pub use hose_crew::Context;
 use hose_disk::Cabinet;
@@ -56,16 +49,13 @@ use hose_io::{Door, Sink, Source};
 use hose_outside::{Fault, Outside, Why, end};
 use hose_pool::Gate;
 use hose_tariff::{Prices, Tariff};
-pub use host_line::{HostWords, MOST_PATIENCE, StandbyWords, asks_to_host, host_words};
-pub use naming::NamedByWords;
-use naming::{named_of, server_named};
+use hosed_requests::{
+    NamedByWords, asks_to_serve, costs_of, named_of, request_of, serve_of, server_named,
+};
 use server::serve;
 use std::alloc::Global;
 use std::sync::Wait;
 use std::thread::Threads;
-pub use verb::asks_to_serve;
-pub use words::MOST_CONNECTIONS;
-use words::{request_of, serve_of};
 
 /// Why the program ended, and what its words name, if they are not wrong.
 #[derive(Clone, Copy)]

@@ -14,7 +14,6 @@ ghost use Rattle.hosed.specs.ServeOutcome.{EndsServed, ServeOutcome, first_faile
 ghost use Rattle.hosed.specs.ServerDoor.{Speaks, seen_of};
 ghost use Rattle.hosed.specs.steps.ServerDoor.{BothStay, IsAnnounced, IsClosedOn, IsOpenedAs, IsWhyServed, Opened, ServesByStore, serving};
 
-use crate::words::ServeRequest;
 use hose_book::{Book, Books};
 use hose_crew::{Context, Crew, CrewEnd, DoorStart, Work};
 use hose_disk::{Cabinet, Disk};
@@ -26,6 +25,7 @@ use hose_pool::{Gate, MOST_WORKERS, table_of_all};
 use hose_shared::{Begun, Shared};
 use hose_store::{Decided, Store};
 use hose_tariff::Prices;
+use hosed_requests::ServeRequest;
 use std::alloc::{AllocError, Global};
 use std::marker::{Brand, PhantomData};
 use std::snapshot::Snapshot;

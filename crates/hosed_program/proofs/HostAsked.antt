@@ -2,10 +2,10 @@
 use Rattle.std.proofs.Common.{◌≡◌, ℕ, List, Option, None, Some, option_map, refl, subst}
 use Rattle.hose_outside.specs.Reading.{PricedNames}
 use Rattle.hose_outside.specs.Parts.{Parts, Tellings, door_parts, parts}
-use Rattle.hosed.specs.HostNaming.{ReadsHost, asked_of, standby_of}
-use Rattle.hosed.specs.declared.host_line.HostWords.{HostWords}
-use Rattle.hosed.specs.declared.host_line.StandbyWords.{StandbyWords}
-use Rattle.hosed.proofs.HostShapes.{operator_numbered}
+use Rattle.hosed_requests.specs.HostNaming.{ReadsHost, asked_of, standby_of}
+use Rattle.hosed_requests.specs.declared.host_line.HostWords.{HostWords}
+use Rattle.hosed_requests.specs.declared.host_line.StandbyWords.{StandbyWords}
+use Rattle.hosed_requests.proofs.HostShapes.{operator_numbered}
 use Rattle.hosed_host.specs.HostBook.{DoorTellings}
 use Rattle.hosed_host.specs.HostDoors.{DoorsAsked}
 use Rattle.hosed_host.specs.HostOutcome.{FailsHost, HostOutcome}

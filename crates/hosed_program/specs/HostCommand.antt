@@ -6,7 +6,7 @@ use Rattle.hose_outside.specs.Fault.{last_line}
 use Rattle.hose_outside.specs.Parts.{DoorParts, Tellings}
 use Rattle.hose_outside.specs.declared.fault.Fault.TheVariants.{Words}
 use Rattle.hosed.specs.Hosed.{OutputAlone}
-use Rattle.hosed.specs.HostWords.{AreHostWords, HostAsked, IsFirstWrongOfHost, StandbyAsked, first_door, operator_number}
+use Rattle.hosed_requests.specs.HostWords.{AreHostWords, HostAsked, IsFirstWrongOfHost, StandbyAsked, first_door, operator_number}
 use Rattle.hosed.specs.Offline.{Offer}
 use Rattle.hosed_host.specs.HostBook.{DoorTellings}
 use Rattle.hosed_host.specs.HostDoors.{DoorsAsked, StandbyPlace}

@@ -8,7 +8,7 @@ use Rattle.hose_outside.specs.declared.fault.Fault.TheVariants.{Memory}
 use Rattle.hosed.specs.Hosed.{HosedOutcome, OutputAlone}
 use Rattle.hosed.specs.Offline.{Offer}
 use Rattle.hosed.specs.ServerDoor.{DoorSeen}
-use Rattle.hosed.specs.HostWords.{AsksToHost}
+use Rattle.hosed_requests.specs.HostWords.{AsksToHost}
 use Rattle.hosed_host.specs.HostBook.{DoorTellings}
 use Rattle.hosed_program.specs.Given.{AreTextsOf}
 use Rattle.hosed_program.specs.HostCommand.{HostCommand}

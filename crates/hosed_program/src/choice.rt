@@ -6,7 +6,7 @@ ghost use Rattle.hose_outside.specs.Ending.{EndsTold};
 ghost use Rattle.hose_outside.specs.Parts.{AllStay, door_parts, parts, tellings};
 ghost use Rattle.hose_outside.specs.Why.{IsTold, why_status};
 ghost use Rattle.hosed.specs.Failing.{FailsWords};
-ghost use Rattle.hosed.specs.Naming.{NamesOf};
+ghost use Rattle.hosed_requests.specs.Naming.{NamesOf};
 ghost use Rattle.hosed.specs.Offline.{offer_of};
 ghost use Rattle.hosed.specs.ServerDoor.{seen_of};
 ghost use Rattle.hosed_program.specs.Program.{ProgramOutcome, asks_help, text_or_command};
@@ -18,7 +18,8 @@ use hose_io::{Door, Sink, Source, write_all};
 use hose_outside::{Fault, Why};
 use hose_pool::Gate;
 use hose_tariff::{Prices, Tariff};
-use hosed::{Context, Ended, asks_to_serve, hosed_ended, offline_ended};
+use hosed::{Context, Ended, hosed_ended, offline_ended};
+use hosed_requests::asks_to_serve;
 use std::sync::Wait;
 use std::thread::Threads;
 

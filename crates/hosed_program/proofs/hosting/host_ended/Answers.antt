@@ -4,9 +4,9 @@ use Rattle.hose_tariff.specs.contracts.prices.TariffPrices.TheImpl.{prices-value
 use Rattle.hose_outside.specs.Reading.{priced_names}
 use Rattle.hose_outside.specs.Parts.{tellings}
 use Rattle.hose_outside.specs.steps.Parts.{held}
-use Rattle.hosed.specs.HostNaming.{asked_of}
-use Rattle.hosed.specs.ProgramWords.{costs_at}
-use Rattle.hosed.proofs.HostShapes.{none_wrong_of_host, of_one_host}
+use Rattle.hosed_requests.specs.HostNaming.{asked_of}
+use Rattle.hosed_requests.specs.ProgramWords.{costs_at}
+use Rattle.hosed_requests.proofs.HostShapes.{none_wrong_of_host, of_one_host}
 use Rattle.hose_lead.specs.LedStore.{LedState}
 use Rattle.hosed_host.specs.HostBook.{door_tellings}
 use Rattle.hosed_program.specs.HostCommand.{doors_of}

@@ -1,6 +1,6 @@
 use Rattle.std.proofs.Common.{◌≡◌, inl, inr, map, refl, rules}
 use Rattle.std.specs.String.{string_bytes}
-use Rattle.hosed.specs.HostWords.{AsksToHost}
+use Rattle.hosed_requests.specs.HostWords.{AsksToHost}
 use Rattle.hosed_program.proofs.starting.start.Goals as goal
 
 pub returns-then-asks_to_host : goal.returns-then-asks_to_host
