@@ -1,6 +1,6 @@
 -- A disk that is lent by a cabinet, a name that is looked for among texts, and two names that are
 -- told apart.
-use Rattle.std.proofs.Common.{◌≡◌, ℕ, List, Option, None, Some, IfSome, IsSome, IsTrue, Ok, Err, refl}
+use Rattle.std.proofs.Common.{◌≡◌, ◌∙◌, ℕ, List, Option, None, Some, IfSome, IsSome, IsTrue, Ok, Err, refl}
 use Rattle.hose_io.specs.declared.Failed.{Failed}
 use Rattle.hose_disk.specs.Cabinet.{IsDiskCall}
 use Rattle.hose_disk.specs.steps.Cabinet.{IsTextCall}

@@ -16,6 +16,16 @@ pub record Parts (I O C : Type 0) : Type 0 where
 abbrev pub parts : {I O C : Type 0} → I → O → C → Parts I O C
 parts input output cabinet = record { input = input; output = output; cabinet = cabinet }
 
+-- The parts of what is beside a command that serves connections: those of every command, and what
+-- is seen of a door, or doors.
+pub record DoorParts (I O C D : Type 0) : Type 0 where
+  pub parts : Parts I O C
+  pub door : D
+
+-- these, of the parts of every command and of the door
+abbrev pub door_parts : {I O C D : Type 0} → Parts I O C → D → DoorParts I O C D
+door_parts parts door = record { parts = parts; door = door }
+
 -- what each part tells, and the disks of the files
 pub record Tellings (I O C E : Type 0) : Type 1 where
   pub source : SourceGhosts I
