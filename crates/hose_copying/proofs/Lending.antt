@@ -52,6 +52,6 @@ module _ {C E : Type 0} (cabinet : CabinetGhosts C E) where
       out = out;
       done = done;
       in_place = in_place;
-      others = others_then name old mid new out.call.taken_out others others';
+      others = others_then cabinet name old mid new out.call.taken_out others others';
       texts = texts' ∙ texts;
     }
