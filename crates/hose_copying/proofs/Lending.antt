@@ -1,6 +1,6 @@
 -- A disk that is lent by a cabinet, a name that is looked for among texts, and two names that are
 -- told apart.
-use Rattle.std.proofs.Common.{◌≡◌, ℕ, List, Option, None, Some, IfSome, IsSome, IsTrue, Ok, Err, refl}
+use Rattle.std.proofs.Common.{◌≡◌, ◌∙◌, ℕ, List, Option, None, Some, IfSome, IsSome, IsTrue, Ok, Err, refl}
 use Rattle.hose_io.specs.declared.Failed.{Failed}
 use Rattle.hose_disk.specs.Cabinet.{IsDiskCall}
 use Rattle.hose_disk.specs.steps.Cabinet.{IsTextCall}
@@ -52,6 +52,6 @@ module _ {C E : Type 0} (cabinet : CabinetGhosts C E) where
       out = out;
       done = done;
       in_place = in_place;
-      others = others_then name old mid new out.call.taken_out others others';
+      others = others_then cabinet name old mid new out.call.taken_out others others';
       texts = texts' ∙ texts;
     }

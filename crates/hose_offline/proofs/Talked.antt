@@ -52,7 +52,7 @@ module _ {C E : Type 0} (cabinet : CabinetGhosts C E) (disk : DiskGhosts E) (nam
     tells = talk_tellings source sink (store_books disk)
 
     back : IsPutBack cabinet disk name old mid new opens.was closes.left
-    back = put_back IsDecidedAt opens last closing closes
+    back = put_back cabinet disk name old mid new network store IsDecidedAt opens last closing closes
 
     returned : (cabinet.frame new).returned ≡ (disk.frame closes.left).faults
     returned = ap (λ (f : CabinetFrame). f.returned) closes.back.call
