@@ -26,7 +26,7 @@ ghost use Rattle.hose_offline.specs.steps.Talking.{AnswersLine, SaysOneThing, Sa
 ghost use Rattle.hose_offline.specs.steps.TalkingOnDisk.{TalksInCabinet};
 
 use crate::input_line::read_line;
-use crate::talked::done_of_talk;
+use crate::talk_end::done_of_talk;
 use hose_book::{Book, Books, Plain};
 use hose_core::Core;
 use hose_disk::{Cabinet, Disk};

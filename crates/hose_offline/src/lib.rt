@@ -25,7 +25,7 @@ mod input_line;
 mod pricing;
 mod proving;
 mod sheet_answer;
-mod talked;
+mod talk_end;
 mod tally;
 
 pub use answering::run;

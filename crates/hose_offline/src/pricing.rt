@@ -10,7 +10,7 @@ ghost use Rattle.hose_offline.specs.steps.SheetLine.{PricesHose};
 
 use crate::input_line::read_sheet_line;
 use crate::sheet_answer::{SheetAnswer, put_answer};
-use crate::talked::done_of_talk;
+use crate::talk_end::done_of_talk;
 use hose_disk::Cabinet;
 use hose_graph::{Hose, Name, Topology};
 use hose_io::{Failed, Sink, Source};
