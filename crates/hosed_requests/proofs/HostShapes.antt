@@ -17,7 +17,7 @@ use Rattle.hosed_requests.specs.steps.HostForms.{AreHostLine, IsFirstUnfitOfHost
 use Rattle.hosed_requests.specs.declared.host_line.HostWords.{HostWords}
 use Rattle.hosed_requests.proofs.Commands.{no_file, same_apart}
 use Rattle.hosed_requests.proofs.HostCommands.{no_operator_file, no_quiet_file, no_seconds_file, no_standby_file, no_stop_file, operator_is_no_tariff, quiet_is_no_operator, quiet_is_no_tariff, standby_is_no_operator, standby_is_no_quiet, standby_is_no_tariff, stop_is_no_seconds}
-use Rattle.hosed.proofs.HostCommands as by_forms
+use Rattle.hosed_requests.proofs.HostCommands as by_forms
 use Rattle.hosed_requests.proofs.HostDoors.{doors_closed}
 use Rattle.hosed_requests.proofs.ProgramShapes.{adds_option, not_first, tariff_agrees}
 
