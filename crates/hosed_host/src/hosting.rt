@@ -26,6 +26,7 @@ ghost use Rattle.hosed_host.specs.steps.HostOutcome.{AreServable, FailsHosting, 
 
 use crate::opening::{HostDoors, Opened, StandbyPlan, opened_as};
 use crate::reading::open_led;
+use crate::why::HostWhy;
 use hose_audit::audit;
 use hose_book::{Book, Books};
 use hose_clerk::{Clerk, StandbyAt};
@@ -37,7 +38,7 @@ use hose_io::{Failed, Gather, Sink, Source, write_all};
 use hose_lead::LedStore;
 use hose_log::Log;
 use hose_net::{Address, DoorTrouble, Doors, DoorsFault, Parting};
-use hose_outside::{Fault, HostWhy, Outside, Why, close_journal, end, read_topology, tell};
+use hose_outside::{Fault, Outside, Why, close_journal, end, read_topology, tell};
 use hose_paths::{RowTable, RowsInAdvance};
 use hose_store::Decided;
 use hose_tariff::Prices;
