@@ -161,9 +161,9 @@ CHANGES = {
 
 class ProgramCommands(unittest.TestCase):
     def setUp(self):
-        self.files = {"verb": read("hosed", "src", "verb.rt"),
-                      "meaning": read("hosed", "specs", "ProgramWords.antt"),
-                      "host": read("hosed", "specs", "HostWords.antt"),
+        self.files = {"verb": read("hosed_requests", "src", "verb.rt"),
+                      "meaning": read("hosed_requests", "specs", "ProgramWords.antt"),
+                      "host": read("hosed_requests", "specs", "HostWords.antt"),
                       "texts": read("hosed_program", "src", "texts.rt")}
 
     def test_table_and_usage_text_say_one_thing(self):

@@ -17,9 +17,9 @@ use Rattle.hose_talk.proofs.Retold.{talks_as}
 use Rattle.hose_book.specs.declared.books.Books.{Ghosts as BooksGhosts}
 use Rattle.hose_core.specs.steps.Holding.{State}
 use Rattle.hose_proto.specs.ReplyText.{line_of, reply_text}
-use Rattle.hose_offline.specs.Fault.{done_of_talk}
+use Rattle.hose_offline.specs.Talking.{done_of_talk}
 use Rattle.hose_offline.specs.steps.Talking.{AreAnswered, HasAnsweredLines, SaysAlone, Talks, talk_tellings}
-use Rattle.hose_offline.specs.declared.fault.Fault.{Fault}
+use Rattle.hose_outside.specs.declared.fault.Fault.{Fault}
 
 module _ {S O K R A : Type 0} (source : Ghosts S) (sink : SinkGhosts O) (books : BooksGhosts K R) (since : List Entry) (first : State K) (core_of : A → State K) (start last : Reader S) (output output' : O) where
   abbrev network : Network

@@ -6,12 +6,12 @@ use Rattle.hose_io.specs.Stream.{Grows}
 use Rattle.hose_io.specs.Writing.{GrowsInPart}
 use Rattle.hose_io.specs.declared.sink.Sink.{Ghosts as SinkGhosts}
 use Rattle.hose_io.proofs.Streams.{Grows-append}
-use Rattle.hose_offline.specs.Ending.{IsLastLine, IsOut, status_of_done}
-use Rattle.hose_offline.specs.Fault.{last_line}
+use Rattle.hose_outside.specs.Ending.{IsLastLine, IsOut, status_of_done}
+use Rattle.hose_outside.specs.Fault.{last_line}
 use Rattle.hose_offline.specs.GenOutcome.{EndsSummary}
 use Rattle.hose_offline.specs.steps.GenOutcome.{GenLeaves}
-use Rattle.hose_offline.specs.declared.fault.Fault.{Fault}
-use Rattle.hose_offline.specs.declared.fault.Fault.TheVariants.{Write, Memory}
+use Rattle.hose_outside.specs.declared.fault.Fault.{Fault}
+use Rattle.hose_outside.specs.declared.fault.Fault.TheVariants.{Write, Memory}
 use Rattle.hose_offline.specs.declared.generating.Sizes.{Sizes}
 
 -- a part that is out, and nothing after it

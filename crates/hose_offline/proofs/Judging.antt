@@ -15,8 +15,8 @@ use Rattle.hose_io.specs.declared.source.Source.{Ghosts as SourceGhosts}
 use Rattle.hose_graph.specs.Network.{Network}
 use Rattle.hose_cert.specs.declared.Verdict.{Verdict}
 use Rattle.hose_offline.specs.CheckOutcome.{CheckOutcome, EndsChecked, JudgesNamed}
-use Rattle.hose_offline.specs.Parts.{Parts, Tellings}
-use Rattle.hose_offline.specs.declared.fault.Fault.{Fault}
+use Rattle.hose_outside.specs.Parts.{Parts, Tellings}
+use Rattle.hose_outside.specs.declared.fault.Fault.{Fault}
 
 -- ---- a reader that has taken nothing
 

@@ -14,22 +14,23 @@ use Rattle.hose_disk.specs.declared.disk.Disk.{Ghosts as DiskGhosts}
 use Rattle.hose_store.specs.steps.Commit.{store_books}
 use Rattle.hose_topo.specs.TopologyText.{IsTopologyText}
 use Rattle.hose_offline.specs.OnDisk.{on_disk}
-use Rattle.hose_offline.specs.Parts.{Parts, Tellings, parts, tellings}
-use Rattle.hose_offline.specs.Run.{HasNetwork, HasText, in_memory}
+use Rattle.hose_outside.specs.Parts.{Parts, Tellings, parts, tellings}
+use Rattle.hose_outside.specs.TopologyTold.{HasNetwork, HasText, TellsPriced}
+use Rattle.hose_offline.specs.Run.{in_memory}
 use Rattle.hose_offline.specs.RunOutcome.{InputWorked, RunLeaves}
 use Rattle.hose_talk.specs.Talk.{talk}
 use Rattle.hose_offline.specs.steps.Talking.{TalksInMemory, plain_books, talk_tellings}
 use Rattle.hose_offline.specs.steps.TalkingOnDisk.{HasTalkedInCabinet, TalksInCabinet}
-use Rattle.hose_offline.specs.TopologyTold.{TellsPriced}
-use Rattle.hose_offline.specs.declared.notation.Notation.TheVariants.{Lines}
+use Rattle.hose_outside.specs.declared.notation.Notation.TheVariants.{Lines}
 use Rattle.hose_words.proofs.OnReading.{WhereTold-map}
-use Rattle.hose_offline.specs.Unopened.{OpensNoJournal, first_of}
-use Rattle.hose_offline.specs.declared.fault.Fault.{Fault}
-use Rattle.hose_offline.specs.declared.fault.Fault.TheVariants as fault
+use Rattle.hose_outside.specs.Unopened.{OpensNoJournal, first_of}
+use Rattle.hose_outside.specs.declared.fault.Fault.{Fault}
+use Rattle.hose_outside.specs.declared.fault.Fault.TheVariants as fault
 use Rattle.hose_offline.proofs.Borrowed.{held_behind, rose_behind}
 use Rattle.hose_offline.proofs.CutRuns.{cut_behind}
 use Rattle.hose_offline.proofs.OneRun.{OneText}
-use Rattle.hose_offline.proofs.Running.{never_told, ran, text_read, text_told}
+use Rattle.hose_offline.proofs.Running.{never_told, ran, text_read}
+use Rattle.hose_outside.proofs.TextsRead.{text_told}
 
 module _ (prices : Network → Network → Type 0) {S O C E : Type 0} (source : Ghosts S) (sink : SinkGhosts O) (cabinet : CabinetGhosts C E) (disk : DiskGhosts E) (start middle last : Reader S) (told network : Network) (priced : prices told network) (output output' : O) (place place' : C) (is : IsNetwork network) (empty : start.pending ≡ [])
     (text : WhereTold (source.content start.source) (source.content middle.source) (λ input left. IsTopologyText (start.pending ++ input) told (middle.pending ++ left)))

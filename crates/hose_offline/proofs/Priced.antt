@@ -3,16 +3,16 @@ use Rattle.std.proofs.Common.{◌≡◌, ◌≢◌, ◌∙◌, inl, inr, ℕ, Li
 use Rattle.std.specs.Prelude.{⊤}
 use Rattle.hose_io.proofs.Streams.{Gives-nil}
 use Rattle.hose_graph.specs.Network.{Network}
-use Rattle.hose_offline.specs.Auditing.{ReadsTopology}
-use Rattle.hose_offline.specs.Ending.{IsLastLine, IsOut, status_of_done}
-use Rattle.hose_offline.specs.Fault.{last_line, status_of}
+use Rattle.hose_outside.specs.Reading.{ReadsTopology}
+use Rattle.hose_outside.specs.Ending.{IsLastLine, IsOut, status_of_done}
+use Rattle.hose_outside.specs.Fault.{last_line, status_of}
 use Rattle.hose_offline.specs.Named.{ReadsThen}
-use Rattle.hose_offline.specs.Parts.{Parts, Tellings}
+use Rattle.hose_outside.specs.Parts.{Parts, Tellings}
 use Rattle.hose_offline.specs.PriceOutcome.{AnswersBySheet, PriceOutcome, PricesInput, Pricing}
-use Rattle.hose_offline.specs.TopologyTold.{own_costs}
-use Rattle.hose_offline.specs.declared.fault.Fault.{Fault}
-use Rattle.hose_offline.specs.declared.fault.Fault.TheVariants as fault
-use Rattle.hose_offline.proofs.MoveTexts.{topology_not_1}
+use Rattle.hose_outside.specs.TopologyTold.{own_costs}
+use Rattle.hose_outside.specs.declared.fault.Fault.{Fault}
+use Rattle.hose_outside.specs.declared.fault.Fault.TheVariants as fault
+use Rattle.hose_outside.proofs.Outcomes.{topology_not_1}
 use Rattle.hose_offline.proofs.TalksTold.{told_no_words}
 
 module _ {I O C E : Type 0} (tells : Tellings I O C E) (pricing : Pricing) where

@@ -2,12 +2,12 @@
 use Rattle.std.proofs.Common.{◌≡◌, inl, inr, ℕ, List, Result, Ok, Err, refl}
 use Rattle.std.specs.Prelude.{⊤}
 use Rattle.hose_graph.specs.Network.{Network}
-use Rattle.hose_offline.specs.Auditing.{ReadsTopology}
-use Rattle.hose_offline.specs.Ending.{IsLastLine, IsOut, status_of_done}
-use Rattle.hose_offline.specs.Fault.{last_line, status_of}
-use Rattle.hose_offline.specs.Parts.{Parts, Tellings}
+use Rattle.hose_outside.specs.Reading.{ReadsTopology}
+use Rattle.hose_outside.specs.Ending.{IsLastLine, IsOut, status_of_done}
+use Rattle.hose_outside.specs.Fault.{last_line, status_of}
+use Rattle.hose_outside.specs.Parts.{Parts, Tellings}
 use Rattle.hose_offline.specs.ProveOutcome.{EndsFrom, ProveOutcome, ProvesWords}
-use Rattle.hose_offline.specs.declared.fault.Fault.{Fault}
+use Rattle.hose_outside.specs.declared.fault.Fault.{Fault}
 
 module _ {I O C E : Type 0} (tells : Tellings I O C E) (prices : Network → Network → Type 0) (topology : List ℕ) (ends : EndsFrom) (before : Parts I O C) (place : C) where
   -- no topology was read

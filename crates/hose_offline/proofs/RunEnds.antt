@@ -9,14 +9,15 @@ use Rattle.hose_graph.specs.Network.{Network}
 use Rattle.hose_words.specs.declared.lines.TheConstants.{INPUT_LIMIT}
 use Rattle.hose_words.specs.steps.Lines.{Reader}
 use Rattle.hose_words.specs.steps.Reading.{ReadsOn}
-use Rattle.hose_offline.specs.Ending.{IsLastLine, TakesWithinLimit, status_of_done}
-use Rattle.hose_offline.specs.OnDisk.{OthersStay}
-use Rattle.hose_offline.specs.Parts.{Parts, Tellings, parts}
+use Rattle.hose_outside.specs.Ending.{IsLastLine, TakesWithinLimit, status_of_done}
+use Rattle.hose_outside.specs.OnDisk.{OthersStay}
+use Rattle.hose_outside.specs.Parts.{Parts, Tellings, parts}
 use Rattle.hose_offline.specs.RunOutcome.{RunLeaves, RunOutcome}
-use Rattle.hose_offline.specs.declared.fault.Fault.{Fault}
-use Rattle.hose_offline.specs.declared.fault.Fault.TheVariants.{TooLong}
-use Rattle.hose_offline.specs.declared.notation.Notation.TheVariants.{Lines}
-use Rattle.hose_offline.proofs.Outcomes.{completes, refuses, refused_ends, too_long_at_8}
+use Rattle.hose_outside.specs.declared.fault.Fault.{Fault}
+use Rattle.hose_outside.specs.declared.fault.Fault.TheVariants.{TooLong}
+use Rattle.hose_outside.specs.declared.notation.Notation.TheVariants.{Lines}
+use Rattle.hose_offline.proofs.RunOutcomes.{completes, refuses, refused_ends}
+use Rattle.hose_outside.proofs.Outcomes.{too_long_at_8}
 
 -- so many bytes were taken of an input, whose reader gave up exactly where they are too many
 abbrev pub Takes : {T : Type 0} → Ghosts T → T → T → Result ⊤ Fault → Type 0

@@ -13,13 +13,13 @@ use Rattle.hose_disk.specs.Cabinet.{object_of}
 use Rattle.hose_topo.specs.declared.fault.TopoFault.{TopoFault}
 use Rattle.hose_topo.specs.declared.fault.TopoFault.TheVariants as topo
 use Rattle.hose_store.specs.steps.Store.{KeptStore}
-use Rattle.hose_offline.specs.OnDisk.{OthersStay}
-use Rattle.hose_offline.specs.Parts.{Tellings, parts}
+use Rattle.hose_outside.specs.OnDisk.{OthersStay}
+use Rattle.hose_outside.specs.Parts.{Tellings, parts}
 use Rattle.hose_offline.specs.steps.Answering.{KeepsRun}
-use Rattle.hose_offline.specs.steps.Fault.{of_topology}
-use Rattle.hose_offline.specs.steps.Journal.{ClosesJournal, IsOpenCall}
-use Rattle.hose_offline.specs.declared.fault.Fault.{Fault}
-use Rattle.hose_offline.specs.declared.fault.Fault.TheVariants.{Memory, Read, TooLong}
+use Rattle.hose_outside.specs.steps.Fault.{of_topology}
+use Rattle.hose_outside.specs.steps.Journal.{ClosesJournal, IsOpenCall}
+use Rattle.hose_outside.specs.declared.fault.Fault.{Fault}
+use Rattle.hose_outside.specs.declared.fault.Fault.TheVariants.{Memory, Read, TooLong}
 
 -- ---- where the run ended early
 

@@ -21,63 +21,35 @@ use Rattle.hose_book.specs.steps.GoingOn.{GoesOn}
 use Rattle.hose_book.specs.declared.books.Books.{Ghosts as BooksGhosts}
 use Rattle.hose_io.specs.declared.sink.Sink.{Ghosts as SinkGhosts}
 use Rattle.hose_offline.specs.RunOutcome.{RunLeaves}
-use Rattle.hose_offline.specs.Parts.{Tellings, parts}
-use Rattle.hose_offline.specs.Run.{HasRun, IsCutOff, IsRun, IsRunUpTo, Keeping, TellsNoNetwork}
+use Rattle.hose_outside.specs.Parts.{Tellings, parts}
+use Rattle.hose_offline.specs.Run.{HasRun, IsCutOff, IsRun, IsRunUpTo, Keeping}
+use Rattle.hose_outside.specs.TopologyTold.{TellsNoNetwork, TellsPriced}
 use Rattle.hose_words.specs.Saying.{IsAllTaken, SayLines}
 use Rattle.hose_proto.specs.ReplyText.{line_of, reply_text}
 use Rattle.hose_proto.specs.Replies.{CutsLast, texts_of}
-use Rattle.hose_offline.specs.TopologyTold.{TellsPriced}
-use Rattle.hose_offline.specs.declared.notation.Notation.TheVariants.{Lines}
-use Rattle.hose_offline.specs.declared.notation.Refusal.TheVariants.{Word}
-use Rattle.hose_offline.specs.Fault.{done_of_talk}
-use Rattle.hose_offline.specs.steps.Fault.{of_topology}
-use Rattle.hose_talk.specs.Talk.{talk}
-use Rattle.hose_offline.specs.Talking.{IsAskedBy, Says, TellsDisks}
+use Rattle.hose_outside.specs.declared.notation.Notation.TheVariants.{Lines}
+use Rattle.hose_outside.specs.declared.notation.Refusal.TheVariants.{Word}
+use Rattle.hose_offline.specs.Talking.{done_of_talk, IsAskedBy, Says, TellsDisks}
+use Rattle.hose_outside.specs.steps.Fault.{of_topology}
+use Rattle.hose_talk.specs.Talk.{talk, AllOut, IsCutNear, LastCut, TalksTo, TalksUpTo}
 use Rattle.hose_offline.specs.steps.Talking.{Talks, talk_tellings, book_terms}
-use Rattle.hose_offline.proofs.Provided.{decided_provides}
+use Rattle.hose_outside.proofs.Provided.{decided_provides}
 use Rattle.hose_offline.proofs.CutRuns.{cut_in_run}
-use Rattle.hose_talk.specs.Talk.{AllOut, IsCutNear, LastCut, TalksTo, TalksUpTo}
 use Rattle.hose_talk.specs.steps.Talk.{IsCutByReader, KeepsFault}
 use Rattle.hose_talk.specs.declared.talking.TalkEnd.{TalkEnd}
 use Rattle.hose_talk.specs.declared.talking.TalkEnd.TheVariants as talk_end
 use Rattle.hose_talk.specs.declared.talking.TalkFault.{TalkFault}
 use Rattle.hose_talk.specs.declared.talking.TalkFault.TheVariants as talk_fault
 use Rattle.hose_topo.specs.Reading.{StopsInTopology}
-use Rattle.hose_topo.specs.steps.Reading.{fault_of, KeepsLineFault}
-use Rattle.hose_topo.specs.TopologyText.{IsTopologyText, IsWrongAt}
-use Rattle.hose_offline.specs.declared.fault.Fault.{Fault}
-use Rattle.hose_offline.specs.declared.fault.Fault.TheVariants as fault
+use Rattle.hose_topo.specs.steps.Reading.{fault_of}
+use Rattle.hose_topo.specs.TopologyText.{IsTopologyText}
+use Rattle.hose_outside.specs.declared.fault.Fault.{Fault}
+use Rattle.hose_outside.specs.declared.fault.Fault.TheVariants as fault
 use Rattle.hose_topo.specs.declared.fault.TopoFault.{TopoFault}
 use Rattle.hose_topo.specs.declared.fault.TopoFault.TheVariants.{At, Read, TooLong, Memory as TopoMemory}
 use Rattle.hose_offline.proofs.OneReading.{OneThingEach, no_more, said_alone, said_next}
 use Rattle.hose_offline.proofs.OneRun.{OneInput, OneText, right_alone}
-
--- reading stopped inside the topology
-pub stopped_told : {S : Type 0} (source : Ghosts S) (start last : Reader S) (fault : LineFault) → start.pending ≡ []
-    → WhereTold (source.content start.source) (source.content last.source) (λ input left. StopsInTopology fault (start.pending ++ input) left)
-    → WhereTold (source.content start.source) (source.content last.source) (StopsInTopology fault)
-stopped_told source start last fault empty told = WhereTold-map (source.content start.source) (source.content last.source) _ _ told
-    (λ a b stopped. subst (λ (p : List ℕ). StopsInTopology fault (p ++ a) b) empty stopped)
-
--- the text of a network was read
-pub text_told : {S : Type 0} (source : Ghosts S) (start last : Reader S) (network : Network) → start.pending ≡ []
-    → WhereTold (source.content start.source) (source.content last.source) (λ input left. IsTopologyText (start.pending ++ input) network (last.pending ++ left))
-    → WhereTold (source.content start.source) (source.content last.source) (λ input _. (rest : List ℕ) × IsTopologyText input network rest)
-text_told source start last network empty told = WhereTold-map (source.content start.source) (source.content last.source) _ _ told
-    (λ a b is. (last.pending ++ b, subst (λ (p : List ℕ). IsTopologyText (p ++ a) network (last.pending ++ b)) empty is))
-
--- the topology is wrong
-pub wrong_told : {S : Type 0} (source : Ghosts S) (start last : Reader S) (line word : ℕ) → start.pending ≡ []
-    → WhereTold (source.content start.source) (source.content last.source) (λ before after. IsWrongAt (start.pending ++ before) line word (last.pending ++ after))
-    → WhereTold (source.content start.source) (source.content last.source) (λ before _. (network : Network) (rest : List ℕ) → IsTopologyText (start.pending ++ before) network rest → ⊥)
-    → TellsNoNetwork Lines (Word line word) (source.content start.source) (source.content last.source)
-wrong_told source start last line word empty wrong none =
-    WhereTold-map (source.content start.source) (source.content last.source) _ _
-    (WhereTold-both (source.content start.source) (source.content last.source) _ _ wrong none)
-    (λ a b both. (
-      (last.pending ++ b, subst (λ (p : List ℕ). IsWrongAt (p ++ a) line word (last.pending ++ b)) empty both.0),
-      λ network tells. subst (λ (p : List ℕ). (n : Network) (rest : List ℕ) → IsTopologyText (p ++ a) n rest → ⊥) empty both.1 network tells.0 tells.1,
-    ))
+use Rattle.hose_outside.proofs.TextsRead.{text_told}
 
 -- up to the end of the input
 pub run_of : (prices : Network → Network → Type 0) (keeping : Keeping) (old new : Option Stream) (before after : Option (List ℕ)) (run : HasRun prices keeping old new IsAllTaken) → IsNetwork run.network
@@ -103,13 +75,6 @@ never_told (reply ∷ replies) (inl told) = All-cons (λ r. ¬ IsForDisk r) repl
     is_none reply none disk = disk
 
 -- ---- what a run leaves
-
--- the reader has no fault of reading where that is not why no topology was read
-pub not_read : (topology : TopoFault) (old new : Option LineFault) → old ≡ None → KeepsLineFault old new (Err topology) → (topology ≡ Read → ⊥) → new ≢ Some line.Read
-not_read (At l word) old new none kept other read = cc (kept.1, read)
-not_read Read old new none kept other read = other refl
-not_read TooLong old new none kept other read = cc (kept, read)
-not_read TopoMemory old new none kept other read = cc (kept, none, read)
 
 -- where no topology was read
 pub leaves_topology : {S O C E : Type 0} (T : Type 0) (tells : Tellings S O C E) (prices : Network → Network → Type 0) (journal : Option (List ℕ)) (start last : Reader S) (output : O) (place : C) (topology : TopoFault)

@@ -11,12 +11,12 @@ use Rattle.hose_cert.specs.Verdict.{AreCheapestFound, IsVerdict}
 use Rattle.hose_cert.specs.declared.Verdict.{Verdict}
 use Rattle.hose_cert.specs.declared.Verdict.TheVariants.{Yes, No}
 use Rattle.hose_proto.specs.ReplyText.{line_of}
-use Rattle.hose_offline.specs.Ending.{EndsTold, IsOut}
-use Rattle.hose_offline.specs.Fault.{last_line, status_of}
+use Rattle.hose_outside.specs.Ending.{EndsTold, IsOut}
+use Rattle.hose_outside.specs.Fault.{last_line, status_of}
 use Rattle.hose_offline.specs.Named.{ReadsThen}
-use Rattle.hose_offline.specs.Parts.{Parts, Tellings}
-use Rattle.hose_offline.specs.declared.fault.Fault.{Fault}
-use Rattle.hose_offline.specs.declared.fault.Fault.TheVariants.{Read, Memory, TooLong}
+use Rattle.hose_outside.specs.Parts.{Parts, Tellings}
+use Rattle.hose_outside.specs.declared.fault.Fault.{Fault}
+use Rattle.hose_outside.specs.declared.fault.Fault.TheVariants.{Read, Memory, TooLong}
 
 -- ---- the input
 

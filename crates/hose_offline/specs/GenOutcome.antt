@@ -6,12 +6,12 @@ use Rattle.hose_graph.specs.declared.command.Reply.{Reply}
 use Rattle.hose_graph.specs.Network.{Network}
 use Rattle.hose_law.specs.History.{book_of}
 use Rattle.hose_gen.specs.Generated.{Order, generated_network, generated_script}
-use Rattle.hose_offline.specs.Ending.{EndsTold, IsOut}
-use Rattle.hose_offline.specs.Fault.{last_line}
+use Rattle.hose_outside.specs.Ending.{EndsTold, IsOut}
+use Rattle.hose_outside.specs.Fault.{last_line}
 use Rattle.hose_offline.specs.Generating.{IsScriptOf}
-use Rattle.hose_offline.specs.Parts.{Parts, Tellings}
+use Rattle.hose_outside.specs.Parts.{Parts, Tellings}
 use Rattle.hose_offline.specs.Tally.{tally_line, tally_of}
-use Rattle.hose_offline.specs.declared.fault.Fault.TheVariants.{Memory}
+use Rattle.hose_outside.specs.declared.fault.Fault.TheVariants.{Memory}
 use Rattle.hose_offline.specs.declared.generating.Sizes.{Sizes}
 
 -- the network of these sizes

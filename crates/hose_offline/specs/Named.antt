@@ -1,9 +1,9 @@
 -- What is done by the network of a topology that is named.
 use Rattle.std.specs.Prelude.{◌≡◌, ◌⊎◌, List, ℕ, Result, Ok, Err}
 use Rattle.hose_graph.specs.Network.{Network}
-use Rattle.hose_offline.specs.Auditing.{ReadsTopology}
-use Rattle.hose_offline.specs.Parts.{Parts, Tellings}
-use Rattle.hose_offline.specs.declared.fault.Fault.{Fault}
+use Rattle.hose_outside.specs.Reading.{ReadsTopology}
+use Rattle.hose_outside.specs.Parts.{Parts, Tellings}
+use Rattle.hose_outside.specs.declared.fault.Fault.{Fault}
 
 module _ {I O C E : Type 0} (tells : Tellings I O C E) (prices : Network → Network → Type 0)
     (name : List ℕ) (before after : Parts I O C) where

@@ -9,14 +9,14 @@ use Rattle.hose_graph.specs.Network.{Network}
 use Rattle.hose_proto.specs.ReplyText.{line_of}
 use Rattle.hose_price.specs.Sheet.{IsColumnBy, IsSheet, Sheet}
 use Rattle.hose_price.specs.declared.sheet.Column.{Column}
-use Rattle.hose_offline.specs.Ending.{EndsAfter}
-use Rattle.hose_offline.specs.Fault.{done_of_talk}
+use Rattle.hose_outside.specs.Ending.{EndsAfter}
+use Rattle.hose_offline.specs.Talking.{done_of_talk}
 use Rattle.hose_offline.specs.Named.{ReadsThen}
-use Rattle.hose_offline.specs.Parts.{Parts, Tellings}
+use Rattle.hose_outside.specs.Parts.{Parts, Tellings}
 use Rattle.hose_offline.specs.SheetLine.{AnswersSheet, answer_text}
-use Rattle.hose_offline.specs.TopologyTold.{own_costs}
-use Rattle.hose_offline.specs.declared.fault.Fault.{Fault}
-use Rattle.hose_offline.specs.declared.fault.Fault.TheVariants.{Memory, TooLong}
+use Rattle.hose_outside.specs.TopologyTold.{own_costs}
+use Rattle.hose_outside.specs.declared.fault.Fault.{Fault}
+use Rattle.hose_outside.specs.declared.fault.Fault.TheVariants.{Memory, TooLong}
 
 -- ---- the input
 

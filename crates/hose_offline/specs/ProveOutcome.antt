@@ -10,11 +10,11 @@ use Rattle.hose_cert.specs.Written.{GrowsByLines, GrowsByPart, GrowsByWhole, Has
 use Rattle.hose_proto.specs.Command.{AreEndsOf}
 use Rattle.hose_proto.specs.EndWords.{IsFirstUnknown}
 use Rattle.hose_proto.specs.ReplyText.{line_of}
-use Rattle.hose_offline.specs.Ending.{EndsAfter, OutputWorked}
+use Rattle.hose_outside.specs.Ending.{EndsAfter, OutputWorked}
 use Rattle.hose_offline.specs.Named.{ReadsThen}
-use Rattle.hose_offline.specs.Parts.{Parts, Tellings}
-use Rattle.hose_offline.specs.declared.fault.Fault.{Fault}
-use Rattle.hose_offline.specs.declared.fault.Fault.TheVariants.{Memory, Words, Write}
+use Rattle.hose_outside.specs.Parts.{Parts, Tellings}
+use Rattle.hose_outside.specs.declared.fault.Fault.{Fault}
+use Rattle.hose_outside.specs.declared.fault.Fault.TheVariants.{Memory, Words, Write}
 
 -- ---- the output
 

@@ -1,5 +1,5 @@
 -- A run from its first byte to its last.
-use Rattle.std.specs.Prelude.{◌≡◌, ℕ, ◌≤◌, List, [], length, Option, MatchOption, Some, take}
+use Rattle.std.specs.Prelude.{◌≡◌, ℕ, List, [], length, Option}
 use mathlib.Core.List.{IsPrefix}
 use Rattle.hose_io.specs.Stream.{Stream, Grows}
 use Rattle.hose_words.specs.Lines.{StopsAfterLines}
@@ -7,10 +7,7 @@ use Rattle.hose_words.specs.declared.lines.LineFault.{LineFault}
 use Rattle.hose_graph.specs.declared.entry.Entry.{Entry}
 use Rattle.hose_graph.specs.declared.command.Reply.{Reply}
 use Rattle.hose_graph.specs.Network.{Network}
-use Rattle.hose_law.specs.Book.{IsOversold}
-use Rattle.hose_law.specs.Cheapest.{AreCheapest}
-use Rattle.hose_law.specs.History.{book_of, IsDecided}
-use Rattle.hose_law.specs.Live.{AreLiveUnreleased, StaysLive}
+use Rattle.hose_law.specs.History.{IsDecided}
 use Rattle.hose_law.specs.Quotes.{Holdings, nothing_held}
 use Rattle.hose_law.specs.Script.{ReadLine, IsScript, WithoutDisk, WithoutMemory, script_state}
 use Rattle.hose_topo.specs.TopologyText.{IsTopologyText}
@@ -18,9 +15,7 @@ use Rattle.hose_words.specs.Reading.{WhereTold}
 use Rattle.hose_proto.specs.Replies.{CutsLast, texts_of}
 use Rattle.hose_words.specs.Saying.{IsAllTaken, SayLines}
 use Rattle.hose_offline.specs.Talking.{Says}
-use Rattle.hose_offline.specs.TopologyTold.{IsRefusedAs, Tells, TellsPriced, limit_of}
-use Rattle.hose_offline.specs.declared.notation.Notation.{Notation}
-use Rattle.hose_offline.specs.declared.notation.Refusal.{Refusal}
+use Rattle.hose_outside.specs.Provides.{Provides}
 
 -- lines that were answered on a network from a history on: the history that they led to, and their
 -- replies
@@ -69,22 +64,11 @@ pub record IsRightFor (prices : Network → Network → Type 0) (network : Netwo
   pub disk : WithoutDisk replies
   pub out : output ≡ texts_of network replies
 
--- What a history of a network provides, which began with another one. At each place of it no link
--- is oversold, and exactly those VPNs are live that were admitted before it and not released since,
--- each as it was admitted. What each admission after the beginning reserves carries every matrix
--- within the rates of its hose, and no tree over the links allowed at the book before it carries
--- them at less cost.
-pub record Provides (network : Network) (since history : List Entry) : Type 0 where
-  pub none_oversold : (place l : ℕ) → ¬ IsOversold network (book_of 0 (take place history)) l
-  pub held : (place : ℕ) → place ≤ length history → AreLiveUnreleased 0 history place
-  pub kept : (place : ℕ) → StaysLive 0 history place
-  pub cheapest : AreCheapest network 0 (length since) history
-
 -- The input is the text of a network, of which prices make this one, and then lines that were
 -- answered: the replies are those of the script of the lines from the history with which the book
--- began, where no customer holds a quote. The history that it leads to goes on from there, is sound,
--- and decided from there on, and provides what it is to. `stops` says how the input stands to what
--- comes after the lines and to what is left.
+-- began, where no customer holds a quote. The history that it leads to goes on from there, is
+-- sound, and decided from there on, and provides what it is to. `stops` says how the input stands
+-- to what comes after the lines and to what is left.
 pub record HasRun (prices : Network → Network → Type 0) (keeping : Keeping)
     (old new : Option Stream) (stops : List ℕ → List ℕ → List ℕ → Type 0) : Type 0 where
   pub told : Network
@@ -131,36 +115,3 @@ pub record IsCutOff (prices : Network → Network → Type 0) (keeping : Keeping
     (before after : Option (List ℕ)) : Type 0 where
   pub run : HasRun prices keeping old new cut
   pub out : CutsLast run.network before after run.replies
-
--- the text tells no network, and is refused so
-abbrev pub TellsNoNetwork : Notation → Refusal → Option Stream → Option Stream → Type 0
-TellsNoNetwork written refusal old new = WhereTold old new (λ text _.
-    IsRefusedAs written refusal text × ((network : Network) → ¬ Tells written text network))
-
--- The text is told, and tells no network.
-abbrev pub IsRefusedText : Notation → Option Stream → Option Stream → Type 0
-IsRefusedText written (Some old) (Some new) = (network : Network) → ¬ Tells written old.left network
-IsRefusedText written _ _ = ⊥
-
--- The text is told: it tells a network, and is not too long.
-abbrev pub IsServable : Notation → Option Stream → Type 0
-IsServable written text = MatchOption text ⊥ (λ stream. (network : Network)
-    × Tells written stream.left network × (length stream.left ≤ limit_of written))
-
--- The text is told, and this holds of each network that prices make of one that it tells.
-abbrev pub IsFor : Notation → (Network → Network → Type 0) → Option Stream → (Network → Type 0)
-    → Type 0
-IsFor written prices text Is = MatchOption text ⊥ (λ stream. (network : Network)
-    → TellsPriced written prices stream.left network → Is network)
-
--- the text tells a network
-abbrev pub HasText : Notation → Option Stream → Option Stream → Type 0
-HasText written old new =
-    WhereTold old new (λ text _. (network : Network) × Tells written text network)
-
--- the text tells a network, and of the one that prices make of it this holds
-pub record HasNetwork (written : Notation) (prices : Network → Network → Type 0)
-    (old new : Option Stream) (Is : Network → Type 0) : Type 0 where
-  pub network : Network
-  pub text : WhereTold old new (λ text _. TellsPriced written prices text network)
-  pub is : Is network

@@ -12,13 +12,15 @@ use Rattle.hose_journal.specs.Image.{Meaning, damaged, other}
 use Rattle.hose_store.specs.Recovery.{IsHistoryOf, digest_of}
 use Rattle.hose_talk.specs.Talk.{IsCutNear}
 use Rattle.hose_topo.specs.Reading.{StopsInTopology}
-use Rattle.hose_offline.specs.Ending.{EndsAfter, NoneFailed, OutputWorked, TakesWithinLimit}
-use Rattle.hose_offline.specs.OnDisk.{CabinetFailed, IsRefusedOnDisk, JournalIsTold, IsUnopened, OthersStay, keeping_of}
-use Rattle.hose_offline.specs.Parts.{Parts, Tellings}
-use Rattle.hose_offline.specs.Run.{HasNetwork, HasText, IsCutOff, IsFor, IsRefusedText, IsRun, IsRunUpTo, IsServable, Keeping, TellsNoNetwork}
-use Rattle.hose_offline.specs.declared.fault.Fault.{Fault}
-use Rattle.hose_offline.specs.declared.notation.Notation.TheVariants.{Lines}
-use Rattle.hose_offline.specs.declared.fault.Fault.TheVariants.{Topology, Read, Write, Other, Damaged, Cabinet, Memory, TooLong}
+use Rattle.hose_outside.specs.Ending.{EndsAfter, NoneFailed, OutputWorked, TakesWithinLimit}
+use Rattle.hose_outside.specs.OnDisk.{CabinetFailed, IsRefusedOnDisk, JournalIsTold, IsUnopened, OthersStay}
+use Rattle.hose_offline.specs.OnDisk.{keeping_of}
+use Rattle.hose_outside.specs.Parts.{Parts, Tellings}
+use Rattle.hose_outside.specs.TopologyTold.{HasNetwork, HasText, IsFor, IsRefusedText, IsServable, TellsNoNetwork}
+use Rattle.hose_offline.specs.Run.{IsCutOff, IsRun, IsRunUpTo, Keeping}
+use Rattle.hose_outside.specs.declared.fault.Fault.{Fault}
+use Rattle.hose_outside.specs.declared.notation.Notation.TheVariants.{Lines}
+use Rattle.hose_outside.specs.declared.fault.Fault.TheVariants.{Topology, Read, Write, Other, Damaged, Cabinet, Memory, TooLong}
 
 module _ {I O C E : Type 0} (tells : Tellings I O C E) (before after : Parts I O C) where
   -- this holds of what the input told

@@ -1,5 +1,5 @@
 -- What the lines after a topology say, and what is answered to them.
-use Rattle.std.specs.Prelude.{◌≡◌, ◌⊎◌, ℕ, ◌+◌, ◌-◌, ◌^◌, ◌<◌, ◌≤◌, List, length, slice_get, take, Some}
+use Rattle.std.specs.Prelude.{◌≡◌, ◌⊎◌, ℕ, ◌+◌, ◌-◌, ◌^◌, ◌<◌, ◌≤◌, List, length, slice_get, take, Some, Result, Ok, Err, ⊤}
 use Rattle.hose_words.specs.Shapes.{IsFirstWrong}
 use Rattle.hose_words.specs.Words.{words_of}
 use Rattle.hose_words.specs.Limits.{line_limit}
@@ -14,6 +14,11 @@ use Rattle.hose_law.specs.Quotes.{Holding, Holdings, nothing_held}
 use Rattle.hose_law.specs.Script.{IsScript, ReadLine, disks_in, script_state}
 use Rattle.hose_law.specs.Script.ReadLine.{Asks, IsBad, IsLong, Unread}
 use Rattle.hose_offline.specs.ScriptLine.{IsAsking, WantsMemory, script_shape}
+use Rattle.hose_talk.specs.declared.talking.TalkEnd.{TalkEnd}
+use Rattle.hose_talk.specs.declared.talking.TalkFault.{TalkFault}
+use Rattle.hose_talk.specs.declared.talking.TalkFault.TheVariants as talk_fault
+use Rattle.hose_outside.specs.declared.fault.Fault.{Fault}
+use Rattle.hose_outside.specs.declared.fault.Fault.TheVariants.{Read, Write, TooLong}
 
 -- What a line of bytes says: a customer's command, a first word that is not allowed, or too much;
 -- or it is left unread for want of memory, which its command may take.
@@ -52,3 +57,10 @@ pub record IsAskedBy (since : List Entry) (lines : List ReadLine) (replies : Lis
   pub after : Holding
   pub step : IsStepOf network 0 history customer (held customer) command reply (Some entry) next
       after
+
+-- what answering lines came to, as a command tells it
+abbrev pub done_of_talk : Result TalkEnd TalkFault → Result ⊤ Fault
+done_of_talk (Ok end) = Ok tt
+done_of_talk (Err talk_fault.Read) = Err Read
+done_of_talk (Err talk_fault.TooLong) = Err TooLong
+done_of_talk (Err talk_fault.Write) = Err Write

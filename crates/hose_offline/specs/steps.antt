@@ -1,22 +1,10 @@
 -- Steps of proofs: what no clause of the top calls names.
 pub mod Answering
 pub mod AuditOutcome
-pub mod CabinetText
-pub mod Ending
-pub mod Failing
-pub mod Fault
-pub mod Following
 pub mod GenOutcome
 pub mod Generating
-pub mod Journal
-pub mod JsonRead
-pub mod LastLine
-pub mod Moving
-pub mod Parts
 pub mod ProveOutcome
 pub mod SheetLine
-pub mod ShipOutcome
 pub mod Talking
 pub mod TalkingOnDisk
 pub mod Tally
-pub mod Unopened

@@ -1,6 +1,5 @@
 // A run: a topology, and then a reply for each line.
-ghost use Rattle.std.specs.Prelude.{◌≡◌, ◌≢◌, [], ◌≤◌, ℕ, List, IsSome, None, Result, ⊤};
-ghost use Rattle.std.specs.Prelude.{option_map};
+ghost use Rattle.std.specs.Prelude.{◌≡◌, ◌≢◌, [], ◌≤◌, ℕ, List, IsSome, None, Result, ⊤, option_map};
 ghost use Rattle.hose_law.specs.History.{IsDecidedAt};
 ghost use Rattle.hose_law.specs.Quotes.{nothing_held};
 ghost use Rattle.hose_law.specs.Script.{ReadLine};
@@ -17,24 +16,23 @@ ghost use Rattle.hose_store.specs.steps.Commit.{Closes, store_books};
 ghost use Rattle.hose_store.specs.steps.Store.{KeptStore};
 ghost use Rattle.hose_core.specs.steps.Stepping.{FitsHistory};
 ghost use Rattle.hose_offline.specs.steps.Answering.{KeepsRun};
-ghost use Rattle.hose_offline.specs.steps.Journal.{IsJustOpened, OpensJournal};
-ghost use Rattle.hose_offline.specs.OnDisk.{opening_of};
-ghost use Rattle.hose_offline.specs.Parts.{AllStay, parts, tellings};
+ghost use Rattle.hose_outside.specs.steps.Journal.{IsJustOpened, OpensJournal};
+ghost use Rattle.hose_outside.specs.OnDisk.{opening_of};
+ghost use Rattle.hose_outside.specs.Parts.{AllStay, parts, tellings};
 ghost use Rattle.hose_offline.specs.RunOutcome.{RunLeaves, RunOutcome};
 ghost use Rattle.hose_offline.specs.Talking.{IsAskedBy};
-ghost use Rattle.hose_offline.specs.Why.{IsTold, why_status};
+ghost use Rattle.hose_outside.specs.Why.{IsTold, why_status};
 ghost use Rattle.hose_offline.specs.steps.Talking.{AnswersLine, SaysOneThing, SaysRead};
 ghost use Rattle.hose_offline.specs.steps.TalkingOnDisk.{TalksInCabinet};
 
-use crate::fault::{Fault, done_of_talk};
 use crate::input_line::read_line;
-use crate::journal::{close_journal, first_fault, open_journal};
-use crate::why::{Why, end};
+use crate::talk_end::done_of_talk;
 use hose_book::{Book, Books, Plain};
 use hose_core::Core;
 use hose_disk::{Cabinet, Disk};
 use hose_graph::{Reply, Topology};
 use hose_io::{Failed, Sink, Source};
+use hose_outside::{Fault, Why, close_journal, end, first_fault, open_journal};
 use hose_paths::{RowMaker, RowTable, RowsInAdvance};
 use hose_proto::{ReadFault, put_reply};
 use hose_store::{Decided, Store};

@@ -5,19 +5,16 @@ ghost use Rattle.hose_cert.specs.Verdict.{AreCheapestFound, IsVerdict};
 ghost use Rattle.hose_words.specs.Reading.{WhereTold};
 ghost use Rattle.hose_words.specs.steps.Reading.{ReadsOn};
 ghost use Rattle.hose_offline.specs.CheckOutcome.{CheckOutcome, EndsChecked, JudgesInput, JudgesNamed};
-ghost use Rattle.hose_offline.specs.steps.Ending.{WroteEnd};
-ghost use Rattle.hose_offline.specs.Why.{why_status};
-ghost use Rattle.hose_offline.specs.Parts.{tellings};
-ghost use Rattle.hose_offline.specs.steps.Parts.{ComesTo, KeepsAll, held};
+ghost use Rattle.hose_outside.specs.steps.Ending.{WroteEnd};
+ghost use Rattle.hose_outside.specs.Why.{why_status};
+ghost use Rattle.hose_outside.specs.Parts.{tellings};
+ghost use Rattle.hose_outside.specs.steps.Parts.{ComesTo, KeepsAll, held};
 
-use crate::auditing::read_topology;
-use crate::fault::{Fault, put_numbered};
-use crate::outside::Outside;
-use crate::why::{Why, end};
 use hose_cert::{CertFault, Verdict, check_certificate};
 use hose_disk::Cabinet;
 use hose_graph::Topology;
 use hose_io::{Sink, Source};
+use hose_outside::{Fault, Outside, Why, end, put_numbered, read_topology};
 use hose_tariff::Prices;
 use hose_words::{INPUT_LIMIT, LineReader};
 use std::alloc::Global;
@@ -66,7 +63,9 @@ fn judge<I: Source>(alloc: Global, top: &Topology, input: &mut I) -> Result<Verd
     let _ = lines.into_source();
     match verdict {
         Ok(verdict) => Ok(verdict),
-        Err(fault) => Err(Fault::from(fault)),
+        Err(CertFault::Read) => Err(Fault::Read),
+        Err(CertFault::TooLong) => Err(Fault::TooLong),
+        Err(CertFault::Memory) => Err(Fault::Memory),
     }
 }
 

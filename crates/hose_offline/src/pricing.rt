@@ -2,21 +2,19 @@
 ghost use Rattle.std.specs.Prelude.{◌≡◌, ◌≤◌, ℕ, List, length, ⊤};
 ghost use Rattle.hose_words.specs.steps.Lines.{Shows};
 ghost use Rattle.hose_law.specs.steps.Plan.{AreNodes};
-ghost use Rattle.hose_offline.specs.Parts.{tellings};
-ghost use Rattle.hose_offline.specs.steps.Parts.{ComesTo, KeepsAll, held};
+ghost use Rattle.hose_outside.specs.Parts.{tellings};
+ghost use Rattle.hose_outside.specs.steps.Parts.{ComesTo, KeepsAll, held};
 ghost use Rattle.hose_offline.specs.PriceOutcome.{PriceOutcome, PricesInput, pricing_of};
 ghost use Rattle.hose_offline.specs.SheetLine.{AnswersSheet};
 ghost use Rattle.hose_offline.specs.steps.SheetLine.{PricesHose};
 
-use crate::auditing::read_topology;
-use crate::fault::{Fault, done_of_talk};
 use crate::input_line::read_sheet_line;
-use crate::outside::Outside;
 use crate::sheet_answer::{SheetAnswer, put_answer};
-use crate::why::{Why, end};
+use crate::talk_end::done_of_talk;
 use hose_disk::Cabinet;
 use hose_graph::{Hose, Name, Topology};
 use hose_io::{Failed, Sink, Source};
+use hose_outside::{Fault, Outside, Why, end, read_topology};
 use hose_paths::RowMaker;
 use hose_price::{MOST_TARIFFS, PriceSheet, TablesRows};
 use hose_proto::ReadFault;

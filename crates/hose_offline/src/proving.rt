@@ -5,21 +5,18 @@ ghost use Rattle.hose_graph.specs.Network.{IsNetwork};
 ghost use Rattle.hose_law.specs.steps.Plan.{AreNodes};
 ghost use Rattle.hose_proto.specs.Command.{AreEndsOf};
 ghost use Rattle.hose_proto.specs.steps.EndWords.{AreEndWords};
-ghost use Rattle.hose_offline.specs.steps.Ending.{Wrote};
-ghost use Rattle.hose_offline.specs.Parts.{tellings};
-ghost use Rattle.hose_offline.specs.steps.Parts.{KeepsAll, held};
-ghost use Rattle.hose_offline.specs.Why.{IsTold, why_status};
+ghost use Rattle.hose_outside.specs.steps.Ending.{Wrote};
+ghost use Rattle.hose_outside.specs.Parts.{tellings};
+ghost use Rattle.hose_outside.specs.steps.Parts.{KeepsAll, held};
+ghost use Rattle.hose_outside.specs.Why.{IsTold, why_status};
 ghost use Rattle.hose_offline.specs.ProveOutcome.{IsNoHose, ProveOutcome, ProvesWords, PutsProof, ends_from};
 ghost use Rattle.hose_offline.specs.steps.ProveOutcome.{AreEndsInOrder};
 
-use crate::auditing::read_topology;
-use crate::fault::Fault;
-use crate::outside::Outside;
-use crate::why::{Why, end};
-use hose_cert::put_certificate;
+use hose_cert::{ProveFault, put_certificate};
 use hose_disk::Cabinet;
 use hose_graph::{Endpoint, Hose, Topology};
 use hose_io::{Sink, Source, write_all};
+use hose_outside::{Fault, Outside, Why, end, read_topology};
 use hose_paths::HeapRows;
 use hose_proto::endpoint;
 use hose_tariff::Prices;
@@ -90,7 +87,12 @@ fn put_proof<O: Sink>(
     ensures { Wrote O.Sink output.old output.new
         (PutsProof O.Sink output.old output.new top.now hose.now result) }
 {
-    if !put_certificate(alloc, output, top, hose, &mut HeapRows::new())? {
+    let found = match put_certificate(alloc, output, top, hose, &mut HeapRows::new()) {
+        Ok(found) => found,
+        Err(ProveFault::Write) => return Err(Fault::Write),
+        Err(ProveFault::Memory) => return Err(Fault::Memory),
+    };
+    if !found {
         write_all(output, b"none\n")?;
     }
     Ok(())

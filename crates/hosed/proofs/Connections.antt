@@ -11,13 +11,13 @@ use Rattle.hose_turn.specs.declared.view.Tried.{Tried}
 use Rattle.hose_turn.specs.Faults.{end_of_count}
 use Rattle.hose_turn.specs.Known.{Known}
 use Rattle.hose_shared.specs.Trying.{IsTried}
-use Rattle.hose_offline.specs.CabinetText.{OnlyTextsRead}
-use Rattle.hose_offline.specs.OnDisk.{CabinetWorked}
-use Rattle.hose_offline.specs.Parts.{Tellings}
-use Rattle.hose_offline.specs.declared.fault.Fault.{Fault}
-use Rattle.hose_offline.proofs.Provided.{decided_provides}
-use Rattle.hose_offline.proofs.Audits.{has_before, held_before}
-use Rattle.hose_offline.proofs.PutBack.{IsPutBack, counts, held_as, left_as_kind}
+use Rattle.hose_outside.specs.CabinetText.{OnlyTextsRead}
+use Rattle.hose_outside.specs.OnDisk.{CabinetWorked}
+use Rattle.hose_outside.specs.Parts.{Tellings}
+use Rattle.hose_outside.specs.declared.fault.Fault.{Fault}
+use Rattle.hose_outside.proofs.Provided.{decided_provides}
+use Rattle.hose_outside.proofs.TextsRead.{has_before, held_before}
+use Rattle.hose_outside.proofs.PutBack.{IsPutBack, counts, held_as, left_as_kind}
 use Rattle.hosed.specs.ServerDoor.{IsKeptIn, ServesBook, ServesByJournal}
 use Rattle.hosed.specs.steps.ServerDoor.{IsKeptOn, ServesByStore}
 use Rattle.hosed.specs.declared.server.ServerEnd.{ServerEnd}

@@ -1,22 +1,23 @@
 -- What the program's words come to, from what their command came to.
 use Rattle.std.proofs.Common.{◌≡◌, ◌≢◌, ℕ, List, refl, subst, sym}
-use Rattle.hose_offline.specs.Ending.{IsOut}
-use Rattle.hose_offline.specs.Fault.{last_line}
-use Rattle.hose_offline.specs.declared.fault.Fault.TheVariants.{Words}
-use Rattle.hose_offline.specs.Parts.{Parts, Tellings, parts}
-use Rattle.hose_offline.specs.declared.why.Why.{Why}
-use Rattle.hose_offline.specs.Auditing.{PricedNames}
+use Rattle.hose_outside.specs.Ending.{IsOut}
+use Rattle.hose_outside.specs.Fault.{last_line}
+use Rattle.hose_outside.specs.declared.fault.Fault.TheVariants.{Words}
+use Rattle.hose_outside.specs.Parts.{Parts, Tellings, door_parts, parts}
+use Rattle.hose_outside.specs.declared.why.Why.{Why}
+use Rattle.hose_outside.specs.Reading.{PricedNames}
 use Rattle.hose_words.specs.Words.{IsFirst}
 use Rattle.hosed.specs.Failing.{FailsTask, FailsWords}
 use Rattle.hosed.specs.Hosed.{HosedOutcome}
 use Rattle.hosed.specs.Offline.{Does, Offer, OfflineOutcome}
 use Rattle.hosed.specs.ServeOutcome.{ServeOutcome}
+use Rattle.hosed.specs.steps.ServerDoor.{serving}
 use Rattle.hosed.specs.ServerDoor.{DoorSeen}
-use Rattle.hosed.specs.ProgramWords.{AreWrongWords, AsksToServe, program_word}
-use Rattle.hosed.specs.steps.Arguments.{AreArgumentWords, ArgumentTask, IsFirstUnfit}
-use Rattle.hosed.specs.declared.verb.ProgramVerb.{ProgramVerb}
-use Rattle.hosed.specs.declared.verb.ProgramVerb.TheVariants as command
-use Rattle.hosed.proofs.ProgramShapes.{are_told, each_task, no_task, task_told, unfit_wrong}
+use Rattle.hosed_requests.specs.ProgramWords.{AreWrongWords, AsksToServe, program_word}
+use Rattle.hosed_requests.specs.steps.Arguments.{AreArgumentWords, ArgumentTask, IsFirstUnfit}
+use Rattle.hosed_requests.specs.declared.verb.ProgramVerb.{ProgramVerb}
+use Rattle.hosed_requests.specs.declared.verb.ProgramVerb.TheVariants as command
+use Rattle.hosed_requests.proofs.ProgramShapes.{are_told, each_task, no_task, task_told, unfit_wrong}
 
 -- words of which one is the first that is not allowed are wrong
 pub are_wrong : (names words : List (List ℕ)) (number : ℕ) → IsFirstUnfit names words number → AreWrongWords names words
@@ -69,14 +70,14 @@ fails_of {tells = tells} {offer = offer} {was = was} {why = why} {words = words}
 
 -- what is beside a server, so told
 pub served_of : {I O C E : Type 0} {tells : Tellings I O C E} {names : PricedNames} {port connections : ℕ} {before was : Parts I O C} {door door' : DoorSeen} {status : ℕ} (after : Parts I O C) {input : I} {output : O} {cabinet : C} → before ≡ was → after.input ≡ input → after.output ≡ output → after.cabinet ≡ cabinet
-    → ServeOutcome tells names port connections before after door door' status → ServeOutcome tells names port connections was (parts input output cabinet) door door' status
+    → ServeOutcome tells names (serving port connections) (door_parts before door) (door_parts after door') status → ServeOutcome tells names (serving port connections) (door_parts was door) (door_parts (parts input output cabinet) door') status
 served_of {tells = tells} {names = names} {port = port} {connections = connections} {was = was} {door = door} {door' = door'} {status = status} after lent input output cabinet outcome =
-    subst (λ (now : Parts _ _ _). ServeOutcome tells names port connections was now door door' status) (λ i. parts (input i) (output i) (cabinet i))
-    (subst (λ (old : Parts _ _ _). ServeOutcome tells names port connections old after door door' status) lent outcome)
+    subst (λ (now : Parts _ _ _). ServeOutcome tells names (serving port connections) (door_parts was door) (door_parts now door') status) (λ i. parts (input i) (output i) (cabinet i))
+    (subst (λ (old : Parts _ _ _). ServeOutcome tells names (serving port connections) (door_parts old door) (door_parts after door') status) lent outcome)
 
 -- words that do not ask to serve come to what they come to for every command that waits for nobody,
 -- and the door is as it was
-pub beside_door : {I O C E : Type 0} (tells : Tellings I O C E) (offer : Offer) (before after : Parts I O C) (door : DoorSeen) (status : ℕ) (words : List (List ℕ)) → (¬ AsksToServe words) → OfflineOutcome tells offer before after status words → HosedOutcome tells offer before after door door status words
+pub beside_door : {I O C E : Type 0} (tells : Tellings I O C E) (offer : Offer) (before after : Parts I O C) (door : DoorSeen) (status : ℕ) (words : List (List ℕ)) → (¬ AsksToServe words) → OfflineOutcome tells offer before after status words → HosedOutcome tells offer (door_parts before door) (door_parts after door) status words
 beside_door tells offer before after door status words never outcome = record {
   offline = λ none. (outcome, refl);
   words_at_1 = λ asks. absurd (never asks);

@@ -19,10 +19,10 @@ use Rattle.hose_turn.specs.declared.view.Tried.{Tried}
 use Rattle.hose_turn.specs.Known.{Known}
 use Rattle.hose_shared.specs.Trying.{IsTried}
 use Rattle.hose_turn.specs.Places.{HasPlaces}
-use Rattle.hose_offline.specs.OnDisk.{opening_of}
-use Rattle.hose_offline.specs.steps.Journal.{IsJustOpened}
-use Rattle.hose_offline.specs.declared.fault.Fault.{Fault}
-use Rattle.hose_offline.specs.declared.fault.Fault.TheVariants.{Memory}
+use Rattle.hose_outside.specs.OnDisk.{opening_of}
+use Rattle.hose_outside.specs.steps.Journal.{IsJustOpened}
+use Rattle.hose_outside.specs.declared.fault.Fault.{Fault}
+use Rattle.hose_outside.specs.declared.fault.Fault.TheVariants.{Memory}
 use Rattle.hosed.specs.ServerDoor.{DoorSeen, ServesBook, Speaks, StaysAsRead}
 use Rattle.hosed.specs.steps.ServerDoor.{IsAnnounced, IsClosedOn, IsKeptOn, IsNoEntry, IsOpenedAs, IsOpening, Opened, OpensAt}
 use Rattle.hose_store.proofs.Standing.{opened_stands}

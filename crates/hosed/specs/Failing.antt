@@ -1,15 +1,16 @@
 -- Which of the files that words name is told as the one at which the cabinet failed.
 use Rattle.std.specs.Prelude.{List, ℕ, ⊤}
-use Rattle.hose_offline.specs.Auditing.{priced_names}
-use Rattle.hose_offline.specs.CutOutcome.{cut_names}
-use Rattle.hose_offline.specs.Failing.{FailsCut, FailsMoved, FailsNamed}
-use Rattle.hose_offline.specs.Moving.{move_names, scope_of}
-use Rattle.hose_offline.specs.Parts.{Parts, Tellings}
-use Rattle.hose_offline.specs.declared.why.Why.{Why}
+use Rattle.hose_outside.specs.Reading.{priced_names}
+use Rattle.hose_copying.specs.CutOutcome.{cut_names}
+use Rattle.hose_copying.specs.Failing.{FailsCut, FailsMoved}
+use Rattle.hose_outside.specs.Failing.{FailsNamed}
+use Rattle.hose_copying.specs.Moving.{move_names, scope_of}
+use Rattle.hose_outside.specs.Parts.{Parts, Tellings}
+use Rattle.hose_outside.specs.declared.why.Why.{Why}
 use Rattle.hosed.specs.Offline.{Offer}
-use Rattle.hosed.specs.ProgramWords.{AreWords, Task}
-use Rattle.hosed.specs.declared.verb.ProgramVerb.{ProgramVerb}
-use Rattle.hosed.specs.declared.verb.ProgramVerb.TheVariants as command
+use Rattle.hosed_requests.specs.ProgramWords.{AreWords, Task}
+use Rattle.hosed_requests.specs.declared.verb.ProgramVerb.{ProgramVerb}
+use Rattle.hosed_requests.specs.declared.verb.ProgramVerb.TheVariants as command
 
 module _ {I O C E : Type 0} (tells : Tellings I O C E) (offer : Offer) (before after : Parts I O C)
     (why : Why) where

@@ -1,11 +1,6 @@
 pub mod Failing
 pub mod Hosed
-pub mod HostNaming
-pub mod HostWords
-pub mod Limits
-pub mod Naming
 pub mod Offline
-pub mod ProgramWords
 pub mod ServeOutcome
 pub mod ServerDoor
 pub mod steps

@@ -3,24 +3,24 @@ use Rattle.std.specs.Prelude.{◌≡◌, ◌↔◌, ℕ, List, Option, ⊤}
 use Rattle.hose_graph.specs.Network.{Network}
 use Rattle.hose_words.specs.Shapes.{IsFirstWrong}
 use Rattle.hose_offline.specs.AuditOutcome.{AuditOutcome}
-use Rattle.hose_offline.specs.Auditing.{priced_names}
+use Rattle.hose_outside.specs.Reading.{priced_names}
 use Rattle.hose_offline.specs.CheckOutcome.{CheckOutcome}
-use Rattle.hose_offline.specs.CutOutcome.{CutOutcome, cut_names}
-use Rattle.hose_offline.specs.Ending.{IsOut}
-use Rattle.hose_offline.specs.Fault.{last_line}
-use Rattle.hose_offline.specs.FollowOutcome.{FollowOutcome}
+use Rattle.hose_copying.specs.CutOutcome.{CutOutcome, cut_names}
+use Rattle.hose_outside.specs.Ending.{IsOut}
+use Rattle.hose_outside.specs.Fault.{last_line}
+use Rattle.hose_copying.specs.FollowOutcome.{FollowOutcome}
 use Rattle.hose_offline.specs.GenOutcome.{GenOutcome}
-use Rattle.hose_offline.specs.MoveOutcome.{MoveOutcome}
-use Rattle.hose_offline.specs.Moving.{move_names, scope_of}
-use Rattle.hose_offline.specs.Parts.{Parts, Tellings}
+use Rattle.hose_copying.specs.MoveOutcome.{MoveOutcome}
+use Rattle.hose_copying.specs.Moving.{move_names, scope_of}
+use Rattle.hose_outside.specs.Parts.{Parts, Tellings}
 use Rattle.hose_offline.specs.PriceOutcome.{PriceOutcome, Pricing, pricing_of}
 use Rattle.hose_offline.specs.ProveOutcome.{ProveOutcome, ends_from}
 use Rattle.hose_offline.specs.RunOutcome.{RunOutcome}
-use Rattle.hose_offline.specs.ShipOutcome.{ShipOutcome}
-use Rattle.hose_offline.specs.declared.fault.Fault.TheVariants.{Words}
-use Rattle.hosed.specs.ProgramWords.{AreWords, AreWrongWords, Task, costs_at, first_end, words_shape}
-use Rattle.hosed.specs.declared.verb.ProgramVerb.{ProgramVerb}
-use Rattle.hosed.specs.declared.verb.ProgramVerb.TheVariants as command
+use Rattle.hose_copying.specs.ShipOutcome.{ShipOutcome}
+use Rattle.hose_outside.specs.declared.fault.Fault.TheVariants.{Words}
+use Rattle.hosed_requests.specs.ProgramWords.{AreWords, AreWrongWords, Task, costs_at, first_end, words_shape}
+use Rattle.hosed_requests.specs.declared.verb.ProgramVerb.{ProgramVerb}
+use Rattle.hosed_requests.specs.declared.verb.ProgramVerb.TheVariants as command
 
 -- ---- the program's tariffs
 

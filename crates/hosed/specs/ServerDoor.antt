@@ -20,11 +20,11 @@ use Rattle.hose_turn.specs.Faults.{end_of_count}
 use Rattle.hose_turn.specs.Known.{Known}
 use Rattle.hose_turn.specs.Places.{HasPlaces}
 use Rattle.hose_turn.specs.declared.view.Tried.{Tried}
-use Rattle.hose_offline.specs.OnDisk.{HadContent, OfHeld, opening_of}
-use Rattle.hose_offline.specs.Parts.{Tellings}
-use Rattle.hose_offline.specs.Run.{Provides}
-use Rattle.hose_offline.specs.declared.fault.Fault.{Fault}
-use Rattle.hose_offline.specs.declared.fault.Fault.TheVariants.{Door, Memory, Write}
+use Rattle.hose_outside.specs.OnDisk.{HadContent, OfHeld, opening_of}
+use Rattle.hose_outside.specs.Parts.{Tellings}
+use Rattle.hose_outside.specs.Provides.{Provides}
+use Rattle.hose_outside.specs.declared.fault.Fault.{Fault}
+use Rattle.hose_outside.specs.declared.fault.Fault.TheVariants.{Door, Memory, Write}
 use Rattle.hosed.specs.declared.server.ServerEnd.{ServerEnd}
 
 -- ---- what a server says

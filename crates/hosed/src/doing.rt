@@ -1,21 +1,19 @@
 // What the program's words ask for is done, for every command that waits for nobody.
 ghost use Rattle.std.specs.Prelude.{◌≡◌, ℕ, List, None, map};
-ghost use Rattle.hose_offline.specs.Parts.{tellings};
-ghost use Rattle.hose_offline.specs.Why.{IsTold, why_status};
-ghost use Rattle.hose_offline.specs.steps.Parts.{KeepsAll, held};
+ghost use Rattle.hose_outside.specs.Parts.{tellings};
+ghost use Rattle.hose_outside.specs.Why.{IsTold, why_status};
+ghost use Rattle.hose_outside.specs.steps.Parts.{KeepsAll, held};
 ghost use Rattle.hosed.specs.Failing.{FailsWords};
 ghost use Rattle.hosed.specs.Offline.{OfflineOutcome, offer_of};
-ghost use Rattle.hosed.specs.steps.ProgramWords.{AreWordsOf, tariff_in};
+ghost use Rattle.hosed_requests.specs.steps.ProgramWords.{AreWordsOf, tariff_in};
 
-use crate::chosen::costs_of;
-use crate::words::Request;
+use hose_copying::{Cut, Move, cut_journal, follow, move_journal, ship};
 use hose_disk::Cabinet;
 use hose_io::{Sink, Source};
-use hose_offline::{
-    Cut, EndWords, Outside, Why, audit, check, cut_journal, follow, move_journal, price, prove,
-    run, run_generated, ship,
-};
+use hose_offline::{EndWords, Sizes, audit, check, price, prove, run, run_generated};
+use hose_outside::{Outside, Why};
 use hose_tariff::{Prices, Tariff};
+use hosed_requests::{Request, costs_of};
 use std::alloc::Global;
 
 /// Does what a request says, by the costs that it chooses.
@@ -55,7 +53,16 @@ pub fn do_request<I: Source, O: Sink, C: Cabinet>(
             outside.cabinet,
         ),
         Request::Audit(of) => audit(alloc, &by, of.names, outside),
-        Request::Generate(sizes) => run_generated(alloc, sizes, outside),
+        Request::Generate(of) => run_generated(
+            alloc,
+            Sizes {
+                seed: of.seed,
+                nodes: of.nodes,
+                links: of.links,
+                hoses: of.hoses,
+            },
+            outside,
+        ),
         Request::Prove { of, ends, first } => {
             prove(
                 alloc,
@@ -69,7 +76,16 @@ pub fn do_request<I: Source, O: Sink, C: Cabinet>(
         Request::Price { topology } => price(alloc, tariffs, topology, outside),
         Request::Ship { of, from } => ship(alloc, &by, of.names, from, outside),
         Request::Follow(of) => follow(alloc, &by, of.names, outside),
-        Request::Move { tariff: _, of } => move_journal(alloc, &by, of, outside),
+        Request::Move { tariff: _, of } => move_journal(
+            alloc,
+            &by,
+            Move {
+                from: of.from,
+                to: of.to,
+                live: of.live,
+            },
+            outside,
+        ),
         Request::Cut { of, count, to } => cut_journal(
             alloc,
             &by,

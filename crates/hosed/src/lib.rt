@@ -30,42 +30,32 @@
 ghost use Rattle.std.specs.Prelude.{◌≡◌, None, map};
 ghost use Rattle.std.specs.String.{string_bytes};
 ghost use Rattle.hose_io.specs.Frame.{Stays};
-ghost use Rattle.hose_offline.specs.Parts.{AllStay, parts, tellings};
-ghost use Rattle.hose_offline.specs.Why.{IsTold, why_status};
+ghost use Rattle.hose_outside.specs.Parts.{AllStay, door_parts, parts, tellings};
+ghost use Rattle.hose_outside.specs.Why.{IsTold, why_status};
 ghost use Rattle.hosed.specs.Failing.{FailsWords};
 ghost use Rattle.hosed.specs.Hosed.{HosedOutcome};
-ghost use Rattle.hosed.specs.Naming.{NamesOf};
+ghost use Rattle.hosed_requests.specs.Naming.{NamesOf};
 ghost use Rattle.hosed.specs.Offline.{OfflineOutcome, offer_of};
-ghost use Rattle.hosed.specs.ProgramWords.{AsksToServe};
+ghost use Rattle.hosed_requests.specs.ProgramWords.{AsksToServe};
 ghost use Rattle.hosed.specs.ServerDoor.{seen_of};
 
-mod chosen;
 mod doing;
-mod end_words;
-mod host_line;
-mod naming;
 mod server;
-mod verb;
-mod words;
 
-pub use chosen::{ChosenCosts, costs_of};
 use doing::do_request;
 pub use hose_crew::Context;
 use hose_disk::Cabinet;
 use hose_io::{Door, Sink, Source};
-use hose_offline::{Fault, Outside, Why, end};
+use hose_outside::{Fault, Outside, Why, end};
 use hose_pool::Gate;
 use hose_tariff::{Prices, Tariff};
-pub use host_line::{HostWords, MOST_PATIENCE, StandbyWords, asks_to_host, host_words};
-pub use naming::NamedByWords;
-use naming::{named_of, server_named};
+use hosed_requests::{
+    NamedByWords, asks_to_serve, costs_of, named_of, request_of, serve_of, server_named,
+};
 use server::serve;
 use std::alloc::Global;
 use std::sync::Wait;
 use std::thread::Threads;
-pub use verb::asks_to_serve;
-pub use words::MOST_CONNECTIONS;
-use words::{request_of, serve_of};
 
 /// Why the program ended, and what its words name, if they are not wrong.
 #[derive(Clone, Copy)]
@@ -127,9 +117,10 @@ pub fn hosed<
     ensures outcome { HosedOutcome (tellings I.Source O.Sink C.Cabinet C.Disk.Disk)
         (offer_of ⟦<Tariff as Prices>⟧.prices (λ tariff. tariff.name) (λ tariff. tariff.base)
         (λ tariff. tariff.per) tariffs.now)
-        (parts input.old output.old cabinet.old) (parts input.new output.new cabinet.new)
-        (seen_of (L.frame door.old) (L.told door.old) (L.opened_at door.old))
-        (seen_of (L.frame door.new) (L.told door.new) (L.opened_at door.new))
+        (door_parts (parts input.old output.old cabinet.old)
+        (seen_of (L.frame door.old) (L.told door.old) (L.opened_at door.old)))
+        (door_parts (parts input.new output.new cabinet.new)
+        (seen_of (L.frame door.new) (L.told door.new) (L.opened_at door.new)))
         result (map string_bytes words.now) }
     ensures back { (C.frame cabinet.new).out ≡ None }
     ensures keeps { AllStay (tellings I.Source O.Sink C.Cabinet C.Disk.Disk)
@@ -172,9 +163,10 @@ pub fn hosed_ended<
     ensures outcome { HosedOutcome (tellings I.Source O.Sink C.Cabinet C.Disk.Disk)
         (offer_of ⟦<Tariff as Prices>⟧.prices (λ tariff. tariff.name) (λ tariff. tariff.base)
         (λ tariff. tariff.per) tariffs.now)
-        (parts input.old output.old cabinet.old) (parts input.new output.new cabinet.new)
-        (seen_of (L.frame door.old) (L.told door.old) (L.opened_at door.old))
-        (seen_of (L.frame door.new) (L.told door.new) (L.opened_at door.new))
+        (door_parts (parts input.old output.old cabinet.old)
+        (seen_of (L.frame door.old) (L.told door.old) (L.opened_at door.old)))
+        (door_parts (parts input.new output.new cabinet.new)
+        (seen_of (L.frame door.new) (L.told door.new) (L.opened_at door.new)))
         (why_status result.why) (map string_bytes words.now) }
     ensures told { IsTold O.Sink output.new result.why }
     ensures fails { FailsWords (tellings I.Source O.Sink C.Cabinet C.Disk.Disk)

@@ -4,28 +4,28 @@ ghost use Rattle.hose_io.specs.declared.Failed.{Failed};
 ghost use Rattle.hose_io.specs.steps.Connections.{AreAccounted};
 ghost use Rattle.hose_io.specs.Frame.{Stays};
 ghost use Rattle.hose_crew.specs.Crew.{AreServed};
-ghost use Rattle.hose_offline.specs.Auditing.{priced_names};
-ghost use Rattle.hose_offline.specs.Failing.{FailsNamed};
-ghost use Rattle.hose_offline.specs.steps.Ending.{WroteWhy};
-ghost use Rattle.hose_offline.specs.Why.{IsTold, why_status};
-ghost use Rattle.hose_offline.specs.Parts.{tellings};
-ghost use Rattle.hose_offline.specs.steps.Parts.{KeepsAll, held};
+ghost use Rattle.hose_outside.specs.Reading.{priced_names};
+ghost use Rattle.hose_outside.specs.Failing.{FailsNamed};
+ghost use Rattle.hose_outside.specs.steps.Ending.{WroteWhy};
+ghost use Rattle.hose_outside.specs.Why.{IsTold, why_status};
+ghost use Rattle.hose_outside.specs.Parts.{door_parts, tellings};
+ghost use Rattle.hose_outside.specs.steps.Parts.{KeepsAll, held};
 ghost use Rattle.hosed.specs.ServeOutcome.{EndsServed, ServeOutcome, first_failed};
 ghost use Rattle.hosed.specs.ServerDoor.{Speaks, seen_of};
-ghost use Rattle.hosed.specs.steps.ServerDoor.{BothStay, IsAnnounced, IsClosedOn, IsOpenedAs, IsWhyServed, Opened, ServesByStore};
+ghost use Rattle.hosed.specs.steps.ServerDoor.{BothStay, IsAnnounced, IsClosedOn, IsOpenedAs, IsWhyServed, Opened, ServesByStore, serving};
 
-use crate::words::ServeRequest;
 use hose_book::{Book, Books};
 use hose_crew::{Context, Crew, CrewEnd, DoorStart, Work};
 use hose_disk::{Cabinet, Disk};
 use hose_graph::Topology;
 use hose_io::{Door, Failed, Sink, Source, write_all};
-use hose_offline::{Fault, Outside, Why, end, open_store, read_topology, tell};
+use hose_outside::{Fault, Outside, Why, end, open_store, read_topology, tell};
 use hose_paths::RowTable;
 use hose_pool::{Gate, MOST_WORKERS, table_of_all};
 use hose_shared::{Begun, Shared};
 use hose_store::{Decided, Store};
 use hose_tariff::Prices;
+use hosed_requests::ServeRequest;
 use std::alloc::{AllocError, Global};
 use std::marker::{Brand, PhantomData};
 use std::snapshot::Snapshot;
@@ -246,9 +246,10 @@ pub fn serve<
     requires workers { (1 ≤ request.workers) × (request.workers ≤ MOST_WORKERS) }
     ensures outcome { ServeOutcome (tellings I.Source O.Sink C.Cabinet C.Disk.Disk)
         (priced_names (P.prices costs.now) request.entry.topology.now request.entry.journal.now)
-        request.entry.port request.entry.connections (held outside.old) (held outside.new)
-        (seen_of (L.frame door.old) (L.told door.old) (L.opened_at door.old))
-        (seen_of (L.frame door.new) (L.told door.new) (L.opened_at door.new))
+        (serving request.entry.port request.entry.connections) (door_parts (held outside.old)
+        (seen_of (L.frame door.old) (L.told door.old) (L.opened_at door.old)))
+        (door_parts (held outside.new)
+        (seen_of (L.frame door.new) (L.told door.new) (L.opened_at door.new)))
         (why_status result) }
     ensures told { IsTold O.Sink outside.new.output.now result }
     ensures fails { FailsNamed (tellings I.Source O.Sink C.Cabinet C.Disk.Disk)

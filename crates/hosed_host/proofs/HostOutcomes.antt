@@ -13,23 +13,23 @@ use Rattle.hose_audit.specs.Audit.{audit_text}
 use Rattle.hose_disk.specs.Cabinet.{object_of}
 use Rattle.hose_disk.specs.declared.cabinet.Cabinet.{Ghosts as CabinetGhosts}
 use Rattle.hose_store.specs.Recovery.{IsHistoryOf}
-use Rattle.hose_offline.specs.AuditOutcome.{Purpose}
-use Rattle.hose_offline.specs.Auditing.{PricedNames, ReadsTopology}
-use Rattle.hose_offline.specs.CabinetText.{OnlyTextsRead}
-use Rattle.hose_offline.specs.Ending.{EndsTold, IsOut, NoneFailed}
-use Rattle.hose_offline.specs.Fault.{last_line, status_of}
-use Rattle.hose_offline.specs.steps.Journal.{TouchesOnly}
-use Rattle.hose_offline.specs.OnDisk.{CabinetFailed, CabinetWorked, JournalIsTold, OthersStay}
-use Rattle.hose_offline.specs.Parts.{Parts, Tellings}
-use Rattle.hose_offline.specs.declared.fault.Fault.{Fault}
-use Rattle.hose_offline.specs.declared.fault.Fault.TheVariants as fault
-use Rattle.hose_offline.specs.declared.why.Why.{Why}
-use Rattle.hose_offline.specs.declared.why.Why.TheVariants.{Stopped}
-use Rattle.hose_offline.specs.steps.Ending.{IsWhyAfter}
-use Rattle.hose_offline.proofs.Audited.{named_not_1, named_not_read, named_read, no_store, no_topology}
-use Rattle.hose_offline.proofs.Audits.{has_before, held_before}
-use Rattle.hose_offline.proofs.Failing.{fails_then}
-use Rattle.hose_offline.proofs.Outcomes.{clash}
+use Rattle.hose_outside.specs.NamedOutcome.{Purpose}
+use Rattle.hose_outside.specs.Reading.{PricedNames, ReadsTopology}
+use Rattle.hose_outside.specs.CabinetText.{OnlyTextsRead}
+use Rattle.hose_outside.specs.Ending.{EndsTold, IsOut, NoneFailed}
+use Rattle.hose_outside.specs.Fault.{last_line, status_of}
+use Rattle.hose_outside.specs.steps.Journal.{TouchesOnly}
+use Rattle.hose_outside.specs.OnDisk.{CabinetFailed, CabinetWorked, JournalIsTold, OthersStay}
+use Rattle.hose_outside.specs.Parts.{Parts, Tellings, door_parts}
+use Rattle.hose_outside.specs.declared.fault.Fault.{Fault}
+use Rattle.hose_outside.specs.declared.fault.Fault.TheVariants as fault
+use Rattle.hose_outside.specs.declared.why.Why.{Why}
+use Rattle.hose_outside.specs.declared.why.Why.TheVariants.{Stopped}
+use Rattle.hose_outside.specs.steps.Ending.{IsWhyAfter}
+use Rattle.hose_outside.proofs.Named.{named_not_1, named_not_read, named_read, no_store, no_topology}
+use Rattle.hose_outside.proofs.TextsRead.{has_before, held_before}
+use Rattle.hose_outside.proofs.Failing.{fails_then}
+use Rattle.hose_outside.proofs.Outcomes.{clash}
 use Rattle.hosed_host.specs.HostBook.{Announces, DoorTellings, EndsBy, EndsHosted, HostsByJournal, KeepsHosted, LeavesDoors}
 use Rattle.hosed_host.specs.HostDoors.{DoorsAsked, is_required}
 use Rattle.hosed_host.specs.HostOutcome.{FailsHost, HostOutcome, HostsConnections}
@@ -75,7 +75,7 @@ module _ (end : HostEnd) where
 
 -- so what is told of it is so, and of a door
 pub hosting_fails : {C E D N : Type 0} (cabinet : CabinetGhosts C E) (doors : DoorsGhosts D N) (asked : DoorsAsked) (old new : C) (was now : D) (came : Result HostEnd NotHosted) → ((end : HostEnd) → came ≡ Ok end → IsErr end.closing → CabinetFailed cabinet old new) → IfErr came (LeavesDoors doors asked was now) → (result : HostWhy) → IsWhyOf came result
-    → FailsHosting cabinet doors asked old new was now result
+    → FailsHosting cabinet doors asked (old, was) (new, now) result
 hosting_fails cabinet doors asked old new was now came closes left (reason.Ended (Stopped fault.Text)) is = absurd is
 hosting_fails cabinet doors asked old new was now came closes left (reason.Ended (Stopped fault.Cabinet)) (end, same, failed) = closes end same failed
 hosting_fails cabinet doors asked old new was now came closes left (reason.Ended (Stopped other)) is = tt
@@ -86,7 +86,7 @@ hosting_fails cabinet doors asked old new was now came closes left (reason.Stand
 
 -- and of its text, where no topology was read of it
 pub host_fails : {I O C E D N : Type 0} (tells : Tellings I O C E) (by : DoorTellings D N E) (names : PricedNames) (asked : DoorsAsked) (before after : Parts I O C) (was now : D) (read : C) (network : Network) → ReadsTopology tells.cabinet before.cabinet read names.prices names.topology (Ok network) → OthersStay tells.cabinet names.journal read after.cabinet → (result : HostWhy)
-    → FailsHosting tells.cabinet by.doors asked read after.cabinet was now result → FailsHost tells by names asked before after was now result
+    → FailsHosting tells.cabinet by.doors asked (read, was) (after.cabinet, now) result → FailsHost tells by names asked (door_parts before was) (door_parts after now) result
 host_fails tells by names asked before after was now read network reads others (reason.Ended other) fails = fails_then tells names before after read network reads others other fails
 host_fails tells by names asked before after was now read network reads others (reason.Door word trouble) fails = fails
 host_fails tells by names asked before after was now read network reads others reason.StandbyGone fails = tt
@@ -146,19 +146,19 @@ module _ {I O C E D N : Type 0} (tells : Tellings I O C E) (by : DoorTellings D 
   -- what a host is for
   abbrev purpose : ℕ → Purpose
   purpose status = record {
-    IsFulfilled = HostsConnections tells by names.journal asked before after was now;
+    IsFulfilled = HostsConnections tells by names.journal asked (door_parts before was) (door_parts after now);
     Untouched = now ≡ was;
     OthersHeld = (status ≢ 9) × (status ≢ 16) × (status ≢ 17);
   }
 
   -- the words are not what is wrong
-  pub host_not_1 : (status : ℕ) → HostOutcome tells by names asked before after was now status → status ≢ 1
+  pub host_not_1 : (status : ℕ) → HostOutcome tells by names asked (door_parts before was) (door_parts after now) status → status ≢ 1
   host_not_1 status outcome = named_not_1 tells names before after (purpose status) outcome.left status
       (λ network told. hosted_status tells.sink told.mid after.output status told.came told.ends 1 (λ e. absurd (cc e)) (λ e. absurd (cc e)) (λ e. absurd (cc e)) (λ e. absurd (cc e)) (λ e. absurd (cc e)) (λ e. absurd (cc e)) (λ e. absurd (cc e))) outcome.named.ends
 
   -- no topology was read
   pub no_topology_read : (why : Fault) (status : ℕ) → ReadsTopology tells.cabinet before.cabinet after.cabinet names.prices names.topology (Err why) → status ≡ status_of why → IsOut tells.sink before.output after.output (last_line why) → now ≡ was → after.input ≡ before.input
-      → HostOutcome tells by names asked before after was now status
+      → HostOutcome tells by names asked (door_parts before was) (door_parts after now) status
   no_topology_read why status reads is out same_doors same_input = named_not_read tells names before after (purpose status) why status (no_topology tells names before after why reads) is out same_doors same_input
 
   module _ (read : C) (network : Network) (status : ℕ) (reads : ReadsTopology tells.cabinet before.cabinet read names.prices names.topology (Ok network)) (alone : TouchesOnly tells.cabinet names.journal read after.cabinet)
@@ -192,7 +192,7 @@ module _ {I O C E D N : Type 0} (tells : Tellings I O C E) (by : DoorTellings D 
     refuses mid (Err none.Write) held told is says out = absurd (held.writing (subst (λ (o : O). Rose (tells.sink.frame before.output) (tells.sink.frame o)) (sym out.1) says.1))
 
     -- a journal was used, or not
-    pub is_hosted : HostsJournal tells by names.journal asked (record before { cabinet = read }) after was now status network → HostOutcome tells by names asked before after was now status
+    pub is_hosted : HostsJournal tells by names.journal asked (door_parts (record before { cabinet = read }) was) (door_parts after now) status network → HostOutcome tells by names asked (door_parts before was) (door_parts after now) status
     is_hosted (inr (why, is, not, out, same_doors)) = named_not_read tells names before after (purpose status) why status (no_store tells names before after read network why reads alone not) is out same_doors same_input
     is_hosted (inl told) =
         named_read tells names before after (purpose status) read network status reads alone same_input

@@ -8,9 +8,8 @@ use Rattle.hose_net.specs.declared.hold.Parting.{Parting}
 use Rattle.hose_net.specs.declared.hold.Parting.TheVariants as parting
 use Rattle.hose_graph.specs.Network.{IsNetwork, Network}
 use Rattle.hose_graph.specs.declared.entry.Entry.{Entry}
-use Rattle.hose_law.specs.History.{IsDecided, IsDecidedAt}
+use Rattle.hose_law.specs.History.{IsDecided, IsDecidedAt, IsSound}
 use Rattle.hose_law.proofs.Scripts.{decided_end}
-use Rattle.hose_law.specs.History.{IsSound}
 use Rattle.hose_book.specs.Ledger.{HasBookOf, IsLedgerOf}
 use Rattle.hose_book.specs.steps.GoingOn.{GoesOn, none_yet}
 use Rattle.hose_clerk.specs.HostLines.{HostLine, SaysAt}
@@ -35,12 +34,12 @@ use Rattle.hose_lead.specs.LedStore.{LedState}
 use Rattle.hose_lead.specs.steps.LedStore.{IsLedOf, led_books}
 use Rattle.hose_lead.proofs.Led.{led_goes_on}
 use Rattle.hose_store.proofs.Standing.{opened_stands, run_stands}
-use Rattle.hose_offline.specs.OnDisk.{opening_of}
-use Rattle.hose_offline.specs.Parts.{Tellings}
-use Rattle.hose_offline.specs.steps.Journal.{ClosesJournal, OpensJournal}
-use Rattle.hose_offline.proofs.Provided.{decided_provides}
-use Rattle.hose_offline.proofs.Journals.{leaves_for, put_back}
-use Rattle.hose_offline.proofs.PutBack.{IsPutBack, counts, held_as, left_as_kind}
+use Rattle.hose_outside.specs.OnDisk.{opening_of}
+use Rattle.hose_outside.specs.Parts.{Tellings}
+use Rattle.hose_outside.specs.steps.Journal.{ClosesJournal, OpensJournal}
+use Rattle.hose_outside.proofs.Provided.{decided_provides}
+use Rattle.hose_outside.proofs.Journals.{leaves_for, put_back}
+use Rattle.hose_outside.proofs.PutBack.{IsPutBack, counts, held_as, left_as_kind}
 use Rattle.hosed_host.specs.HostBook.{DoorTellings, HostsByJournal, HostsDoors, IsEndedFor, KeepsHosted, LeavesDoors, StandOnDisk, StaysUnhosted}
 use Rattle.hosed_host.specs.HostDoors.{AreOpenedAt, DoorsAsked, StandbyPlace, is_required, may_be_alone}
 use Rattle.hosed_host.specs.declared.hosting.HostEnd.{HostEnd}

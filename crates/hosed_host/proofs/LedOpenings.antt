@@ -14,9 +14,9 @@ use Rattle.hose_store.proofs.Standing.{closed_left, opened_stands, run_stands}
 use Rattle.hose_lead.specs.LedStore.{LedState, RecentState}
 use Rattle.hose_lead.specs.steps.History.{IsRecentOf}
 use Rattle.hose_lead.specs.steps.LedStore.{IsLedOf}
-use Rattle.hose_offline.specs.OnDisk.{opening_of}
-use Rattle.hose_offline.specs.steps.Journal.{IsJustOpened, IsLawful, OpensJournal}
-use Rattle.hose_offline.proofs.Journals.{left_unused}
+use Rattle.hose_outside.specs.OnDisk.{opening_of}
+use Rattle.hose_outside.specs.steps.Journal.{IsJustOpened, IsLawful, OpensJournal}
+use Rattle.hose_outside.proofs.Journals.{left_unused}
 use Rattle.hosed_host.specs.steps.Reading.{HasReadStore}
 
 module _ {D : Type 0} (disk : Ghosts D) (was : D) (network : Network) where

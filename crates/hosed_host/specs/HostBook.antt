@@ -32,13 +32,13 @@ use Rattle.hose_proto.specs.ReplyText.{line_of}
 use Rattle.hose_store.specs.Beginning.{HasLeft, IsOrInDoubt}
 use Rattle.hose_store.specs.Recovery.{IsHistoryOf}
 use Rattle.hose_lead.specs.LedStore.{LedState}
-use Rattle.hose_offline.specs.Ending.{EndsTold, IsOut}
-use Rattle.hose_offline.specs.Fault.{status_of}
-use Rattle.hose_offline.specs.OnDisk.{HadContent, OfHeld, opening_of}
-use Rattle.hose_offline.specs.Parts.{Tellings}
-use Rattle.hose_offline.specs.Run.{Provides}
-use Rattle.hose_offline.specs.declared.fault.Fault.TheVariants as fault
-use Rattle.hose_offline.specs.declared.why.Why.TheVariants.{Stopped}
+use Rattle.hose_outside.specs.Ending.{EndsTold, IsOut}
+use Rattle.hose_outside.specs.Fault.{status_of}
+use Rattle.hose_outside.specs.OnDisk.{HadContent, OfHeld, opening_of}
+use Rattle.hose_outside.specs.Parts.{Tellings}
+use Rattle.hose_outside.specs.Provides.{Provides}
+use Rattle.hose_outside.specs.declared.fault.Fault.TheVariants as fault
+use Rattle.hose_outside.specs.declared.why.Why.TheVariants.{Stopped}
 use Rattle.hosed_host.specs.HostDoors.{AreOpenedAt, DoorsAsked, is_required, may_be_alone, number_of}
 use Rattle.hosed_host.specs.HostWhy.{host_status, last_of_host}
 use Rattle.hosed_host.specs.declared.why.HostWhy.{HostWhy}

@@ -2,8 +2,8 @@
 use Rattle.std.specs.Prelude.{ℕ, List, ◌++◌, codes, decimal}
 use Rattle.hose_io.specs.declared.sink.Sink.{Ghosts}
 use Rattle.hose_proto.specs.ReplyText.{line_of}
-use Rattle.hose_offline.specs.Ending.{IsOut}
-use Rattle.hose_offline.specs.Why.{why_line, why_status}
+use Rattle.hose_outside.specs.Ending.{IsOut}
+use Rattle.hose_outside.specs.Why.{why_line, why_status}
 use Rattle.hosed_host.specs.declared.why.HostWhy.{HostWhy}
 use Rattle.hosed_host.specs.declared.why.HostWhy.TheVariants.{Door, Ended, StandbyAhead, StandbyGone}
 

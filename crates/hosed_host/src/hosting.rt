@@ -6,17 +6,17 @@ ghost use Rattle.hose_proto.specs.ReplyText.{line_of};
 ghost use Rattle.hose_io.specs.steps.Writing.{IsPut};
 ghost use Rattle.hose_graph.specs.Network.{IsNetwork, Network};
 ghost use Rattle.hose_law.specs.History.{IsDecidedAt};
-ghost use Rattle.hose_offline.specs.Auditing.{priced_names};
-ghost use Rattle.hose_offline.specs.Ending.{IsOut};
-ghost use Rattle.hose_offline.specs.OnDisk.{OthersStay};
-ghost use Rattle.hose_offline.specs.Parts.{tellings};
-ghost use Rattle.hose_offline.specs.Why.{why_status};
+ghost use Rattle.hose_outside.specs.Reading.{priced_names};
+ghost use Rattle.hose_outside.specs.Ending.{IsOut};
+ghost use Rattle.hose_outside.specs.OnDisk.{OthersStay};
+ghost use Rattle.hose_outside.specs.Parts.{door_parts, tellings};
+ghost use Rattle.hose_outside.specs.Why.{why_status};
 ghost use Rattle.hose_lead.specs.LedStore.{LedState};
 ghost use Rattle.hose_lead.specs.steps.LedStore.{IsLedOf};
 ghost use Rattle.hose_audit.specs.Audit.{audit_text};
 ghost use Rattle.hose_clerk.specs.steps.Linking.{goes_alone, path_at};
-ghost use Rattle.hose_offline.specs.steps.Journal.{OpensJournal, TouchesOnly};
-ghost use Rattle.hose_offline.specs.steps.Parts.{KeepsAll, LeavesBeside, held};
+ghost use Rattle.hose_outside.specs.steps.Journal.{OpensJournal, TouchesOnly};
+ghost use Rattle.hose_outside.specs.steps.Parts.{KeepsAll, LeavesBeside, held};
 ghost use Rattle.hosed_host.specs.HostBook.{Announces, EndsBy, EndsHosted, HostsByJournal, LeavesDoors, door_tellings};
 ghost use Rattle.hosed_host.specs.HostDoors.{AreOpenedAt, door_words, may_be_alone};
 ghost use Rattle.hose_clerk.specs.declared.doors.DoorRule.{DoorRule};
@@ -38,7 +38,7 @@ use hose_io::{Failed, Gather, Sink, Source, write_all};
 use hose_lead::LedStore;
 use hose_log::Log;
 use hose_net::{Address, DoorTrouble, Doors, DoorsFault, Parting};
-use hose_offline::{Fault, Outside, Why, close_journal, end, read_topology, tell};
+use hose_outside::{Fault, Outside, Why, close_journal, end, read_topology, tell};
 use hose_paths::{RowTable, RowsInAdvance};
 use hose_store::Decided;
 use hose_tariff::Prices;
@@ -91,15 +91,15 @@ pub fn host_by_names<W: Wait, P: Prices, I: Source, O: Sink, C: Cabinet, D: Door
         (door_tellings D.Doors D.Network.Connections.did
         (D.Network.Connections.saw (LedState C.Disk)))
         (priced_names (P.prices costs.now) request.entry.topology.now request.entry.journal.now)
-        (asked_of request.entry.doors) (held outside.old) (held outside.new)
-        doors.old doors.new (host_status result) }
+        (asked_of request.entry.doors) (door_parts (held outside.old) doors.old)
+        (door_parts (held outside.new) doors.new) (host_status result) }
     ensures told { TellsWhy O.Sink outside.new.output.now result }
     ensures fails { FailsHost (tellings I.Source O.Sink C.Cabinet C.Disk.Disk)
         (door_tellings D.Doors D.Network.Connections.did
         (D.Network.Connections.saw (LedState C.Disk)))
         (priced_names (P.prices costs.now) request.entry.topology.now request.entry.journal.now)
-        (asked_of request.entry.doors) (held outside.old) (held outside.new)
-        doors.old doors.new result }
+        (asked_of request.entry.doors) (door_parts (held outside.old) doors.old)
+        (door_parts (held outside.new) doors.new) result }
     ensures not_words { host_status result ≢ 1 }
     ensures back { (C.frame outside.new.cabinet.now).out ≡ None }
     ensures keeps { KeepsAll (tellings I.Source O.Sink C.Cabinet C.Disk.Disk)
@@ -127,11 +127,11 @@ fn host_journal<W: Wait, I: Source, O: Sink, C: Cabinet, D: Doors, L: Log>(
     ensures hosts { HostsJournal (tellings I.Source O.Sink C.Cabinet C.Disk.Disk)
         (door_tellings D.Doors D.Network.Connections.did
         (D.Network.Connections.saw (LedState C.Disk))) request.entry.journal.now
-        (asked_of request.entry.doors) (held outside.old) (held outside.new)
-        doors.old doors.new (host_status result) topology }
+        (asked_of request.entry.doors) (door_parts (held outside.old) doors.old)
+        (door_parts (held outside.new) doors.new) (host_status result) topology }
     ensures told { TellsWhy O.Sink (held outside.new).output result }
     ensures fails { FailsHosting C.Cabinet D.Doors (asked_of request.entry.doors)
-        (held outside.old).cabinet (held outside.new).cabinet doors.old doors.new result }
+        ((held outside.old).cabinet, doors.old) ((held outside.new).cabinet, doors.new) result }
     ensures input { (held outside.new).input ≡ (held outside.old).input }
     ensures alone { TouchesOnly C.Cabinet request.entry.journal.now (held outside.old).cabinet
         (held outside.new).cabinet }

@@ -4,16 +4,16 @@ ghost use Rattle.hose_graph.specs.Network.{Network};
 ghost use Rattle.hose_graph.specs.declared.entry.Entry.{Entry};
 ghost use Rattle.hose_graph.specs.Limits.{most_epoch};
 ghost use Rattle.hose_lead.specs.steps.LedStore.{IsLedOf};
-ghost use Rattle.hose_offline.specs.OnDisk.{OthersStay};
-ghost use Rattle.hose_offline.specs.Unopened.{OpensNoJournal};
-ghost use Rattle.hose_offline.specs.steps.Journal.{IsJustOpened, IsOpenCall, OpensJournal};
-ghost use Rattle.hose_offline.specs.steps.Unopened.{IsNotOpened};
+ghost use Rattle.hose_outside.specs.OnDisk.{OthersStay};
+ghost use Rattle.hose_outside.specs.Unopened.{OpensNoJournal};
+ghost use Rattle.hose_outside.specs.steps.Journal.{IsJustOpened, IsOpenCall, OpensJournal};
+ghost use Rattle.hose_outside.specs.steps.Unopened.{IsNotOpened};
 ghost use Rattle.hosed_host.specs.steps.Reading.{HasRead, IsNextOf, ReadsAll, ReadsNext, ReadsStore};
 
 use hose_disk::{Cabinet, Disk};
 use hose_graph::Topology;
 use hose_lead::{LedStore, RecentPackets};
-use hose_offline::{Fault, open_journal};
+use hose_outside::{Fault, open_journal};
 use hose_store::{Premises, Replay, StoreFault};
 use std::alloc::Global;
 

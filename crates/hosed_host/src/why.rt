@@ -3,7 +3,7 @@ ghost use Rattle.std.specs.Prelude.{◌≡◌};
 ghost use Rattle.hosed_host.specs.HostWhy.{host_status};
 
 use hose_net::DoorTrouble;
-use hose_offline::Why;
+use hose_outside::Why;
 
 /// Why a host ended.
 #[derive(Clone, Copy, Debug, PartialEq, Eq)]

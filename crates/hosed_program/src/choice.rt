@@ -2,11 +2,11 @@
 ghost use Rattle.std.specs.Prelude.{◌≡◌, None, Ok, map, ⊤};
 ghost use Rattle.std.specs.String.{string_bytes};
 ghost use Rattle.hose_io.specs.Frame.{Stays};
-ghost use Rattle.hose_offline.specs.Ending.{EndsTold};
-ghost use Rattle.hose_offline.specs.Parts.{AllStay, parts, tellings};
-ghost use Rattle.hose_offline.specs.Why.{IsTold, why_status};
+ghost use Rattle.hose_outside.specs.Ending.{EndsTold};
+ghost use Rattle.hose_outside.specs.Parts.{AllStay, door_parts, parts, tellings};
+ghost use Rattle.hose_outside.specs.Why.{IsTold, why_status};
 ghost use Rattle.hosed.specs.Failing.{FailsWords};
-ghost use Rattle.hosed.specs.Naming.{NamesOf};
+ghost use Rattle.hosed_requests.specs.Naming.{NamesOf};
 ghost use Rattle.hosed.specs.Offline.{offer_of};
 ghost use Rattle.hosed.specs.ServerDoor.{seen_of};
 ghost use Rattle.hosed_program.specs.Program.{ProgramOutcome, asks_help, text_or_command};
@@ -15,10 +15,11 @@ ghost use Rattle.hosed_program.specs.declared.choice.TextOrCommand.TheVariants a
 use crate::texts::{HELP, VERSION};
 use hose_disk::Cabinet;
 use hose_io::{Door, Sink, Source, write_all};
-use hose_offline::{Fault, Why};
+use hose_outside::{Fault, Why};
 use hose_pool::Gate;
 use hose_tariff::{Prices, Tariff};
-use hosed::{Context, Ended, asks_to_serve, hosed_ended, offline_ended};
+use hosed::{Context, Ended, hosed_ended, offline_ended};
+use hosed_requests::asks_to_serve;
 use std::sync::Wait;
 use std::thread::Threads;
 
@@ -57,10 +58,10 @@ pub fn program<
 ) -> Ended<'w>
     requires { (C.frame world.old.cabinet).out ≡ None }
     ensures outcome { ProgramOutcome (tellings I.Source O.Sink C.Cabinet C.Disk.Disk)
-        (parts world.old.input world.old.output world.old.cabinet)
-        (parts world.new.input world.new.output world.new.cabinet)
-        (seen_of (L.frame world.old.door) (L.told world.old.door) (L.opened_at world.old.door))
-        (seen_of (L.frame world.new.door) (L.told world.new.door) (L.opened_at world.new.door))
+        (door_parts (parts world.old.input world.old.output world.old.cabinet)
+        (seen_of (L.frame world.old.door) (L.told world.old.door) (L.opened_at world.old.door)))
+        (door_parts (parts world.new.input world.new.output world.new.cabinet)
+        (seen_of (L.frame world.new.door) (L.told world.new.door) (L.opened_at world.new.door)))
         (offer_of ⟦<Tariff as Prices>⟧.prices (λ tariff. tariff.name) (λ tariff. tariff.base)
         (λ tariff. tariff.per) tariffs.now)
         (why_status result.why) (map string_bytes words.now) }

@@ -1,12 +1,12 @@
 // A host, as the program's words ask for it.
 ghost use Rattle.std.specs.Prelude.{◌≡◌, None, map, option_map};
 ghost use Rattle.std.specs.String.{string_bytes};
-ghost use Rattle.hose_offline.specs.Auditing.{priced_names};
-ghost use Rattle.hose_offline.specs.Parts.{AllStay, parts, tellings};
-ghost use Rattle.hosed.specs.HostNaming.{HostNamesOf};
-ghost use Rattle.hosed.specs.HostWords.{AreHostWords, AsksToHost, HostAsked};
+ghost use Rattle.hose_outside.specs.Reading.{priced_names};
+ghost use Rattle.hose_outside.specs.Parts.{AllStay, door_parts, parts, tellings};
+ghost use Rattle.hosed_requests.specs.HostNaming.{HostNamesOf};
+ghost use Rattle.hosed_requests.specs.HostWords.{AreHostWords, AsksToHost, HostAsked};
 ghost use Rattle.hosed.specs.Offline.{offer_of};
-ghost use Rattle.hosed.specs.ProgramWords.{costs_at};
+ghost use Rattle.hosed_requests.specs.ProgramWords.{costs_at};
 ghost use Rattle.hose_lead.specs.LedStore.{LedState};
 ghost use Rattle.hosed_host.specs.HostBook.{door_tellings};
 ghost use Rattle.hosed_host.specs.HostOutcome.{FailsHost};
@@ -18,10 +18,10 @@ use hose_disk::Cabinet;
 use hose_io::{Sink, Source};
 use hose_log::ErrorLog;
 use hose_net::Doors;
-use hose_offline::{Fault, Outside, end};
+use hose_outside::{Fault, Outside, end};
 use hose_tariff::{Prices, Tariff};
-use hosed::{HostWords, StandbyWords, costs_of, host_words};
 use hosed_host::{HostDoors, HostRequest, HostWhy, StandbyPlan, host_by_names};
+use hosed_requests::{HostWords, StandbyWords, costs_of, host_words};
 use std::alloc::Global;
 use std::io::Write;
 use std::sync::Wait;
@@ -74,8 +74,9 @@ pub fn host_ended<
         (D.Network.Connections.saw (LedState C.Disk)))
         (offer_of ⟦<Tariff as Prices>⟧.prices (λ tariff. tariff.name) (λ tariff. tariff.base)
         (λ tariff. tariff.per) tariffs.now)
-        (parts input.old output.old cabinet.old) (parts input.new output.new cabinet.new)
-        host.old.doors host.new.doors (host_status result.why) (map string_bytes words.now) }
+        (door_parts (parts input.old output.old cabinet.old) host.old.doors)
+        (door_parts (parts input.new output.new cabinet.new) host.new.doors)
+        (host_status result.why) (map string_bytes words.now) }
     ensures told { TellsWhy O.Sink output.new result.why }
     ensures fails { (asked : HostAsked) → AreHostWords (map (λ tariff. tariff.name) tariffs.now)
         (map string_bytes words.now) asked
@@ -84,8 +85,8 @@ pub fn host_ended<
         (D.Network.Connections.saw (LedState C.Disk)))
         (priced_names (costs_at ⟦<Tariff as Prices>⟧.prices tariffs.now asked.tariff)
         asked.topology asked.journal) (doors_of (map (λ tariff. tariff.name) tariffs.now) asked)
-        (parts input.old output.old cabinet.old) (parts input.new output.new cabinet.new)
-        host.old.doors host.new.doors result.why }
+        (door_parts (parts input.old output.old cabinet.old) host.old.doors)
+        (door_parts (parts input.new output.new cabinet.new) host.new.doors) result.why }
     ensures names { HostNamesOf (map (λ tariff. tariff.name) tariffs.now)
         (map string_bytes words.now) result.named }
     ensures back { (C.frame cabinet.new).out ≡ None }

@@ -1,9 +1,9 @@
 // The program's one call.
 ghost use Rattle.std.specs.Prelude.{◌≡◌, ◌∷◌, [], None, codes, map};
-ghost use Rattle.hose_offline.specs.Ending.{IsOut};
-ghost use Rattle.hose_offline.specs.Fault.{last_line};
-ghost use Rattle.hose_offline.specs.Parts.{parts, tellings};
-ghost use Rattle.hose_offline.specs.declared.fault.Fault.TheVariants as fault;
+ghost use Rattle.hose_outside.specs.Ending.{IsOut};
+ghost use Rattle.hose_outside.specs.Fault.{last_line};
+ghost use Rattle.hose_outside.specs.Parts.{door_parts, parts, tellings};
+ghost use Rattle.hose_outside.specs.declared.fault.Fault.TheVariants as fault;
 ghost use Rattle.hosed.specs.Offline.{offer_of};
 ghost use Rattle.hosed.specs.ServerDoor.{seen_of};
 ghost use Rattle.hose_lead.specs.LedStore.{LedState};
@@ -19,10 +19,11 @@ use crate::words::program_words;
 use hose_disk::Cabinet;
 use hose_io::{Door, Sink, Source, write_all};
 use hose_net::Doors;
-use hose_offline::{Fault, Why};
+use hose_outside::{Fault, Why};
 use hose_pool::Gate;
 use hose_tariff::{Prices, Tariff};
-use hosed::{Context, Ended, asks_to_host};
+use hosed::{Context, Ended};
+use hosed_requests::asks_to_host;
 use std::io::{Eprint, Write};
 use std::sync::Wait;
 use std::thread::Threads;
@@ -60,11 +61,14 @@ pub fn start<
         (D.Network.Connections.saw (LedState C.Disk)))
         (offer_of ⟦<Tariff as Prices>⟧.prices (λ tariff. tariff.name) (λ tariff. tariff.base)
         (λ tariff. tariff.per) tariffs.now)
-        (parts world.old.input world.old.output world.old.cabinet)
-        (parts world.new.input world.new.output world.new.cabinet)
-        (seen_of (L.frame world.old.door) (L.told world.old.door) (L.opened_at world.old.door))
-        (seen_of (L.frame world.new.door) (L.told world.new.door) (L.opened_at world.new.door))
-        host.old.doors host.new.doors result (W.words given.now) }
+        (door_parts (parts world.old.input world.old.output world.old.cabinet) (
+          seen_of (L.frame world.old.door) (L.told world.old.door) (L.opened_at world.old.door),
+          host.old.doors,
+        ))
+        (door_parts (parts world.new.input world.new.output world.new.cabinet) (
+          seen_of (L.frame world.new.door) (L.told world.new.door) (L.opened_at world.new.door),
+          host.new.doors,
+        )) result (W.words given.now) }
 {
     match program_words(given, context.alloc) {
         Ok(words) => {

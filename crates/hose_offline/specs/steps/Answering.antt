@@ -3,10 +3,10 @@ use Rattle.std.specs.Prelude.{◌≡◌, ◌↔◌, ℕ, ◌+◌, ◌<◌, ◌�
 use Rattle.hose_words.specs.steps.Lines.{Reader}
 use Rattle.hose_words.specs.steps.Reading.{ReadsOn}
 use Rattle.hose_words.specs.declared.lines.TheConstants.{INPUT_LIMIT}
-use Rattle.hose_offline.specs.OnDisk.{OthersStay}
-use Rattle.hose_offline.specs.Parts.{AllStay, Parts, Tellings, parts}
-use Rattle.hose_offline.specs.declared.fault.Fault.{Fault}
-use Rattle.hose_offline.specs.declared.fault.Fault.TheVariants.{TooLong}
+use Rattle.hose_outside.specs.OnDisk.{OthersStay}
+use Rattle.hose_outside.specs.Parts.{AllStay, Parts, Tellings, parts}
+use Rattle.hose_outside.specs.declared.fault.Fault.{Fault}
+use Rattle.hose_outside.specs.declared.fault.Fault.TheVariants.{TooLong}
 
 -- What a run, up to its last line, keeps, whatever it comes to. Lines are read on, and given up
 -- exactly where they are too long. The disks of other names than the journal's, if there is one,

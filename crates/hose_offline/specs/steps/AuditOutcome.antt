@@ -1,11 +1,11 @@
 -- What stands after `audit`, by what ended it: steps of proofs.
 use Rattle.std.specs.Prelude.{◌≡◌, ◌⊎◌, ℕ, List, Err}
 use Rattle.hose_graph.specs.Network.{Network}
-use Rattle.hose_offline.specs.Ending.{IsOut}
-use Rattle.hose_offline.specs.Fault.{last_line, status_of}
-use Rattle.hose_offline.specs.Parts.{Parts, Tellings}
-use Rattle.hose_offline.specs.Unopened.{OpensNoJournal}
-use Rattle.hose_offline.specs.declared.fault.Fault.{Fault}
+use Rattle.hose_outside.specs.Ending.{IsOut}
+use Rattle.hose_outside.specs.Fault.{last_line, status_of}
+use Rattle.hose_outside.specs.Parts.{Parts, Tellings}
+use Rattle.hose_outside.specs.Unopened.{OpensNoJournal}
+use Rattle.hose_outside.specs.declared.fault.Fault.{Fault}
 use Rattle.hose_offline.specs.AuditOutcome.{IsAudited}
 
 -- ---- an audit

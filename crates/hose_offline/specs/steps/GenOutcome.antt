@@ -4,9 +4,9 @@ use Rattle.hose_io.specs.Frame.{Rose}
 use Rattle.hose_io.specs.Stream.{Grows}
 use Rattle.hose_io.specs.Writing.{GrowsInPart}
 use Rattle.hose_io.specs.declared.sink.Sink.{Ghosts as SinkGhosts}
-use Rattle.hose_offline.specs.Ending.{OutputWorked}
-use Rattle.hose_offline.specs.declared.fault.Fault.{Fault}
-use Rattle.hose_offline.specs.declared.fault.Fault.TheVariants.{Memory, Write}
+use Rattle.hose_outside.specs.Ending.{OutputWorked}
+use Rattle.hose_outside.specs.declared.fault.Fault.{Fault}
+use Rattle.hose_outside.specs.declared.fault.Fault.TheVariants.{Memory, Write}
 use Rattle.hose_offline.specs.declared.generating.Sizes.{Sizes}
 use Rattle.hose_offline.specs.GenOutcome.{IsSummary}
 

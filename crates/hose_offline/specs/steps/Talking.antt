@@ -17,10 +17,10 @@ use Rattle.hose_law.specs.History.{IsDecided}
 use Rattle.hose_law.specs.Quotes.{Holdings, nothing_held}
 use Rattle.hose_law.specs.Script.{ReadLine, IsFixedReply, IsScript, script_state}
 use Rattle.hose_law.specs.Script.ReadLine.{Asks, IsBad, IsLong, Unread}
-use Rattle.hose_offline.specs.Fault.{done_of_talk}
+use Rattle.hose_offline.specs.Talking.{done_of_talk, IsAskedBy, Says, TellsDisks}
 use Rattle.hose_offline.specs.ScriptLine.{IsAsking, WantsMemory, script_shape}
 use Rattle.hose_proto.specs.ReplyText.{line_of, reply_text}
-use Rattle.hose_talk.specs.Talk.{TalksTo, Terms}
+use Rattle.hose_talk.specs.Talk.{TalksTo, Terms, Talk, talk}
 use Rattle.hose_talk.specs.steps.Talk.{IsCutByReader, KeepsFault}
 use Rattle.hose_talk.specs.declared.talking.TalkEnd.{TalkEnd}
 use Rattle.hose_talk.specs.declared.talking.TalkFault.{TalkFault}
@@ -30,10 +30,8 @@ use Rattle.hose_book.specs.declared.books.Books.{Ghosts as BooksGhosts}
 use Rattle.hose_book.specs.declared.books.Plain.{Plain}
 use Rattle.hose_core.specs.steps.Holding.{State}
 use Rattle.hose_core.specs.steps.Stepping.{FitsHistory, Steps, committed_of}
-use Rattle.hose_talk.specs.Talk.{Talk, talk}
-use Rattle.hose_offline.specs.declared.fault.Fault.{Fault}
-use Rattle.hose_offline.specs.declared.fault.Fault.TheVariants as fault
-use Rattle.hose_offline.specs.Talking.{IsAskedBy, Says, TellsDisks}
+use Rattle.hose_outside.specs.declared.fault.Fault.{Fault}
+use Rattle.hose_outside.specs.declared.fault.Fault.TheVariants as fault
 
 -- what a line says, as a reader of lines gives it
 abbrev pub SaysRead : Network → Line → ReadLine → Type 0

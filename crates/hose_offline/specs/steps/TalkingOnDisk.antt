@@ -10,14 +10,15 @@ use Rattle.hose_book.specs.steps.GoingOn.{GoesOn}
 use Rattle.hose_store.specs.steps.Commit.{store_books}
 use Rattle.hose_store.specs.Recovery.{IsHistoryOf}
 use Rattle.hose_store.specs.steps.Store.{KeptStore}
-use Rattle.hose_offline.specs.OnDisk.{HadContent, KeptOnDisk}
-use Rattle.hose_offline.specs.Parts.{Parts, Tellings}
+use Rattle.hose_outside.specs.OnDisk.{HadContent}
+use Rattle.hose_offline.specs.OnDisk.{KeptOnDisk}
+use Rattle.hose_outside.specs.Parts.{Parts, Tellings}
 use Rattle.hose_offline.specs.Run.{script_run}
-use Rattle.hose_offline.specs.Unopened.{OpensNoJournal, first_of}
+use Rattle.hose_outside.specs.Unopened.{OpensNoJournal, first_of}
 use Rattle.hose_talk.specs.Talk.{talk}
 use Rattle.hose_offline.specs.Talking.{IsAskedBy, TellsDisks}
 use Rattle.hose_offline.specs.steps.Talking.{Talks, talk_tellings}
-use Rattle.hose_offline.specs.declared.fault.Fault.{Fault}
+use Rattle.hose_outside.specs.declared.fault.Fault.{Fault}
 
 -- The lines of a reader are answered by the book of the journal of this name.
 module _ {S O C E : Type 0} (tells : Tellings S O C E) (name : List ℕ)

@@ -1,10 +1,10 @@
 use Rattle.std.proofs.Common.{ap, map, refl, rules}
 use Rattle.std.specs.String.{string_bytes}
-use Rattle.hose_offline.specs.steps.Parts.{held}
-use Rattle.hosed.specs.steps.ProgramWords.{task_of}
-use Rattle.hosed.specs.declared.verb.ProgramVerb.TheVariants as command
+use Rattle.hose_outside.specs.steps.Parts.{held}
+use Rattle.hosed_requests.specs.steps.ProgramWords.{task_of}
+use Rattle.hosed_requests.specs.declared.verb.ProgramVerb.TheVariants as command
 use Rattle.hosed.proofs.Outcomes.{are_wrong, fails_none, fails_of, fails_words, served_of}
-use Rattle.hosed.proofs.ProgramShapes.{are_told, no_task, same_server, unfit_wrong}
+use Rattle.hosed_requests.proofs.ProgramShapes.{are_told, no_task, same_server, unfit_wrong}
 use Rattle.hosed.proofs.hosed_ended.Goals as goal
 
 pub returns-in-Ok-clause-outcome : goal.returns-in-Ok-clause-outcome
@@ -39,7 +39,7 @@ returns-in-Err-clause-outcome g c =
     record {
       offline = λ never. absurd (never (search rules));
       words_at_1 = λ asks. ((λ one. are_wrong _ _ _ wrong), λ none. c.end.ensures.status);
-      wrong_words = λ asks one. (refl, refl, refl, (_, unfit_wrong _ _ _ wrong, c.end.ensures.last_line));
+      wrong_words = λ asks one. (record { input = refl; cabinet = refl; door = refl }, (_, unfit_wrong _ _ _ wrong, c.end.ensures.last_line));
       serves = λ task are. absurd (no_task _ _ command.Serve task _ are wrong);
     }
 

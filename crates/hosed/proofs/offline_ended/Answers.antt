@@ -1,6 +1,6 @@
 use Rattle.std.proofs.Common.{ap, refl, rules}
-use Rattle.hose_offline.specs.Parts.{parts}
-use Rattle.hose_offline.specs.steps.Parts.{held}
+use Rattle.hose_outside.specs.Parts.{parts}
+use Rattle.hose_outside.specs.steps.Parts.{held}
 use Rattle.hosed.proofs.Outcomes.{are_wrong, fails_none, fails_of, told_of, wrong_words}
 use Rattle.hosed.proofs.offline_ended.Goals as goal
 

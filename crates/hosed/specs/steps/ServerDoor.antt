@@ -18,15 +18,15 @@ use Rattle.hose_store.specs.steps.Store.{KeptStore}
 use Rattle.hose_shared.specs.Trying.{IsTried}
 use Rattle.hose_turn.specs.declared.view.Tried.{Tried}
 use Rattle.hose_turn.specs.Known.{Known}
-use Rattle.hose_offline.specs.OnDisk.{opening_of}
-use Rattle.hose_offline.specs.steps.Ending.{IsWhyAfter}
-use Rattle.hose_offline.specs.steps.Journal.{IsJustOpened}
-use Rattle.hose_offline.specs.declared.fault.Fault.{Fault}
-use Rattle.hose_offline.specs.declared.fault.Fault.TheVariants.{Memory}
-use Rattle.hose_offline.specs.declared.why.Why.{Why}
-use Rattle.hose_offline.specs.declared.why.Why.TheVariants.{Stopped}
+use Rattle.hose_outside.specs.OnDisk.{opening_of}
+use Rattle.hose_outside.specs.steps.Ending.{IsWhyAfter}
+use Rattle.hose_outside.specs.steps.Journal.{IsJustOpened}
+use Rattle.hose_outside.specs.declared.fault.Fault.{Fault}
+use Rattle.hose_outside.specs.declared.fault.Fault.TheVariants.{Memory}
+use Rattle.hose_outside.specs.declared.why.Why.{Why}
+use Rattle.hose_outside.specs.declared.why.Why.TheVariants.{Stopped}
 use Rattle.hosed.specs.declared.server.ServerEnd.{ServerEnd}
-use Rattle.hosed.specs.ServeOutcome.{first_failed}
+use Rattle.hosed.specs.ServeOutcome.{Serving, first_failed}
 use Rattle.hosed.specs.ServerDoor.{DoorSeen, ServesBook, Speaks, ready_line}
 
 -- ---- what a server says
@@ -47,6 +47,10 @@ module _ {O : Type 0} (sink : SinkGhosts O) (port : ℕ) (output output' : O)
       × (sink.frame output' ≡ sink.frame output)
   IsAnnounced (Err Memory) = ⊥
   IsAnnounced (Err why) = Speaks sink port output output' was now (Err why)
+
+-- what a server is asked for besides, of its parts
+abbrev pub serving : ℕ → ℕ → Serving
+serving port connections = record { port = port; connections = connections }
 
 -- why it ended: as closing and accepting came, or for what no connection was served
 abbrev pub IsWhyServed : Result ServerEnd Fault → Why → Type 0

@@ -4,15 +4,15 @@ use Rattle.std.specs.String.{string_bytes}
 use Rattle.hose_io.specs.declared.Failed.{Failed}
 use Rattle.hose_graph.specs.Network.{Network}
 use Rattle.hose_net.specs.declared.doors.Doors.{Ghosts as DoorsGhosts}
-use Rattle.hose_offline.specs.Ending.{IsOut}
-use Rattle.hose_offline.specs.Fault.{last_line, status_of}
-use Rattle.hose_offline.specs.Parts.{Parts, Tellings}
-use Rattle.hose_offline.specs.Unopened.{OpensNoJournal}
-use Rattle.hose_offline.specs.declared.fault.Fault.{Fault}
-use Rattle.hose_offline.specs.declared.fault.Fault.TheVariants as fault
-use Rattle.hose_offline.specs.declared.why.Why.{Why}
-use Rattle.hose_offline.specs.declared.why.Why.TheVariants.{Stopped}
-use Rattle.hose_offline.specs.steps.Failing.{FailsOpened}
+use Rattle.hose_outside.specs.Ending.{IsOut}
+use Rattle.hose_outside.specs.Fault.{last_line, status_of}
+use Rattle.hose_outside.specs.Parts.{DoorParts, Tellings}
+use Rattle.hose_outside.specs.Unopened.{OpensNoJournal}
+use Rattle.hose_outside.specs.declared.fault.Fault.{Fault}
+use Rattle.hose_outside.specs.declared.fault.Fault.TheVariants as fault
+use Rattle.hose_outside.specs.declared.why.Why.{Why}
+use Rattle.hose_outside.specs.declared.why.Why.TheVariants.{Stopped}
+use Rattle.hose_outside.specs.steps.Failing.{FailsOpened}
 use Rattle.hose_disk.specs.declared.cabinet.Cabinet.{Ghosts as CabinetGhosts}
 use Rattle.hose_doors.specs.Doors.{IsSocketPath, NamesDoor}
 use Rattle.hose_doors.specs.Limits.{most_doors}
@@ -71,22 +71,24 @@ IsWhyOf came (why.Door word trouble) = came ≡ Err (none.Door word trouble)
 IsWhyOf came why.StandbyGone = ⊤
 IsWhyOf came (why.StandbyAhead count) = ⊤
 
--- what is told of the files of a host once its topology was read, and of its doors
-abbrev pub FailsHosting : {C E D N : Type 0} → CabinetGhosts C E → DoorsGhosts D N → DoorsAsked → C
-    → C → D → D → HostWhy → Type 0
-FailsHosting cabinet doors asked old new was now (why.Ended other) =
-    FailsOpened cabinet old new other
-FailsHosting cabinet doors asked old new was now (why.Door word trouble) =
-    LeavesDoors doors asked was now (none.Door word trouble)
-FailsHosting cabinet doors asked old new was now why.StandbyGone = ⊤
-FailsHosting cabinet doors asked old new was now (why.StandbyAhead count) = ⊤
+-- what is told of the files of a host once its topology was read, and of its doors, by the cabinet
+-- and the doors before and after
+abbrev pub FailsHosting : {C E D N : Type 0} → CabinetGhosts C E → DoorsGhosts D N → DoorsAsked
+    → C × D → C × D → HostWhy → Type 0
+FailsHosting cabinet doors asked before after (why.Ended other) =
+    FailsOpened cabinet before.0 after.0 other
+FailsHosting cabinet doors asked before after (why.Door word trouble) =
+    LeavesDoors doors asked before.1 after.1 (none.Door word trouble)
+FailsHosting cabinet doors asked before after why.StandbyGone = ⊤
+FailsHosting cabinet doors asked before after (why.StandbyAhead count) = ⊤
 
 -- What hosting by the journal of a name comes to: connections were hosted, or why not, once a store
 -- was opened; or none was, and the last line tells why.
 abbrev pub HostsJournal : {I O C E D N : Type 0} → Tellings I O C E → DoorTellings D N E → List ℕ
-    → DoorsAsked → Parts I O C → Parts I O C → D → D → ℕ → Network → Type 0
-HostsJournal tells by name asked before after was now status network =
-    HostsConnections tells by name asked before after was now status network
-    ⊎ ((why : Fault) × (status ≡ status_of why)
-    × OpensNoJournal tells.cabinet tells.disk name before.cabinet after.cabinet network (Err why)
-    × IsOut tells.sink before.output after.output (last_line why) × (now ≡ was))
+    → DoorsAsked → DoorParts I O C D → DoorParts I O C D → ℕ → Network → Type 0
+HostsJournal tells by name asked before after status network =
+    HostsConnections tells by name asked before after status network
+    ⊎ ((why : Fault) × (status ≡ status_of why) × OpensNoJournal tells.cabinet tells.disk name
+    before.parts.cabinet after.parts.cabinet network (Err why)
+    × IsOut tells.sink before.parts.output after.parts.output (last_line why)
+    × (after.door ≡ before.door))

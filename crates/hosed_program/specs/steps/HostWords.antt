@@ -1,8 +1,8 @@
 -- The words of a host, as its doors are asked for: steps of proofs.
 use Rattle.std.specs.Prelude.{option_map}
 use Rattle.std.specs.Option.{unwrap_or}
-use Rattle.hosed.specs.declared.host_line.HostWords.{HostWords}
-use Rattle.hosed.specs.declared.host_line.StandbyWords.{StandbyWords}
+use Rattle.hosed_requests.specs.declared.host_line.HostWords.{HostWords}
+use Rattle.hosed_requests.specs.declared.host_line.StandbyWords.{StandbyWords}
 use Rattle.hosed_host.specs.declared.opening.HostDoors.{HostDoors}
 use Rattle.hosed_host.specs.declared.opening.StandbyPlan.{StandbyPlan}
 

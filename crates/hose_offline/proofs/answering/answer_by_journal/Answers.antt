@@ -6,12 +6,13 @@ use Rattle.hose_law.specs.History.{IsDecidedAt}
 use Rattle.hose_law.specs.Script.{ReadLine}
 use Rattle.hose_store.specs.steps.Commit.{store_books}
 use Rattle.hose_words.specs.declared.lines.TheConstants.{INPUT_LIMIT}
-use Rattle.hose_offline.specs.declared.fault.Fault.TheVariants.{Memory, TooLong}
-use Rattle.hose_offline.specs.Parts.{tellings}
+use Rattle.hose_outside.specs.declared.fault.Fault.TheVariants.{Memory, TooLong}
+use Rattle.hose_outside.specs.Parts.{tellings}
 use Rattle.hose_offline.proofs.BookTalks.{talks_told}
 use Rattle.hose_offline.proofs.Exchanges.{answered_none}
 use Rattle.hose_offline.proofs.TalksTold.{too_long_told}
-use Rattle.hose_offline.proofs.Journals.{first_long, first_sound, talked_in, unused_in}
+use Rattle.hose_offline.proofs.Talked.{first_long, first_sound, talked_in}
+use Rattle.hose_outside.proofs.Journals.{unused_in}
 use Rattle.hose_offline.proofs.RunKept.{kept_closed}
 use Rattle.hose_offline.proofs.answering.answer_by_journal.Goals as goal
 

@@ -1,6 +1,6 @@
 use Rattle.hose_law.specs.History.{IsDecidedAt}
 use Rattle.hose_offline.specs.Talking.{IsAskedBy}
-use Rattle.hose_offline.proofs.Journals.{leaves_for}
+use Rattle.hose_outside.proofs.Journals.{leaves_for}
 use Rattle.hose_offline.proofs.answering.core_over.Goals as goal
 
 pub returns-clause-leaves : goal.returns-clause-leaves

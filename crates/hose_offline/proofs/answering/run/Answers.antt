@@ -2,10 +2,10 @@ use Rattle.std.specs.Prelude.{option_map}
 use Rattle.std.proofs.Common.{◌≡◌, ◌∙◌, refl, rules, sym}
 use Rattle.hose_io.proofs.Frames.{Stays-next}
 use Rattle.hose_io.specs.steps.Borrowed.{borrowed}
-use Rattle.hose_offline.specs.Parts.{parts, tellings}
+use Rattle.hose_outside.specs.Parts.{parts, tellings}
 use Rattle.hose_offline.proofs.Borrowed.{same_borrow, stays_behind}
 use Rattle.hose_offline.proofs.Leaving.{leaves_behind}
-use Rattle.hose_offline.proofs.Outcomes.{none_named, run_not_1}
+use Rattle.hose_offline.proofs.RunOutcomes.{none_named, run_not_1}
 use Rattle.hose_offline.proofs.RunEnds.{run_comes, takes_behind}
 use Rattle.hose_offline.proofs.answering.run.Goals as goal
 

@@ -1,15 +1,15 @@
-use Rattle.std.specs.Prelude.{⊤}
+use Rattle.std.specs.Prelude.{⊤, option_map}
 use Rattle.std.proofs.Common.{◌≡◌, ◌∙◌, ◌↔◌, ◌<◌, ℕ, List, [], Option, Err, inl, inr, refl, sym, ap, subst, arith}
 use Rattle.std.proofs.lemmas.Result.{err_from_is_err_and}
 use Rattle.hose_words.proofs.OnReading.{ReadsOn-start, ReadsOn-then}
-use Rattle.hose_offline.specs.steps.Fault.{of_topology}
-use Rattle.hose_offline.specs.declared.fault.Fault.TheVariants.{Memory, Read, TooLong}
-use Rattle.std.specs.Prelude.{option_map}
-use Rattle.hose_offline.specs.Parts.{parts, tellings}
+use Rattle.hose_outside.specs.steps.Fault.{of_topology}
+use Rattle.hose_outside.specs.declared.fault.Fault.TheVariants.{Memory, Read, TooLong}
+use Rattle.hose_outside.specs.Parts.{parts, tellings}
 use Rattle.hose_offline.specs.RunOutcome.{RunLeaves}
 use Rattle.hose_topo.specs.steps.Reading.{KeepsLineFault}
 use Rattle.hose_offline.proofs.Leaving.{leaves_in_cabinet, leaves_in_memory, starved}
-use Rattle.hose_offline.proofs.Running.{leaves_topology, not_read, stopped_told, wrong_told}
+use Rattle.hose_offline.proofs.Running.{leaves_topology}
+use Rattle.hose_outside.proofs.TextsRead.{not_read, stopped_told, wrong_told}
 use Rattle.hose_words.proofs.Saying.{rose_now}
 use Rattle.hose_words.specs.declared.lines.TheConstants.{INPUT_LIMIT}
 use Rattle.hose_book.specs.Ledger.{Ledger}

@@ -1,10 +1,11 @@
 use Rattle.std.proofs.Common.{refl, subst, ◌∙◌, rules, sym}
-use Rattle.hose_offline.specs.Auditing.{ReadsTopology, priced_names}
-use Rattle.hose_offline.specs.Parts.{parts, tellings}
-use Rattle.hose_offline.specs.steps.Parts.{held}
-use Rattle.hose_offline.specs.Why.{why_status}
-use Rattle.hose_offline.proofs.Audited.{audit_not_1, is_audited, named_not_read, no_topology}
-use Rattle.hose_offline.proofs.Failing.{fails_reading, fails_then}
+use Rattle.hose_outside.specs.Reading.{ReadsTopology, priced_names}
+use Rattle.hose_outside.specs.Parts.{parts, tellings}
+use Rattle.hose_outside.specs.steps.Parts.{held}
+use Rattle.hose_outside.specs.Why.{why_status}
+use Rattle.hose_offline.proofs.Audited.{audit_not_1, is_audited}
+use Rattle.hose_outside.proofs.Named.{named_not_read, no_topology}
+use Rattle.hose_outside.proofs.Failing.{fails_reading, fails_then}
 use Rattle.hose_offline.proofs.auditing.audit.Goals as goal
 
 pub returns-in-Ok : goal.returns-in-Ok

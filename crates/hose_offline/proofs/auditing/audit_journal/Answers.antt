@@ -1,12 +1,11 @@
 use Rattle.std.proofs.Common.{◌∙◌, inr}
 use Rattle.hose_law.specs.History.{IsDecidedAt}
-use Rattle.hose_offline.specs.Parts.{parts, tellings}
-use Rattle.hose_offline.specs.steps.Parts.{held}
-use Rattle.hose_offline.specs.Why.{why_status}
-use Rattle.hose_offline.proofs.Audited.{book_told}
-use Rattle.hose_offline.proofs.Failing.{closing_fails, unopened_fails}
-use Rattle.hose_offline.proofs.Journals.{audits_in}
-use Rattle.hose_offline.proofs.Lending.{others_then}
+use Rattle.hose_outside.specs.Parts.{parts, tellings}
+use Rattle.hose_outside.specs.steps.Parts.{held}
+use Rattle.hose_outside.specs.Why.{why_status}
+use Rattle.hose_offline.proofs.Audited.{book_told, audits_in}
+use Rattle.hose_outside.proofs.Failing.{closing_fails, unopened_fails}
+use Rattle.hose_outside.proofs.Lending.{others_then}
 use Rattle.hose_offline.proofs.auditing.audit_journal.Goals as goal
 
 pub returns-in-Ok-clause-audits : goal.returns-in-Ok-clause-audits

@@ -1,8 +1,8 @@
 use Rattle.std.proofs.Common.{Ok, Err, ap, subst, rules}
 use Rattle.hose_offline.specs.CheckOutcome.{JudgesNamed}
-use Rattle.hose_offline.specs.Parts.{tellings}
-use Rattle.hose_offline.specs.steps.Parts.{held}
-use Rattle.hose_offline.specs.Why.{why_status}
+use Rattle.hose_outside.specs.Parts.{tellings}
+use Rattle.hose_outside.specs.steps.Parts.{held}
+use Rattle.hose_outside.specs.Why.{why_status}
 use Rattle.hose_offline.proofs.Judging.{checked}
 use Rattle.hose_offline.proofs.checking.check.Goals as goal
 

@@ -1,6 +1,6 @@
 use Rattle.std.proofs.Common.{◌≡◌, ◌∙◌, Err, ap, inl, inr, refl, subst}
 use Rattle.std.proofs.lemmas.Result.{err_from_is_err_and}
-use Rattle.hose_offline.specs.Auditing.{ReadsTopology}
+use Rattle.hose_outside.specs.Reading.{ReadsTopology}
 use Rattle.hose_offline.proofs.checking.judge_named.Goals as goal
 
 pub returns-in_err-top-clause-judges : goal.returns-in_err-top-clause-judges

@@ -1,6 +1,6 @@
 use Rattle.std.proofs.Common.{refl, rules}
 use Rattle.hose_offline.specs.GenOutcome.{EndsSummary}
-use Rattle.hose_offline.specs.Why.{why_status}
+use Rattle.hose_outside.specs.Why.{why_status}
 use Rattle.hose_offline.proofs.GenOutcomes.{ends_summary, gen_not_1}
 use Rattle.hose_offline.proofs.generating.run_generated.Goals as goal
 

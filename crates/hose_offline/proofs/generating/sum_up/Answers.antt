@@ -1,7 +1,7 @@
 use Rattle.std.proofs.Common.{◌≡◌, ◌∙◌, Err, refl, ap, true}
 use Rattle.std.proofs.lemmas.Result.{err_from_is_err_and}
 use Rattle.hose_offline.specs.Tally.{tally_line}
-use Rattle.hose_offline.specs.declared.fault.Fault.TheVariants.{Write}
+use Rattle.hose_outside.specs.declared.fault.Fault.TheVariants.{Write}
 use Rattle.hose_offline.proofs.OrdersAnswered.{summary_made}
 use Rattle.hose_offline.proofs.generating.sum_up.Goals as goal
 

@@ -1,9 +1,9 @@
 use Rattle.std.proofs.Common.{ap, subst, rules}
-use Rattle.hose_offline.specs.Auditing.{ReadsTopology}
-use Rattle.hose_offline.specs.Parts.{tellings}
-use Rattle.hose_offline.specs.steps.Parts.{held}
-use Rattle.hose_offline.specs.TopologyTold.{own_costs}
-use Rattle.hose_offline.specs.Why.{why_status}
+use Rattle.hose_outside.specs.Reading.{ReadsTopology}
+use Rattle.hose_outside.specs.Parts.{tellings}
+use Rattle.hose_outside.specs.steps.Parts.{held}
+use Rattle.hose_outside.specs.TopologyTold.{own_costs}
+use Rattle.hose_outside.specs.Why.{why_status}
 use Rattle.hose_offline.proofs.Priced.{price_not_1, priced_none, priced_then}
 use Rattle.hose_offline.proofs.pricing.price.Goals as goal
 

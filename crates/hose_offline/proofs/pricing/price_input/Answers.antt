@@ -4,10 +4,10 @@ use Rattle.hose_words.specs.declared.lines.TheConstants.{INPUT_LIMIT}
 use Rattle.hose_talk.specs.Talk.{IsCutNear, TellsOf}
 use Rattle.hose_talk.proofs.Retold.{talks_as}
 use Rattle.hose_proto.specs.ReplyText.{line_of}
-use Rattle.hose_offline.specs.Parts.{tellings}
-use Rattle.hose_offline.specs.steps.Parts.{held}
+use Rattle.hose_outside.specs.Parts.{tellings}
+use Rattle.hose_outside.specs.steps.Parts.{held}
 use Rattle.hose_offline.specs.SheetLine.{AnswersSheet, answer_text}
-use Rattle.hose_offline.specs.declared.fault.Fault.TheVariants.{Memory}
+use Rattle.hose_outside.specs.declared.fault.Fault.TheVariants.{Memory}
 use Rattle.hose_offline.specs.declared.sheet_answer.SheetAnswer.{SheetAnswer}
 use Rattle.hose_offline.proofs.Priced.{starved}
 use Rattle.hose_offline.proofs.TalksTold.{too_long_told}

@@ -1,10 +1,10 @@
 use Rattle.std.proofs.Common.{map, subst}
 use Rattle.std.specs.String.{string_bytes}
-use Rattle.hose_offline.specs.Auditing.{ReadsTopology}
-use Rattle.hose_offline.specs.Parts.{tellings}
-use Rattle.hose_offline.specs.steps.Parts.{held}
+use Rattle.hose_outside.specs.Reading.{ReadsTopology}
+use Rattle.hose_outside.specs.Parts.{tellings}
+use Rattle.hose_outside.specs.steps.Parts.{held}
 use Rattle.hose_offline.specs.ProveOutcome.{ends_from}
-use Rattle.hose_offline.specs.Why.{why_status}
+use Rattle.hose_outside.specs.Why.{why_status}
 use Rattle.hose_offline.proofs.Proved.{proved_none, proved_then}
 use Rattle.hose_offline.proofs.proving.prove.Goals as goal
 

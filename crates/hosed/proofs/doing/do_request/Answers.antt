@@ -1,7 +1,7 @@
 use Rattle.std.proofs.Common.{arith}
 use Rattle.std.proofs.lemmas.List.{length-map}
-use Rattle.hosed.specs.declared.verb.ProgramVerb.TheVariants as command
-use Rattle.hosed.proofs.Commands.{first_small}
+use Rattle.hosed_requests.specs.declared.verb.ProgramVerb.TheVariants as command
+use Rattle.hosed_requests.proofs.Commands.{first_small}
 use Rattle.hosed.proofs.Outcomes.{fails_words, proof_words, right_words}
 use Rattle.hosed.proofs.doing.do_request.Goals as goal
 

@@ -1,12 +1,12 @@
 use Rattle.std.proofs.Common.{◌≡◌, Err, refl, rules, subst}
-use Rattle.hose_offline.specs.Auditing.{ReadsTopology, priced_names}
-use Rattle.hose_offline.specs.Parts.{parts, tellings}
-use Rattle.hose_offline.specs.steps.Parts.{held}
-use Rattle.hose_offline.specs.declared.fault.Fault.TheVariants.{Cabinet}
-use Rattle.hose_offline.specs.Why.{why_status}
-use Rattle.hose_offline.proofs.Failing.{fails_reading, fails_then, unopened_fails}
-use Rattle.hose_offline.proofs.Lending.{lent_alone}
-use Rattle.hose_offline.proofs.PutBack.{opens_none}
+use Rattle.hose_outside.specs.Reading.{ReadsTopology, priced_names}
+use Rattle.hose_outside.specs.Parts.{parts, tellings}
+use Rattle.hose_outside.specs.steps.Parts.{held}
+use Rattle.hose_outside.specs.declared.fault.Fault.TheVariants.{Cabinet}
+use Rattle.hose_outside.specs.Why.{why_status}
+use Rattle.hose_outside.proofs.Failing.{fails_reading, fails_then, unopened_fails}
+use Rattle.hose_outside.proofs.Lending.{lent_alone}
+use Rattle.hose_outside.proofs.PutBack.{opens_none}
 use Rattle.hosed.proofs.Connections.{same_first, served_in}
 use Rattle.hosed.proofs.Served.{is_served, no_topology_read, not_opened, serve_not_1, serving_fails}
 use Rattle.hosed.proofs.server.serve.Goals as goal

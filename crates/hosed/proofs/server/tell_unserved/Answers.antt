@@ -1,6 +1,6 @@
 use Rattle.std.proofs.Common.{ap, rules, sym}
-use Rattle.hose_offline.specs.declared.why.Why.TheVariants.{Stopped}
-use Rattle.hose_offline.proofs.Told.{told_failed}
+use Rattle.hose_outside.specs.declared.why.Why.TheVariants.{Stopped}
+use Rattle.hose_outside.proofs.Told.{told_failed}
 use Rattle.hosed.proofs.Served.{ends_unserved, ends_unwritten}
 use Rattle.hosed.proofs.server.tell_unserved.Goals as goal
 

@@ -1,13 +1,13 @@
 use Rattle.std.proofs.Common.{refl, subst}
-use Rattle.hose_offline.specs.Auditing.{ReadsTopology, priced_names}
-use Rattle.hose_offline.specs.Parts.{parts, tellings}
-use Rattle.hose_offline.specs.steps.Parts.{held}
-use Rattle.hose_offline.specs.Why.{why_status}
+use Rattle.hose_outside.specs.Reading.{ReadsTopology, priced_names}
+use Rattle.hose_outside.specs.Parts.{parts, tellings}
+use Rattle.hose_outside.specs.steps.Parts.{held}
+use Rattle.hose_outside.specs.Why.{why_status}
 use Rattle.hose_lead.specs.LedStore.{LedState}
 use Rattle.hosed_host.specs.HostBook.{door_tellings}
 use Rattle.hosed_host.specs.HostWhy.{host_status}
 use Rattle.hosed_host.specs.steps.HostOutcome.{asked_of}
-use Rattle.hose_offline.proofs.Failing.{fails_reading}
+use Rattle.hose_outside.proofs.Failing.{fails_reading}
 use Rattle.hosed_host.proofs.HostOutcomes.{host_fails, host_not_1, is_hosted, no_topology_read}
 use Rattle.hosed_host.proofs.hosting.host_by_names.Goals as goal
 

@@ -2,7 +2,7 @@ use Rattle.std.proofs.Common.{Bool, ◌≡◌, ◌∙◌, ap, inl, refl, rules, 
 use Rattle.hosed_host.specs.HostDoors.{AreOpenedAt}
 use Rattle.hose_lead.specs.LedStore.{LedState}
 use Rattle.hose_core.specs.steps.Holding.{State}
-use Rattle.hose_offline.specs.Parts.{tellings}
+use Rattle.hose_outside.specs.Parts.{tellings}
 use Rattle.hosed_host.specs.HostBook.{door_tellings}
 use Rattle.hosed_host.specs.steps.HostOutcome.{asked_of}
 use Rattle.hosed_host.specs.declared.hosting.NotHosted.TheVariants as none

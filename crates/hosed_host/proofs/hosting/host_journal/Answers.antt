@@ -1,8 +1,8 @@
 use Rattle.std.proofs.Common.{◌∙◌, inl, inr, refl, rules}
-use Rattle.hose_offline.specs.steps.Parts.{held}
-use Rattle.hose_offline.proofs.Lending.{others_then}
+use Rattle.hose_outside.specs.steps.Parts.{held}
+use Rattle.hose_outside.proofs.Lending.{others_then}
 use Rattle.hosed_host.specs.steps.HostOutcome.{asked_of}
-use Rattle.hose_offline.proofs.Failing.{unopened_fails}
+use Rattle.hose_outside.proofs.Failing.{unopened_fails}
 use Rattle.hosed_host.proofs.HostOutcomes.{hosting_fails}
 use Rattle.hosed_host.proofs.hosting.host_journal.Goals as goal
 

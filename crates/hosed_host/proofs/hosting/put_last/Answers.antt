@@ -1,4 +1,4 @@
-use Rattle.hose_offline.proofs.Told.{put_out}
+use Rattle.hose_outside.proofs.Told.{put_out}
 use Rattle.hosed_host.specs.HostWhy.{last_of_host}
 use Rattle.hosed_host.specs.steps.HostOutcome.{why_of_standby}
 use Rattle.hosed_host.proofs.hosting.put_last.Goals as goal

@@ -1,6 +1,6 @@
 use Rattle.std.proofs.Common.{refl}
 use Rattle.hose_audit.specs.Audit.{audit_text}
-use Rattle.hose_offline.specs.Why.{why_status}
+use Rattle.hose_outside.specs.Why.{why_status}
 use Rattle.hosed_host.proofs.HostOutcomes.{asked_may, ends_asked}
 use Rattle.hosed_host.proofs.hosting.tell_end.Goals as goal
 

@@ -2,7 +2,7 @@ use Rattle.std.proofs.Common.{inr, refl, subst, sym, true}
 use Rattle.hose_io.proofs.Frames.{Stays-next}
 use Rattle.hose_io.proofs.Streams.{GrowsInPart-append}
 use Rattle.hose_audit.specs.Audit.{audit_text}
-use Rattle.hose_offline.proofs.Audited.{out_after}
+use Rattle.hose_outside.proofs.Named.{out_after}
 use Rattle.hosed_host.specs.HostWhy.{TellsWhy, last_of_host}
 use Rattle.hosed_host.specs.steps.HostOutcome.{why_of_standby}
 use Rattle.hosed_host.proofs.hosting.tell_standby.Goals as goal

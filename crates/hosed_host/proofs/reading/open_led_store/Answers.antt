@@ -1,8 +1,8 @@
 use Rattle.std.proofs.Common.{Err, subst, sym}
 use Rattle.hose_store.proofs.OneMeaning.{recovered_once}
-use Rattle.hose_offline.specs.steps.Unopened.{IsNotOpened}
-use Rattle.hose_offline.specs.declared.fault.Fault.{Fault}
-use Rattle.hose_offline.proofs.Journals.{not_opened}
+use Rattle.hose_outside.specs.steps.Unopened.{IsNotOpened}
+use Rattle.hose_outside.specs.declared.fault.Fault.{Fault}
+use Rattle.hose_outside.proofs.Journals.{not_opened}
 use Rattle.hosed_host.proofs.LedOpenings.{just_opened}
 use Rattle.hosed_host.proofs.reading.open_led_store.Goals as goal
 

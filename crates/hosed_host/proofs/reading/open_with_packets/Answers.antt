@@ -1,6 +1,6 @@
 use Rattle.std.proofs.Common.{Err}
-use Rattle.hose_offline.proofs.Lending.{others_then}
-use Rattle.hose_offline.proofs.PutBack.{opens_none}
+use Rattle.hose_outside.proofs.Lending.{others_then}
+use Rattle.hose_outside.proofs.PutBack.{opens_none}
 use Rattle.hosed_host.proofs.reading.open_with_packets.Goals as goal
 
 pub returns-in-Ok-open_led_store-clause-opens : goal.returns-in-Ok-open_led_store-clause-opens

@@ -1,4 +1,4 @@
-use Rattle.hose_offline.proofs.Told.{told_done, told_failed}
+use Rattle.hose_outside.proofs.Told.{told_done, told_failed}
 use Rattle.hosed_program.proofs.choice.tell.Goals as goal
 
 pub returns-in-Ok-clause-told : goal.returns-in-Ok-clause-told

@@ -1,12 +1,12 @@
 use Rattle.std.proofs.Common.{ap, map, refl, rules}
 use Rattle.std.specs.String.{string_bytes}
 use Rattle.hose_tariff.specs.contracts.prices.TariffPrices.TheImpl.{prices-value}
-use Rattle.hose_offline.specs.Auditing.{priced_names}
-use Rattle.hose_offline.specs.Parts.{tellings}
-use Rattle.hose_offline.specs.steps.Parts.{held}
-use Rattle.hosed.specs.HostNaming.{asked_of}
-use Rattle.hosed.specs.ProgramWords.{costs_at}
-use Rattle.hosed.proofs.HostShapes.{none_wrong_of_host, of_one_host}
+use Rattle.hose_outside.specs.Reading.{priced_names}
+use Rattle.hose_outside.specs.Parts.{tellings}
+use Rattle.hose_outside.specs.steps.Parts.{held}
+use Rattle.hosed_requests.specs.HostNaming.{asked_of}
+use Rattle.hosed_requests.specs.ProgramWords.{costs_at}
+use Rattle.hosed_requests.proofs.HostShapes.{none_wrong_of_host, of_one_host}
 use Rattle.hose_lead.specs.LedStore.{LedState}
 use Rattle.hosed_host.specs.HostBook.{door_tellings}
 use Rattle.hosed_program.specs.HostCommand.{doors_of}
@@ -31,7 +31,7 @@ returns-in-Err-clause-outcome g c =
     let wrong = c.in-Err.ensures.wrong in
     record {
       words_at_1 = ((λ one asked are. none_wrong_of_host _ _ asked _ are wrong), λ none. c.end.ensures.status);
-      wrong_words = λ one. (refl, refl, refl, (_, wrong, c.end.ensures.last_line));
+      wrong_words = λ one. (record { input = refl; cabinet = refl; door = refl }, (_, wrong, c.end.ensures.last_line));
       hosts = λ asked are. absurd (none_wrong_of_host _ _ asked _ are wrong);
     }
 

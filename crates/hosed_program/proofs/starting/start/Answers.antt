@@ -1,6 +1,6 @@
 use Rattle.std.proofs.Common.{◌≡◌, inl, inr, map, refl, rules}
 use Rattle.std.specs.String.{string_bytes}
-use Rattle.hosed.specs.HostWords.{AsksToHost}
+use Rattle.hosed_requests.specs.HostWords.{AsksToHost}
 use Rattle.hosed_program.proofs.starting.start.Goals as goal
 
 pub returns-then-asks_to_host : goal.returns-then-asks_to_host
@@ -33,4 +33,4 @@ returns-else-asks_to_host g c =
     )
 
 pub returns-in-Err : goal.returns-in-Err
-returns-in-Err g c = inr (c.no_memory.ensures.status, record { input = refl; cabinet = refl; door = refl }, refl, c.no_memory.ensures.line)
+returns-in-Err g c = inr (c.no_memory.ensures.status, record { input = refl; cabinet = refl; door = refl }, c.no_memory.ensures.line)

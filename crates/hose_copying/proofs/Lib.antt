@@ -1,0 +1,14 @@
+mod Answered
+mod CutWhole
+mod Failing
+mod FollowEnds
+mod Followed
+mod Lending
+mod MoveComplete
+mod MoveEnds
+mod MoveLines
+mod MoveWhole
+mod OfLeaders
+mod Packets
+mod ShipEnds
+mod StreamsStay

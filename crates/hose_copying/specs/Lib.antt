@@ -1,0 +1,9 @@
+pub mod CutOutcome
+pub mod Failing
+pub mod FollowOutcome
+pub mod Following
+pub mod MoveEnd
+pub mod MoveOutcome
+pub mod Moving
+pub mod ShipOutcome
+pub mod steps

@@ -1,0 +1,16 @@
+pub mod CabinetText
+pub mod Ending
+pub mod Failing
+pub mod Fault
+pub mod Journal
+pub mod Limits
+pub mod MoveStop
+pub mod NamedOutcome
+pub mod OnDisk
+pub mod Parts
+pub mod Provides
+pub mod Reading
+pub mod TopologyTold
+pub mod Unopened
+pub mod Why
+pub mod steps
