@@ -157,9 +157,15 @@ class Answers:
                 found += self.told_by(one, known)
             elif re.fullmatch(r"Is\w+Answer", one):
                 found += self.of(one, row[at + 1:], known)
-            elif one in self.replies and row[at - 2:at] == ["reply", "≡"]:
-                found.append((self.replies[one], False))
+            elif row[at - 2:at] == ["reply", "≡"]:
+                found.append((self.reply_of(one), False))
         return found
+
+    def reply_of(self, one):
+        """The reply that an atom is: a constructor, or a definition that gives one."""
+        if one in self.replies:
+            return self.replies[one]
+        return self.reply_of(clauses_of(self.text, one)[0][1][0])
 
     def of(self, name, given, known):
         """Those of a definition at what it is given; a truth that is given leaves out the clauses
