@@ -112,16 +112,11 @@ impl<K: Books + Drop> Core<K> {
         match command {
             Command::Admit(hose) => {
                 let asked = Admission { known: None, hose };
-                let (books, table) = (&mut self.books, self.table.as_ref());
-                let (reply, _entered) = admit_with_rows(alloc, books, customer, asked, table, rows);
-                reply
+                self.admit(alloc, customer, asked, rows)
             }
             Command::AdmitAfter { known, hose } => {
                 let known = Some(known);
-                let asked = Admission { known, hose };
-                let (books, table) = (&mut self.books, self.table.as_ref());
-                let (reply, _entered) = admit_with_rows(alloc, books, customer, asked, table, rows);
-                reply
+                self.admit(alloc, customer, Admission { known, hose }, rows)
             }
             Command::Quote(hose) => self.quote(alloc, customer, hose, rows),
             Command::Take(number) => self.take(alloc, customer, number),
@@ -158,6 +153,30 @@ impl<K: Books + Drop> Core<K> {
         swap(&mut self.quotes, quotes);
         let reply = self.step(alloc, customer, command, rows);
         swap(&mut self.quotes, quotes);
+        reply
+    }
+
+    // Admits a hose.
+    fn admit<R: RowMaker>(
+        &mut self,
+        alloc: Global,
+        customer: &Name,
+        asked: Admission,
+        rows: &mut R,
+    ) -> Reply
+        requires { AreNodes (K.ledger self.old.books).network asked.hose }
+        ensures { HasAnswered K.Books self.old self.new customer.now
+            (admission_command asked.known asked.hose) result }
+    {
+        let table = self.table.as_ref();
+        let (reply, _entered) = admit_with_rows(
+            alloc,
+            &mut self.books,
+            customer,
+            asked,
+            table,
+            rows,
+        );
         reply
     }
 
