@@ -18,5 +18,5 @@ mod moving;
 mod shipping;
 
 pub use following::follow;
-pub use moving::{Cut, Move, cut_journal, move_journal};
+pub use moving::{Cut, cut_journal, move_journal};
 pub use shipping::ship;

@@ -17,19 +17,10 @@ use hose_disk::Cabinet;
 use hose_graph::{Entry, Topology};
 use hose_io::{Sink, Source};
 use hose_move::{Scope, Stated, first_change, move_into, read_journal};
-use hose_outside::{Fault, MoveStop, Names, Outside, Why, read_topology};
+use hose_outside::{Fault, Move, MoveStop, Names, Outside, Why, read_topology};
 use hose_store::StoreFault;
 use hose_tariff::Prices;
 use std::alloc::Global;
-
-/// What is moved: the names of the topology and of the journal that are left as they are, those of
-/// the topology and of the journal that it is moved to, and whether the live VPNs alone are moved.
-#[derive(Clone, Copy)]
-pub struct Move<'a> {
-    pub from: Names<'a>,
-    pub to: Names<'a>,
-    pub live: bool,
-}
 
 /// What is cut: the names of the topology and of the journal that are left as they are, how many
 /// entries the new journal is to have, and its name.

@@ -12,7 +12,7 @@ use Rattle.hose_offline.specs.GenOutcome.{EndsSummary}
 use Rattle.hose_offline.specs.steps.GenOutcome.{GenLeaves}
 use Rattle.hose_outside.specs.declared.fault.Fault.{Fault}
 use Rattle.hose_outside.specs.declared.fault.Fault.TheVariants.{Write, Memory}
-use Rattle.hose_offline.specs.declared.generating.Sizes.{Sizes}
+use Rattle.hose_outside.specs.declared.asked.Sizes.{Sizes}
 
 -- a part that is out, and nothing after it
 part_then_none : (old mid new : Option (List ℕ)) (text : List ℕ) → GrowsInPart old mid text → Grows mid new [] → GrowsInPart old new text

@@ -25,7 +25,7 @@ use Rattle.hose_offline.specs.steps.Generating.{HaveBeenAnswered, IsTallyOf}
 use Rattle.hose_offline.specs.steps.Talking.{AnswersLine, HasAnsweredLines, plain_books}
 use Rattle.hose_offline.specs.Tally.{admitted_cost, one_if_admitted, one_if_refused, one_if_released, tally_line, tally_of}
 use Rattle.hose_offline.specs.steps.Tally.{IsOfUpTo, with_reply}
-use Rattle.hose_offline.specs.declared.generating.Sizes.{Sizes}
+use Rattle.hose_outside.specs.declared.asked.Sizes.{Sizes}
 use Rattle.hose_offline.specs.declared.tally.Tally.{Tally}
 use Rattle.hose_offline.proofs.Running.{never_told}
 use Rattle.hose_offline.proofs.Exchanges.{answered_more}

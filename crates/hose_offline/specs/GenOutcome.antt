@@ -12,7 +12,7 @@ use Rattle.hose_offline.specs.Generating.{IsScriptOf}
 use Rattle.hose_outside.specs.Parts.{Parts, Tellings}
 use Rattle.hose_offline.specs.Tally.{tally_line, tally_of}
 use Rattle.hose_outside.specs.declared.fault.Fault.TheVariants.{Memory}
-use Rattle.hose_offline.specs.declared.generating.Sizes.{Sizes}
+use Rattle.hose_outside.specs.declared.asked.Sizes.{Sizes}
 
 -- the network of these sizes
 abbrev pub network_of_sizes : Sizes → Network

@@ -23,18 +23,9 @@ use hose_disk::Cabinet;
 use hose_gen::{Generated, generate};
 use hose_graph::{Command, Name, Reply};
 use hose_io::{Sink, Source};
-use hose_outside::{Fault, Outside, Why, end};
+use hose_outside::{Fault, Outside, Sizes, Why, end};
 use hose_paths::{RowMaker, RowTable, RowsInAdvance};
 use std::alloc::Global;
-
-/// What a network and a script are made of: a seed, and how many nodes, links and hoses there are.
-#[derive(Clone, Copy)]
-pub struct Sizes {
-    pub seed: u64,
-    pub nodes: u32,
-    pub links: u32,
-    pub hoses: u32,
-}
 
 /// Makes a network and a script, answers the script by a book in memory, writes one line that sums
 /// up the replies, and says why it ended.

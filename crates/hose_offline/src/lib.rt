@@ -31,6 +31,6 @@ mod tally;
 pub use answering::run;
 pub use auditing::audit;
 pub use checking::check;
-pub use generating::{Sizes, run_generated};
+pub use generating::run_generated;
 pub use pricing::price;
 pub use proving::{EndWords, prove};

@@ -13,6 +13,7 @@
 //! ```
 #![tactic(auto)]
 
+mod asked;
 mod cabinet_text;
 mod fault;
 mod journal;
@@ -24,6 +25,7 @@ mod reading;
 mod telling;
 mod why;
 
+pub use asked::{Move, Sizes};
 pub use fault::{Fault, put_numbered};
 pub use journal::{close_journal, first_fault, open_journal, open_store};
 pub use json_text::JSON_LIMIT;

@@ -7,10 +7,10 @@ ghost use Rattle.hosed.specs.Failing.{FailsWords};
 ghost use Rattle.hosed.specs.Offline.{OfflineOutcome, offer_of};
 ghost use Rattle.hosed_requests.specs.steps.ProgramWords.{AreWordsOf, tariff_in};
 
-use hose_copying::{Cut, Move, cut_journal, follow, move_journal, ship};
+use hose_copying::{Cut, cut_journal, follow, move_journal, ship};
 use hose_disk::Cabinet;
 use hose_io::{Sink, Source};
-use hose_offline::{EndWords, Sizes, audit, check, price, prove, run, run_generated};
+use hose_offline::{EndWords, audit, check, price, prove, run, run_generated};
 use hose_outside::{Outside, Why};
 use hose_tariff::{Prices, Tariff};
 use hosed_requests::{Request, costs_of};
@@ -53,16 +53,7 @@ pub fn do_request<I: Source, O: Sink, C: Cabinet>(
             outside.cabinet,
         ),
         Request::Audit(of) => audit(alloc, &by, of.names, outside),
-        Request::Generate(of) => run_generated(
-            alloc,
-            Sizes {
-                seed: of.seed,
-                nodes: of.nodes,
-                links: of.links,
-                hoses: of.hoses,
-            },
-            outside,
-        ),
+        Request::Generate(sizes) => run_generated(alloc, sizes, outside),
         Request::Prove { of, ends, first } => {
             prove(
                 alloc,
@@ -76,16 +67,7 @@ pub fn do_request<I: Source, O: Sink, C: Cabinet>(
         Request::Price { topology } => price(alloc, tariffs, topology, outside),
         Request::Ship { of, from } => ship(alloc, &by, of.names, from, outside),
         Request::Follow(of) => follow(alloc, &by, of.names, outside),
-        Request::Move { tariff: _, of } => move_journal(
-            alloc,
-            &by,
-            Move {
-                from: of.from,
-                to: of.to,
-                live: of.live,
-            },
-            outside,
-        ),
+        Request::Move { tariff: _, of } => move_journal(alloc, &by, of, outside),
         Request::Cut { of, count, to } => cut_journal(
             alloc,
             &by,

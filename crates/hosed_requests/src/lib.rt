@@ -22,6 +22,5 @@ pub use host_line::{HostWords, MOST_PATIENCE, StandbyWords, asks_to_host, host_w
 pub use naming::{NamedByWords, named_of, server_named};
 pub use verb::{ProgramVerb, asks_to_serve};
 pub use words::{
-    MOST_CONNECTIONS, OfJournal, OfJournals, OfNumbers, OfTopology, Request, ServeRequest,
-    request_of, serve_of,
+    MOST_CONNECTIONS, OfJournal, OfTopology, Request, ServeRequest, request_of, serve_of,
 };

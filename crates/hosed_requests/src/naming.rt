@@ -4,8 +4,8 @@ ghost use Rattle.hosed_requests.specs.Naming.{AreNamed, named_bytes};
 ghost use Rattle.hosed_requests.specs.steps.Naming.{failed_file};
 ghost use Rattle.hosed_requests.specs.steps.ProgramWords.{AreServeWords, AreWordsOf};
 
-use crate::words::{OfJournals, Request, ServeRequest};
-use hose_outside::{Fault, Names};
+use crate::words::{Request, ServeRequest};
+use hose_outside::{Fault, Move, Names};
 
 /// The files and the port that words name, where they name one.
 #[derive(Clone, Copy)]
@@ -129,7 +129,7 @@ fn cut_files<'w>(of: Names<'w>, to: &'w str) -> NamedByWords<'w>
     }
 }
 
-fn moved_files(of: OfJournals<'_>) -> NamedByWords<'_>
+fn moved_files(of: Move<'_>) -> NamedByWords<'_>
     ensures { result ≡ record {
       topology = Some of.entry.from.topology;
       journal = Some of.entry.from.journal;

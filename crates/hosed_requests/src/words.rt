@@ -15,7 +15,7 @@ use crate::end_words::ends_at;
 use crate::verb::{ProgramVerb, verb_of};
 use hose_gen::{LEAST_NODES, MOST_HOSES};
 use hose_graph::{MOST_EPOCH, MOST_LINKS, MOST_NODES};
-use hose_outside::Names;
+use hose_outside::{Move, Names, Sizes};
 use hose_pool::MOST_WORKERS;
 use hose_price::MOST_TARIFFS;
 use hose_tariff::{Tariff, find};
@@ -35,7 +35,7 @@ pub enum Request<'w> {
     /// Tells the book of a journal.
     Audit(OfJournal<'w>),
     /// Runs a script that is made of four numbers.
-    Generate(OfNumbers),
+    Generate(Sizes),
     /// Writes a certificate for the hose of these endpoints, of which the first is the word of this
     /// number.
     Prove {
@@ -59,7 +59,7 @@ pub enum Request<'w> {
     /// Writes what a journal of one network holds into a journal of another one.
     Move {
         tariff: Option<usize>,
-        of: OfJournals<'w>,
+        of: Move<'w>,
     },
     /// Writes the first entries of a journal, so many of them, into another one.
     Cut {
@@ -81,24 +81,6 @@ pub struct OfTopology<'w> {
 pub struct OfJournal<'w> {
     pub tariff: Option<usize>,
     pub names: Names<'w>,
-}
-
-/// The four numbers of which a network and a script are made.
-#[derive(Clone, Copy)]
-pub struct OfNumbers {
-    pub seed: u64,
-    pub nodes: u32,
-    pub links: u32,
-    pub hoses: u32,
-}
-
-/// The names of what is left as it is, those of what it is moved to, and whether the live VPNs alone
-/// are moved.
-#[derive(Clone, Copy)]
-pub struct OfJournals<'w> {
-    pub from: Names<'w>,
-    pub to: Names<'w>,
-    pub live: bool,
 }
 
 /// A server: the callers of a door are answered by the book of a journal.
@@ -185,7 +167,7 @@ fn generate_of(words: &[String]) -> Result<Request<'_>, u64>
     let links = number_at(words, 4, nodes - 1, MOST_LINKS as u64)?;
     let hoses = number_at(words, 5, 0, MOST_HOSES as u64)?;
     none_at(words, 6)?;
-    Ok(Request::Generate(OfNumbers {
+    Ok(Request::Generate(Sizes {
         seed,
         nodes: nodes as u32,
         links: links as u32,
@@ -267,7 +249,7 @@ fn move_of<'w>(words: &'w [String], tariffs: &[Tariff]) -> Result<Request<'w>, u
     none_at(words, at + 4)?;
     Ok(Request::Move {
         tariff,
-        of: OfJournals { live, from: of, to },
+        of: Move { live, from: of, to },
     })
 }
 

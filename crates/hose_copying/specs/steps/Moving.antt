@@ -4,7 +4,7 @@ use Rattle.hose_outside.specs.Reading.{priced_names}
 use Rattle.hose_copying.specs.CutOutcome.{CutNames, cut_names}
 use Rattle.hose_copying.specs.declared.moving.Cut.{Cut}
 use Rattle.hose_copying.specs.declared.moving.Journals.{Journals}
-use Rattle.hose_copying.specs.declared.moving.Move.{Move}
+use Rattle.hose_outside.specs.declared.asked.Move.{Move}
 use Rattle.hose_copying.specs.Moving.{MovedJournals, MoveNames, move_names, scope_of}
 
 -- ---- what is moved

@@ -7,7 +7,7 @@ use Rattle.hose_io.specs.declared.sink.Sink.{Ghosts as SinkGhosts}
 use Rattle.hose_outside.specs.Ending.{OutputWorked}
 use Rattle.hose_outside.specs.declared.fault.Fault.{Fault}
 use Rattle.hose_outside.specs.declared.fault.Fault.TheVariants.{Memory, Write}
-use Rattle.hose_offline.specs.declared.generating.Sizes.{Sizes}
+use Rattle.hose_outside.specs.declared.asked.Sizes.{Sizes}
 use Rattle.hose_offline.specs.GenOutcome.{IsSummary}
 
 module _ (sizes : Sizes) {O : Type 0} (sink : SinkGhosts O) (output output' : O) where
