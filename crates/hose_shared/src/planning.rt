@@ -89,11 +89,12 @@ impl<D: Disk, B: Begun<D>> Shared<D, B> {
         ensures carried { AreWithinCapacities self.now.network loads.new }
     {
         let held = self.turn.lock(caller.context.rt, pass);
-        let book = held.value().store.book();
+        let store = &held.value().store;
+        let book = store.book();
         service.copy_from(book.service());
         loads.copy_from_slice(book.loads());
         let epoch = book.epoch();
-        let instead = newest_now(book, caller.customer, known);
+        let instead = newest_now(store, caller.customer, known);
         (epoch, instead, self.turn.unlock(held))
     }
 }

@@ -18,7 +18,7 @@ pub returns-clause-instead : goal.returns-clause-instead
 returns-clause-instead g c =
     let customer = c.args.caller.now.customer.now in
     let known = c.args.known in
-    let is = ap (λ (l : Ledger). l.book) (c.book-book.ensures ∙ ap (λ (k : _). k.store.ledger) c.value.ensures) ∙ c.lock-held.ensures.stands.book ∙ ap (λ (k : Known). book_of 0 k.seen) (sym c.unlock.ensures.passed) in
+    let is = ap (λ (k : _). k.store.ledger.book) c.value.ensures ∙ c.lock-held.ensures.stands.book ∙ ap (λ (k : Known). book_of 0 k.seen) (sym c.unlock.ensures.passed) in
     subst (λ (b : Book). MatchOption c.newest_now-instead.result (HasNewest b customer known) (TellsNewest b customer known)) is c.newest_now-instead.ensures
 
 pub returns-clause-more : goal.returns-clause-more
