@@ -71,8 +71,13 @@ pub fn serve_session<W: Wait, S: Source, O: Sink, D: Disk, B: Begun<D>, R: RowMa
         pass,
         quotes,
     };
-    let phase = Phase::Waiting;
-    let mut talk = Conversation { seat, rows, phase };
+    let (top, phase) = (shared.topology(), Phase::Waiting);
+    let mut talk = Conversation {
+        seat,
+        top,
+        rows,
+        phase,
+    };
     let ended = hold_talk(&mut talk, source, sink);
     talk.into_end(ended)
 }
