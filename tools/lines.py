@@ -40,7 +40,7 @@ COMMANDS: Dict[str, Command] = {
                        ("NoVpn", "Spent", "Released", "Disk", "Memory")),
     "show": Command("CUSTOMER", ("ID",), None, ("NoVpn", "Shown", "Memory")),
     "vpns": Command("CUSTOMER", (), None, ("Vpns", "Memory")),
-    "link": Command("CUSTOMER", ("L",), None, ("LinkState",)),
+    "link": Command("CUSTOMER", ("L",), None, ()),
     "down": Command("operator", ("L",), "Down",
                     ("Denied", "Already", "Spent", "Down", "Disk", "Memory")),
     "up": Command("operator", ("L",), "Up", ("Denied", "Already", "Spent", "Up", "Disk", "Memory")),

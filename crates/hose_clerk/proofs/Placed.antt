@@ -1,17 +1,9 @@
 -- Sessions by their places.
-use Rattle.std.proofs.Common.{⊎_elim, ap, sym, false, ◌≡◌, ◌∙◌, ℕ, zero, suc, ◌<◌, ◌≤◌, List, [], ◌∷◌, ◌++◌, length, refl, slice_set}
-use Rattle.std.proofs.lemmas.Bool.{cases_lt, false≢true}
-use Rattle.std.proofs.lemmas.List.{get_or_past, get_or-set_other, get_or-set_same}
+use Rattle.std.proofs.Common.{◌∙◌, ℕ, zero, suc, ◌≤◌, List, [], ◌∷◌, ◌++◌, length, refl}
+use Rattle.std.proofs.lemmas.List.{get_or_past}
 use Rattle.hose_clerk.specs.declared.sessions.Session.{Session}
 use Rattle.hose_clerk.specs.declared.sessions.Session.TheVariants.{Over}
-use Rattle.hose_clerk.specs.steps.Sessions.{IsPut, LeavesAll, is_over_at, session_at}
-
--- a session is put at a place that there is
-pub put_there : (sessions : List Session) (place : ℕ) (session : Session) → place < length sessions → IsPut sessions place session (slice_set sessions place session)
-put_there sessions place session there = record {
-  here = get_or-set_same sessions place session Over there;
-  others = λ other apart. get_or-set_other sessions place other session Over apart;
-}
+use Rattle.hose_clerk.specs.steps.Sessions.{IsPut, LeavesAll}
 
 -- where there is no place no one is
 pub none_there : (sessions : List Session) (place : ℕ) → length sessions ≤ place → IsPut sessions place Over sessions
@@ -37,10 +29,3 @@ put_after old middle new place session leaves put = record {
   here = put.here;
   others = λ other apart. put.others other apart ∙ leaves other;
 }
-
--- who has a line answered is at a place that there is
-pub there_if_open : (sessions : List Session) (place : ℕ) → is_over_at (session_at sessions place) ≡ false → place < length sessions
-there_if_open sessions place open_still = ⊎_elim
-    (λ there. there)
-    (λ past. absurd (false≢true (sym open_still ∙ ap is_over_at (get_or_past sessions place Over past))))
-    (cases_lt place (length sessions))

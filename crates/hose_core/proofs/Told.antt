@@ -9,6 +9,7 @@ use Rattle.hose_law.specs.Answer.{IsLinkAnswer, IsShowAnswer, IsStepOf, IsVpnsAn
 use Rattle.hose_law.specs.Book.{Book, HasVpn}
 use Rattle.hose_law.specs.History.{book_of}
 use Rattle.hose_law.specs.Quotes.{Holding}
+use Rattle.hose_law.proofs.Steps.{step_of}
 use Rattle.hose_book.specs.Ledger.{Ledger}
 use Rattle.hose_book.specs.declared.books.Books.{Ghosts}
 use Rattle.hose_core.specs.steps.Stepping.{HasStepped}
@@ -40,6 +41,5 @@ module _ {K R : Type 0} (books : Ghosts K R) (old : K) (epoch : ℕ) (history : 
 
   -- a link is told
   pub link_step : (link : ℕ) (answer : Reply) → IsLinkAnswer was.book link answer None → HasStepped books old old epoch history customer held (command.Link link) answer
-  link_step link (reply.LinkState told load out at) shown =
-      told_step (command.Link link) (reply.LinkState told load out at) ((subst (λ (b : Book). IsLinkAnswer b link (reply.LinkState told load out at) None) here shown, refl), refl)
-  link_step link answer shown = absurd shown
+  link_step link answer shown =
+      told_step (command.Link link) answer (step_of was.network epoch history customer held (command.Link link) answer None held (subst (λ (b : Book). IsLinkAnswer b link answer None) here shown, refl))

@@ -86,7 +86,6 @@ pub fn plan_beside<R: RowMaker>(
         kept,
         epoch,
     } = seen;
-    // What holds of each network is told by any of its calls.
     let _nodes = top.nodes();
     match decide_with_rows(alloc, top, service, loads, &hose, kept, rows) {
         Err(_) => Err(Reply::Memory),

@@ -1,7 +1,7 @@
 -- Connections that come back to a door, one after another.
-use Rattle.std.proofs.Common.{◌≡◌, ◌∙◌, ℕ, suc, ◌+◌, ◌≤◌, List, [], ◌∷◌, ◌++◌, length, map, IsTrue, IsSome, is_some, Option, None, Some, refl, sym, ap, subst, arith, length-append, append_assoc, append-nil}
+use Rattle.std.proofs.Common.{◌≡◌, ◌∙◌, ℕ, suc, ◌+◌, List, [], ◌∷◌, ◌++◌, length, map, IsTrue, IsSome, is_some, Option, None, Some, refl, sym, ap, subst, arith, length-append, append_assoc, append-nil}
 use Rattle.hose_io.specs.Connections.{Connection, Connections}
-use Rattle.hose_io.specs.steps.Connections.{AreAccounted, MayComeBack}
+use Rattle.hose_io.specs.steps.Connections.{MayComeBack}
 use Rattle.hose_session.specs.Accounts.{AccountFor}
 use Rattle.hose_turn.specs.Known.{Known}
 use Rattle.hose_crew.specs.steps.Desk.{AreArrived}
@@ -47,20 +47,6 @@ may_next (Some old) (Some now) all before after one split may back = (
 -- ---- what a worker ended
 
 module _ (start was now : Option Connections) (total amount : ℕ) (pass other : Known) (ended : List (Option Connection)) (arrived : AreArrived start was total) (back : AreBack was now amount pass) (accounts : IsTrue (is_some start) → Accounts ended other) where
-  pub may_all : AreAccounted start → amount + length ended ≤ total → AllMayComeBack now ended
-  may_all accounted room = at start was now arrived accounted back accounts
-    where
-      at : (start was now : Option Connections) → AreArrived start was total → AreAccounted start → AreBack was now amount pass → (IsTrue (is_some start) → Accounts ended other) → AllMayComeBack now ended
-      at start was None arrived accounted back accounts = tt
-      at start None (Some now) arrived accounted back accounts = absurd back
-      at None (Some was) (Some now) arrived accounted back accounts = absurd arrived
-      at (Some start) (Some was) (Some now) arrived accounted back accounts =
-          let told = accounts refl in
-          let size = ap (λ (c : Connections). length c.ended) back.1 ∙ length-append was.ended back.0 in
-          let same : now.accepted ≡ was.accepted = ap (λ (c : Connections). c.accepted) back.1 in
-          let first = ap length arrived.ended in
-          (omega (arith, size, same, first, arrived.accepted, accounted, room, back.2), told.connections, told.are)
-
   pub back_all : (next : Option Connections) (both : Known) (count : ℕ) → AllComeBack now next ended → count ≡ amount + length ended
       → ((connections others : List Connection) → AccountFor connections pass → AccountFor others other → AccountFor (connections ++ others) both)
       → AreBack was next count both

@@ -12,8 +12,8 @@ packet_at network list place entry = packet_after network (take place list) entr
 
 -- ---- beginnings
 
--- The leader's list is sound, and each of its entries has a spelling. Who decided them is left open:
--- so it may be that of a journal to which orders were moved.
+-- The leader's list is sound, and each of its entries has a spelling. Who decided them is left
+-- open: so it may be that of a journal to which orders were moved.
 pub record IsLeader (network : Network) (list : List Entry) : Type 0 where
   pub sound : IsSound network 0 list
   pub spelled : All IsEntry list

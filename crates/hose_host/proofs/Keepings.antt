@@ -326,9 +326,6 @@ module _ {N A R B : Type 0} (net : ConnectionsGhosts N) (by : Ghosts A R B) (hea
   quiet_kept : (k : List ℕ) (life : Life by.said R) (seat : SeatState) → Quiet heard k life seat → Quiet heard seat.kept life seat
   quiet_kept k life seat quiet = record { freed = freed_kept k life seat quiet.freed; out = quiet.out }
 
-  calm_kept : (k : List ℕ) (life : Life by.said R) (seat : SeatState) → Calm heard k life seat → Calm heard seat.kept life seat
-  calm_kept k life seat calm = record { freed = freed_kept k life seat calm.freed; out = λ kept none. calm.out kept (sym (calm.freed.keeps kept) ∙ none) }
-
   pub quiet_calm : (k : List ℕ) (life : Life by.said R) (seat : SeatState) → Quiet heard k life seat → Calm heard k life seat
   quiet_calm k life seat quiet = record { freed = quiet.freed; out = λ kept none. quiet.out kept }
 

@@ -1,6 +1,6 @@
 -- How much a reservation on a tree can be: its links are the network's and fewer than the nodes, each amount is at most half of the greatest total, and so its
 -- cost is bounded.
-use Rattle.std.proofs.Common.{◌≡◌, ℕ, ◌*◌, ◌<◌, ◌≤◌, ◌^◌, Bool, List, [], ◌∷◌, length, reverse, refl, sym, subst, inl, inr, arith, mul-le-mul}
+use Rattle.std.proofs.Common.{◌≡◌, ℕ, ◌<◌, ◌≤◌, Bool, List, [], ◌∷◌, length, reverse, refl, sym, subst, inl, inr, arith}
 use Rattle.std.specs.List.{All, Contains, sum_by}
 use Rattle.std.proofs.lemmas.Bool.{eqb-true}
 use Rattle.std.proofs.lemmas.List.{length-map}
@@ -13,15 +13,14 @@ use Rattle.hose_graph.specs.Ascending.{firsts}
 use Rattle.hose_graph.specs.Hose.{IsEnd, IsHose}
 use Rattle.hose_graph.specs.Network.{Network, IsNetwork}
 use Rattle.hose_graph.specs.Ranges.{AreInRanges, IsAmount}
-use Rattle.hose_graph.specs.declared.limits.TheConstants.{MOST_AMOUNT, MOST_COST, MOST_RATE, MOST_TREE_LINKS}
+use Rattle.hose_graph.specs.declared.limits.TheConstants.{MOST_AMOUNT, MOST_RATE, MOST_TREE_LINKS}
 use Rattle.hose_graph.specs.declared.topology.Step.{Step}
-use Rattle.hose_law.specs.Plan.{plan_cost}
 use Rattle.hose_law.specs.steps.Plan.{AreNodes}
 use Rattle.hose_law.specs.Tree.{Grow, IsOn, IsReservation, IsTreeReservation, links_of, step_links, new_nodes}
 use Rattle.hose_law.specs.steps.Tree.{growth}
-use Rattle.hose_law.specs.Walk.{Joins, cost_of}
+use Rattle.hose_law.specs.Walk.{Joins}
 use Rattle.hose_law.proofs.Apart.{apart_links, apart_rising, same_sums}
-use Rattle.hose_law.proofs.Joined.{joined, joins_costs}
+use Rattle.hose_law.proofs.Joined.{joined}
 use Rattle.hose_law.proofs.Reservations.{reserved_in_tree, tree_in_reserved}
 use Rattle.hose_law.proofs.TightWays.{in_reverse, from_reverse}
 use Rattle.hose_law.proofs.Trees.{distinct_behind, new_nodes_differ, on_is_node, on_reverse, start_is_not_new, rate_beyond-le}
@@ -134,16 +133,3 @@ module _ (network : Network) (is : IsNetwork network) (set : List Bool) (hose pa
           let least = All-contains (λ (p : ℕ × ℕ). 1 ≤ p.1) pairs pair reservation.some there in
           let most = All-contains (λ (p : ℕ × ℕ). p.1 ≤ MOST_AMOUNT) pairs pair (reserved_most is_hose reservation) there in
           record { link = omega (arith, link, is.few_links); amount = (least, most) }
-
-  -- So what a reservation costs is far within 64 bits.
-  pub cost_bound : IsHose hose → IsTreeReservation network set hose pairs → plan_cost network pairs < 2 ^ 64
-  cost_bound is_hose reservation =
-      let cost : ℕ × ℕ → ℕ = λ (pair : ℕ × ℕ). cost_of network pair.0 * pair.1 in
-      let total = sum_by-le cost (MOST_COST * MOST_AMOUNT) pairs (All-weaker (Contains pairs) (λ (pair : ℕ × ℕ). cost pair ≤ MOST_COST * MOST_AMOUNT) most pairs (All-contains_itself pairs)) in
-      omega (arith, total, reserved_few reservation)
-    where
-      most : (pair : ℕ × ℕ) → Contains pairs pair → cost_of network pair.0 * pair.1 ≤ MOST_COST * MOST_AMOUNT
-      most pair there =
-          let joins = reserved_joins reservation pair there in
-          let amount = All-contains (λ (p : ℕ × ℕ). p.1 ≤ MOST_AMOUNT) pairs pair (reserved_most is_hose reservation) there in
-          mul-le-mul (joins_costs network is pair.0 joins.0 joins.1 joins.2).1 amount

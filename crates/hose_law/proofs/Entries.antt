@@ -20,7 +20,7 @@ use Rattle.hose_graph.specs.declared.entry.Entry.TheVariants.{Admit, Release, Do
 use Rattle.hose_graph.specs.declared.entry.Vpn.{Vpn}
 use Rattle.hose_graph.proofs.Members.{in_filter}
 use Rattle.hose_law.specs.Book.{Book, amount_on, load_of}
-use Rattle.hose_law.specs.History.{next_book, is_vpn, IsDecidedAt, IsSoundAt}
+use Rattle.hose_law.specs.History.{next_book, is_vpn, IsSoundAt}
 use Rattle.hose_law.specs.steps.Tracks.{touched_links}
 use Rattle.hose_law.specs.Room.{room_of}
 use Rattle.hose_law.specs.Service.{is_out, put_back, taken_out}
@@ -44,13 +44,6 @@ sound_epoch network book (Admit customer hose amounts) sound = sound.0
 sound_epoch network book (Release customer id) sound = sound.0
 sound_epoch network book (Down link) sound = sound.0
 sound_epoch network book (Up link) sound = sound.0
-
--- one that is decided is sound
-pub decided_sound : (network : Network) (book : Book) (entry : Entry) → IsDecidedAt network book entry → IsSoundAt network book entry
-decided_sound network book (Admit customer hose amounts) decided = decided.0
-decided_sound network book (Release customer id) decided = decided
-decided_sound network book (Down link) decided = decided
-decided_sound network book (Up link) decided = decided
 
 -- ---- what is live
 

@@ -2,11 +2,9 @@
 use Rattle.std.proofs.Common.{◌≡◌, ◌≢◌, ◌⊎◌, ◌∙◌, ℕ, ◌+◌, ◌<◌, ◌≤◌, Bool, List, Option, None, Some, length, refl, sym, ap, subst, inl, inr, arith}
 use Rattle.std.specs.Option.{IsSomeAnd}
 use Rattle.std.proofs.lemmas.Bool.{cases_eq}
-use Rattle.std.proofs.lemmas.List.{get_or_default}
 use Rattle.std.proofs.lemmas.Option.{MatchOption-at_some, MatchOption-at_none, none-some}
 use Rattle.hose_graph.specs.Network.{Network, IsNetwork}
 use Rattle.hose_graph.specs.Row.{Distances, distance_of, tight_link_of}
-use Rattle.hose_graph.specs.steps.Row.{HasBoundedDistances, IsWithinReach}
 use Rattle.hose_graph.specs.declared.limits.TheConstants.{MOST_DISTANCE}
 use Rattle.hose_law.specs.Walk.{cost_of, Joins, IsIn, IsWalk, walk_cost, IsDistance, Reaches}
 use Rattle.hose_law.specs.Row.{IsTight, IsTightLink, IsRow}
@@ -132,15 +130,3 @@ module _ (network : Network) (is : IsNetwork network) (set : List Bool) (root : 
           let P : Option ℕ → Type 0 = λ o. IsSomeAnd o (IsTightLink network set root v) in
           absurd (subst P none (is_row.tight_links v node differ reach))
       at (Some l) some = (l, some)
-
--- the distances of a network's row are bounded
-pub row_is_bounded : (network : Network) → IsNetwork network → (set : List Bool) (root : ℕ) (row : Distances) → IsRow network set root row
-    → HasBoundedDistances row
-row_is_bounded network is set root row is_row v d below =
-    subst IsWithinReach (sym (get_or_default row.dist v d None below)) (at (distance_of row v) refl)
-  where
-    at : (found : Option ℕ) → distance_of row v ≡ found → IsWithinReach (distance_of row v)
-    at None there = rw there tt
-    at (Some distance) there =
-        let bound = row_bound network is set root row is_row v distance (omega (arith, below, is_row.dist_places)) there in
-        rw there bound

@@ -4,7 +4,7 @@ use Rattle.hose_graph.specs.declared.entry.Entry.{Entry}
 use Rattle.hose_graph.specs.declared.command.Command.{Command}
 use Rattle.hose_graph.specs.declared.command.Command.TheVariants.{Admit, AdmitAfter, Quote, Take, Release, Show, Vpns as VpnsCommand, Link, Down as DownCommand, Up as UpCommand}
 use Rattle.hose_graph.specs.declared.command.Reply.{Reply}
-use Rattle.hose_graph.specs.declared.command.Reply.TheVariants.{Admitted, Released, NoVpn, Vpns, Newest, LinkState, Down, Up, Denied}
+use Rattle.hose_graph.specs.declared.command.Reply.TheVariants.{Admitted, Released, NoVpn, Vpns, Newest, Down, Up, Denied}
 use Rattle.hose_graph.specs.Network.{Network}
 use Rattle.hose_law.specs.Book.{Book}
 use Rattle.hose_law.specs.History.{AreFrom, EntryKind, next_book, book_after, book_of, opening_book, IsSound, IsSoundAt, IsDecidedAt, IsDecided}
@@ -86,8 +86,7 @@ answer_decided network epoch history customer held after (Show id) (NoVpn told a
 answer_decided network epoch history customer held after (Show id) reply entry sound answer = absurd answer.0
 answer_decided network epoch history customer held after VpnsCommand (Vpns at ids) entry sound answer = absurd answer.0
 answer_decided network epoch history customer held after VpnsCommand reply entry sound answer = absurd answer.0
-answer_decided network epoch history customer held after (Link link) (LinkState told load out at) entry sound answer = absurd answer.0
-answer_decided network epoch history customer held after (Link link) reply entry sound answer = absurd answer.0
+answer_decided network epoch history customer held after (Link link) reply entry sound answer = absurd (cc answer.0.1)
 answer_decided network epoch history customer held after (DownCommand link) reply entry sound answer =
     operator_decided network (book_of epoch history) customer true link reply entry sound answer.0
 answer_decided network epoch history customer held after (UpCommand link) reply entry sound answer =

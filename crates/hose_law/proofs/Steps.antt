@@ -5,7 +5,7 @@ use Rattle.hose_graph.specs.declared.entry.Entry.{Entry}
 use Rattle.hose_graph.specs.declared.command.Command.{Command}
 use Rattle.hose_graph.specs.declared.command.Command.TheVariants.{Admit, AdmitAfter, Quote, Take, Release, Show, Vpns as VpnsCommand, Link, Down as DownCommand, Up as UpCommand}
 use Rattle.hose_graph.specs.declared.command.Reply.{Reply}
-use Rattle.hose_graph.specs.declared.command.Reply.TheVariants.{Admitted, Quoted, Refused, Stale, Full, Spent, Released, NoVpn, TooMany, Shown, Vpns, Newest, LinkState, Down, Up, Already, Denied, Disk, Memory}
+use Rattle.hose_graph.specs.declared.command.Reply.TheVariants.{Admitted, Quoted, Refused, Stale, Full, Spent, Released, NoVpn, TooMany, Shown, Vpns, Newest, Down, Up, Already, Denied, Disk, Memory}
 use Rattle.hose_graph.specs.Hose.{Endpoint}
 use Rattle.hose_law.specs.Answer.{IsAdmitAnswer, IsAfterAnswer, IsAnswer, IsLinkAnswer, IsOperatorAnswer, IsPlannedAnswer, IsQuoteAnswer, IsReleaseAnswer, IsServiceAnswer, IsShowAnswer, IsStepOf, IsTakeAnswer, IsTakingAnswer, IsVpnsAnswer, with_entry}
 use Rattle.hose_law.specs.steps.Answer.{ChangesHeld}
@@ -59,8 +59,7 @@ module _ (network : Network) (book : Book) where
   vpns_kind customer reply entry answer = absurd answer
 
   link_kind : (link : ℕ) (reply : Reply) (entry : Option Entry) → IsLinkAnswer book link reply entry → kind_of reply ≡ ByTheBook
-  link_kind link (LinkState told load out at) None answer = refl
-  link_kind link reply entry answer = absurd answer
+  link_kind link reply entry answer = ap kind_of answer.0
 
   service_kind : (down : Bool) (link : ℕ) (reply : Reply) (entry : Option Entry) → IsServiceAnswer network book down link reply entry → kind_of reply ≡ ByTheBook
   service_kind down link (Already told at) None answer = refl
@@ -143,16 +142,9 @@ module _ (network : Network) (epoch : ℕ) (history : List Entry) (customer : Li
   step_keeps command reply entry next after others step = at (step_cases command reply entry next after step)
     where
       answer_keeps : (command : Command) (reply : Reply) → ¬ ChangesHeld command → IsAnswer network epoch history customer held command reply entry after → after ≡ held
-      answer_keeps (Admit hose) reply others answer = answer.1
-      answer_keeps (AdmitAfter known hose) reply others answer = answer.1
       answer_keeps (Quote hose) reply others answer = absurd (others tt)
       answer_keeps (Take number) reply others answer = absurd (others tt)
-      answer_keeps (Release id) reply others answer = answer.1
-      answer_keeps (Show id) reply others answer = answer.1
-      answer_keeps VpnsCommand reply others answer = answer.1
-      answer_keeps (Link link) reply others answer = answer.1
-      answer_keeps (DownCommand link) reply others answer = answer.1
-      answer_keeps (UpCommand link) reply others answer = answer.1
+      answer_keeps command reply others answer = answer.1
 
       at : IsIdle reply entry next after ⊎ IsAnswered command entry next after → after ≡ held
       at (inl idle) = idle.keeps

@@ -12,18 +12,18 @@ use Rattle.hose_graph.specs.declared.entry.Entry.TheVariants.{Admit as AdmitEntr
 use Rattle.hose_graph.specs.declared.command.Command.{Command}
 use Rattle.hose_graph.specs.declared.command.Command.TheVariants.{Admit, AdmitAfter, Quote, Take, Release, Show, Vpns as VpnsCommand, Link, Down as DownCommand, Up as UpCommand}
 use Rattle.hose_graph.specs.declared.command.Reply.{Reply}
-use Rattle.hose_graph.specs.declared.command.Reply.TheVariants.{Admitted, Quoted, Refused, Stale, Full, Spent, Released, NoVpn, TooMany, Shown, Vpns, Newest, LinkState, Down, Up, Already, Denied, Disk, Memory}
+use Rattle.hose_graph.specs.declared.command.Reply.TheVariants.{Admitted, Quoted, Refused, Stale, Full, Spent, Released, NoVpn, TooMany, Shown, Vpns, Newest, Down, Up, Already, Denied, Disk, Memory}
 use Rattle.hose_law.proofs.LiveIds.{HasDistinctIds, live_ids, vpn_unique}
 use Rattle.hose_law.proofs.CanonicalPlans.{planned_unique}
 use Rattle.hose_law.proofs.Numbers.{some_is}
 use Rattle.hose_graph.proofs.Ordered.{same_by_elements}
 use Rattle.hose_law.specs.Plan.{plan_cost}
-use Rattle.hose_law.specs.Book.{Book, HasVpn, IsLiveVpn, load_of}
+use Rattle.hose_law.specs.Book.{Book, HasVpn, IsLiveVpn}
 use Rattle.hose_law.specs.Decision.{HaveEqualGrounds, IsPlanned, IsReachedList, IsRefused, lowest_end}
 use Rattle.hose_law.specs.History.{book_of}
 use Rattle.hose_law.specs.Room.{room_of, safe_links}
 use Rattle.hose_law.specs.Answer.{AreVpnsOf, IsNewest, IsPlannedAnswer, IsAdmitAnswer, IsAfterAnswer, IsQuoteAnswer, IsTakingAnswer, IsTakeAnswer, IsReleaseAnswer, IsShowAnswer, IsVpnsAnswer, IsLinkAnswer, IsOperatorAnswer, IsServiceAnswer, IsAnswer, IsStep, with_entry}
-use Rattle.hose_law.specs.Service.{LinkStands, is_out}
+use Rattle.hose_law.specs.Service.{LinkStands}
 use Rattle.hose_law.specs.steps.Service.{service_entry}
 use Rattle.hose_law.specs.Quotes.{Holding, HeldQuote, at_number, free_number, with_held, with_number}
 use Rattle.hose_law.specs.Script.{ReadLine, Asks, IsForDisk, IsForMemory, IsLineStep, IsScript, ScriptState, WithoutDisk, WithoutMemory}
@@ -254,15 +254,9 @@ module _ (network : Network) (book : Book) (customer : List ℕ) (id : ℕ) wher
       reply other entry more (show_cases reply entry one) (show_cases other more two)
 
 module _ (book : Book) (link : ℕ) where
-  -- what a link is told as
-  link_told : (reply : Reply) (entry : Option Entry) → IsLinkAnswer book link reply entry → Tells ⊤ (LinkState link (load_of book link) (is_out book.out link) book.epoch) None reply entry
-  link_told (LinkState told load out at) None is = (tt, cc (is.0, is.1, is.2, is.3), refl)
-  link_told reply entry is = absurd is
-
   -- a question after a link has one answer at a book
   link_answer_unique : IsUnique (IsLinkAnswer book link)
-  link_answer_unique reply other entry more one two =
-      tells_unique ⊤ (LinkState link (load_of book link) (is_out book.out link) book.epoch) None reply other entry more (link_told reply entry one) (link_told other more two)
+  link_answer_unique reply other entry more one two = (one.0 ∙ sym two.0, one.1 ∙ sym two.1)
 
 -- a link does not stand in two ways
 pub stands_once : (network : Network) (book : Book) (down : Bool) (link : ℕ) → LinkStands network book link down → LinkStands network book link (not down) → ⊥

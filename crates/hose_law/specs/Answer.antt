@@ -123,11 +123,13 @@ abbrev pub IsVpnsAnswer : Book → List ℕ → Reply → Option Entry → Type 
 IsVpnsAnswer book customer (Vpns at ids) None = (at ≡ book.epoch) × AreVpnsOf book customer ids
 IsVpnsAnswer book customer reply entry = ⊥
 
--- the answer to the question what is reserved on a link, and whether it is out of service
+-- what a book tells of a link: what is reserved on it, and whether it is out of service
+abbrev pub link_told : Book → ℕ → Reply
+link_told book link = LinkState link (load_of book link) (is_out book.out link) book.epoch
+
+-- the answer to the question what a book tells of a link
 abbrev pub IsLinkAnswer : Book → ℕ → Reply → Option Entry → Type 0
-IsLinkAnswer book link (LinkState told load out at) None =
-    (told ≡ link) × (load ≡ load_of book link) × (out ≡ is_out book.out link) × (at ≡ book.epoch)
-IsLinkAnswer book link reply entry = ⊥
+IsLinkAnswer book link reply entry = (reply ≡ link_told book link) × (entry ≡ None)
 
 -- The answer at a book to the operator's command to take a link out of service, where this is true,
 -- or to put it back: the first of already, spent that applies, else down or up. The entry is what

@@ -45,7 +45,6 @@ pub fn law_weight(top: &Topology, links: &[bool], hose: &Hose, plan: &Amounts)
     ensures { (root : ℕ) × (weight : ℕ) × IsRoot top.now links.now hose.now root weight
         × (plan_cost top.now plan.now ≡ weight) }
 {
-    // That this is a network is told by the call that counts its nodes.
     let _nodes = top.nodes();
 }
 
@@ -66,7 +65,6 @@ pub fn law_least(
     ensures { HasRootWithin top.now links.now hose.now
         (amounts_cost top.now (growth start steps.now) amounts.now) }
 {
-    // That this is a network is told by the call that counts its nodes.
     let _nodes = top.nodes();
 }
 

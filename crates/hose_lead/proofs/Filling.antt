@@ -8,12 +8,11 @@ use Rattle.hose_follow.specs.Packet.{Packet, packet_bytes}
 use Rattle.hose_follow.specs.Replication.{packet_at}
 use Rattle.hose_lead.specs.steps.History.{IsPacketBehind}
 use Rattle.hose_lead.specs.Leading.{ask_epoch, ask_have, ask_value, asked_again, entry_more}
-use Rattle.hose_lead.specs.steps.Standby.{EndsFor, HandsOut, IsAt, IsFilled, IsLed, IsOpen, StandbyState, TellsWhy, counted_more}
+use Rattle.hose_lead.specs.steps.Standby.{HandsOut, IsAt, IsLed, IsOpen, StandbyState, counted_more}
 use Rattle.hose_lead.proofs.Arriving.{hands_none}
-use Rattle.hose_lead.proofs.Handing.{led_asks, led_ends, led_hands}
-use Rattle.hose_lead.specs.declared.stage.Ending.{Ending}
+use Rattle.hose_lead.proofs.Handing.{led_asks, led_hands}
 use Rattle.hose_lead.specs.declared.stage.Stage.{Stage}
-use Rattle.hose_lead.specs.declared.stage.Stage.TheVariants.{Unasked, AskedEpoch, ToldEpoch, AskedValue, Following, Ended}
+use Rattle.hose_lead.specs.declared.stage.Stage.TheVariants.{Unasked, AskedEpoch, ToldEpoch, AskedValue, Following}
 
 -- the state after the bytes of a packet were handed out
 abbrev pub with_unsent : StandbyState → List ℕ → Stage → StandbyState
@@ -24,10 +23,6 @@ module _ (is_of : Network → List Entry → Type 0) (old : StandbyState) where
   pub hands_by : {E : Type 0} (next new : StandbyState) (result : Result ⊤ E) → OnOk result (new ≡ next) → OnErr result (new ≡ old) → HandsOut is_of old next → HandsOut is_of old new
   hands_by next new (Ok _) ok err hands = subst (HandsOut is_of old) (sym ok) hands
   hands_by next new (Err _) ok err hands = subst (HandsOut is_of old) (sym err) (hands_none is_of old)
-
-  pub filled_by : {E : Type 0} (list : List Entry) (next new : StandbyState) (result : Result ⊤ E) → OnOk result (new ≡ next) → IsFilled list next → OnOk result (IsFilled list new)
-  filled_by list next new (Ok _) ok filled = subst (IsFilled list) (sym ok) filled
-  filled_by list next new (Err _) ok filled = tt
 
   pub hands_epoch : old.stage ≡ Unasked → HandsOut is_of old (with_unsent old (packet_bytes ask_epoch) AskedEpoch)
   hands_epoch was =
@@ -90,11 +85,3 @@ module _ (is_of : Network → List Entry → Type 0) (old : StandbyState) where
         ended = λ ended. absurd (ended opens);
         why = λ network list is why. tt;
       }
-
-  pub hands_end : (why : Ending) → IsOpen old.stage → ((network : Network) (list : List Entry) → EndsFor network list why) → ((lines : List (List ℕ)) → TellsWhy lines why) → HandsOut is_of old (record old { stage = Ended why })
-  hands_end why opens ends told = record {
-    led = λ network list came sent is led. led_ends network list came sent old why told led;
-    heard = refl;
-    ended = λ ended. absurd (ended opens);
-    why = λ network list is _. ends network list;
-  }

@@ -13,7 +13,6 @@ use Rattle.hose_follow.specs.Packet.{Packet, packet_after, packet_bytes}
 use Rattle.hose_lead.specs.Leading.{IsValueAt}
 use Rattle.hose_lead.specs.LedStore.{KeptPacket, RecentState}
 use Rattle.hose_lead.specs.steps.History.{AreKept, IsPacketBehind, IsRecentOf, kept_size}
-use Rattle.hose_lead.specs.steps.Taking.{Shortens}
 use Rattle.hose_lead.proofs.Growing.{behind_longer, value_longer}
 
 abbrev pub packet_of : ℕ → List ℕ → List ℕ → Packet
@@ -53,30 +52,6 @@ module _ (network : Network) (list : List Entry) where
       subst (λ (n : ℕ). IsPacketBehind network list n (get_or kept place one).bytes) (omega arith) (kept_packet (count + 1) kept place one are.2 (omega (arith, below)))
 
 -- ---- the oldest are given up
-
-pub shortens_none : (old : RecentState) → Shortens old old
-shortens_none old = record { is = λ network list is. is; rest = refl }
-
-pub shortens_more : (old mid new : RecentState) → Shortens old mid → Shortens mid new → Shortens old new
-shortens_more old mid new one two = record {
-  is = λ network list is. two.is network list (one.is network list is);
-  rest = two.rest ∙ ap (λ (s : RecentState). record s { kept = new.kept }) one.rest;
-}
-
-pub shortens_first : (old new : RecentState) (first : KeptPacket) → old.kept ≡ first ∷ new.kept → new ≡ record old { kept = new.kept } → Shortens old new
-shortens_first old new first kept rest = record {
-  is = λ network list is. subst (IsRecentOf network list) (sym rest) (shorter network list is (subst (AreKept network list is.first) kept is.are));
-  rest = rest;
-}
-  where
-    shorter : (network : Network) (list : List Entry) (is : IsRecentOf network list old) → AreKept network list is.first (first ∷ new.kept) → IsRecentOf network list (record old { kept = new.kept })
-    shorter network list is are = record {
-      epoch = is.epoch;
-      value = is.value;
-      first = is.first + 1;
-      reaches = omega (arith, is.reaches, ap length kept);
-      are = are.2;
-    }
 
 -- none is at hand
 pub recent_none : (network : Network) (list : List Entry) (recent : RecentState) → recent.kept ≡ [] → recent.epoch ≡ length list → recent.value ≡ chain (digest_of network) list → IsRecentOf network list recent

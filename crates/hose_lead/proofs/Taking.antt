@@ -1,6 +1,6 @@
 -- What each answer makes of a connection.
-use Rattle.std.proofs.Common.{◌≡◌, ◌∙◌, ℕ, ◌+◌, ◌≤◌, true, List, [], ◌∷◌, ◌++◌, Option, Some, None, length, refl, sym, ap, subst, arith}
-use Rattle.std.specs.Prelude.{Contains, unwrap_or}
+use Rattle.std.proofs.Common.{◌≡◌, ◌∙◌, ℕ, ◌+◌, ◌≤◌, true, List, [], ◌∷◌, ◌++◌, Some, length, refl, sym, ap, subst, arith}
+use Rattle.std.specs.Prelude.{Contains}
 use Rattle.std.proofs.lemmas.List.Elements.{Contains-push}
 use Rattle.hose_graph.specs.Network.{Network}
 use Rattle.hose_graph.specs.declared.entry.Entry.{Entry}
@@ -9,7 +9,7 @@ use Rattle.hose_follow.specs.Packet.{Packet}
 use Rattle.hose_follow.specs.declared.answers.Offered.{Offered}
 use Rattle.hose_follow.specs.declared.answers.Offered.TheVariants.{Have, Want, Differs}
 use Rattle.hose_lead.specs.Leading.{IsValueAt, no_value, Offers, probed, TellsEpoch}
-use Rattle.hose_lead.specs.steps.Standby.{IsAt, RisesTo, StandbyState, TellsWhy}
+use Rattle.hose_lead.specs.steps.Standby.{IsAt, StandbyState, TellsWhy}
 use Rattle.hose_lead.specs.steps.Taking.{Knows, Takes}
 use Rattle.hose_lead.proofs.Growing.{compared_more, handed_at, handed_more, may_heard_more, tells_more}
 use Rattle.hose_lead.specs.declared.stage.Ending.{Ending}
@@ -98,7 +98,3 @@ module _ (network : Network) (list : List Entry) (old : StandbyState) where
           let now = subst (λ (stage : Stage). IsAt network list lines packets old.heard stage) was knows.at in
           subst (λ (stage : Stage). IsAt network list (lines ++ text ∷ []) packets (Some n) stage) (sym was)
           (tells_more lines text start now.0, compared_more network list lines text start now.1, now.2, now.3, now.4)
-
-pub rises_have : (heard : Option ℕ) (start n : ℕ) → unwrap_or heard start ≤ n → RisesTo heard (Some n)
-rises_have None start n least = tt
-rises_have (Some count) start n least = least

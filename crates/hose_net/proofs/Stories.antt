@@ -159,8 +159,3 @@ module _ {N B L R : Type 0} (terms : Terms N B L R) where
   served_linked step story before place =
       subst (λ (h : ℕ). IsServed terms.text h (life place (story ++ Happens (Linked step) ∷ []))) (sym (bound-happens story (Linked step)))
       (subst (IsServed terms.text (bound_in story)) (sym (life-linked place step story)) (before place))
-
-  pub served_stopped : (story : List (Step L R)) → AllServed terms story → AllServed terms (story ++ Happens Stopped ∷ [])
-  served_stopped story before place =
-      subst (λ (h : ℕ). IsServed terms.text h (life place (story ++ Happens Stopped ∷ []))) (sym (bound-happens story Stopped))
-      (subst (IsServed terms.text (bound_in story)) (sym (life-stopped place story)) (before place))

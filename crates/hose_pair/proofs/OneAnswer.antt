@@ -10,7 +10,7 @@ use Rattle.hose_graph.specs.declared.entry.Entry.TheVariants.{Admit as AdmitEntr
 use Rattle.hose_graph.specs.declared.command.Command.{Command}
 use Rattle.hose_graph.specs.declared.command.Command.TheVariants.{Admit, AdmitAfter, Quote, Take, Release, Show, Vpns as VpnsCommand, Link, Down as DownCommand, Up as UpCommand}
 use Rattle.hose_graph.specs.declared.command.Reply.{Reply}
-use Rattle.hose_graph.specs.declared.command.Reply.TheVariants.{Admitted, Quoted, Refused, Stale, Full, Spent, Released, NoVpn, TooMany, Shown, Vpns, Newest, LinkState, Down, Up, Already, Denied, Disk, Memory}
+use Rattle.hose_graph.specs.declared.command.Reply.TheVariants.{Admitted, Quoted, Refused, Stale, Full, Spent, Released, NoVpn, TooMany, Shown, Vpns, Newest, Down, Up, Already, Denied, Disk, Memory}
 use Rattle.hose_graph.specs.Hose.{Endpoint}
 use Rattle.hose_law.specs.Answer.{IsAdmitAnswer, IsAfterAnswer, IsAnswer, IsLinkAnswer, IsOperatorAnswer, IsPlannedAnswer, IsQuoteAnswer, IsReleaseAnswer, IsServiceAnswer, IsShowAnswer, IsStepOf, IsTakeAnswer, IsTakingAnswer, IsVpnsAnswer, with_entry}
 use Rattle.hose_law.specs.Book.{Book}
@@ -68,8 +68,7 @@ module _ (network : Network) (book : Book) (customer : List ℕ) where
   vpns_entry none reply entry answer = absurd answer
 
   link_entry : (link : ℕ) (none : List Endpoint) (reply : Reply) (entry : Option Entry) → IsLinkAnswer book link reply entry → entry ≡ entry_of customer none reply
-  link_entry link none (LinkState told load out at) None answer = refl
-  link_entry link none reply entry answer = absurd answer
+  link_entry link none reply entry answer = answer.1 ∙ ap (entry_of customer none) (sym answer.0)
 
   service_entry : (down : Bool) (link : ℕ) (none : List Endpoint) (reply : Reply) (entry : Option Entry) → IsServiceAnswer network book down link reply entry → entry ≡ entry_of customer none reply
   service_entry down link none (Already told at) None answer = refl

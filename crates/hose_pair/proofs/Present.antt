@@ -72,9 +72,6 @@ record IsStill (story : List Moves) (happening : Happening) : Type 0 where
   served : served_in (story ++ Happens happening ∷ []) ≡ served_in story
   given : (link_in (story ++ Happens happening ∷ [])).given ≡ [] → (link_in story).given ≡ []
 
-abbrev now_given : (story : List Moves) (happening : Happening) → (link_in (story ++ Happens happening ∷ [])).given ≡ (link_in story).given → (link_in (story ++ Happens happening ∷ [])).given ≡ [] → (link_in story).given ≡ []
-now_given story happening same none = sym same ∙ none
-
 opened_or : (story : List Moves) (happening : Happening) → IsOpened story happening ⊎ IsStill story happening
 opened_or story (Came door place) = inr (record { opened = refl; joined = joined-push story _; served = served-push story _; given = λ none. ap (λ (l : Link). l.given) (sym (link-push story (Happens (Came door place)))) ∙ none })
 opened_or story (Got place bytes) = inr (record { opened = refl; joined = joined-push story _; served = served-push story _; given = λ none. ap (λ (l : Link). l.given) (sym (link-push story (Happens (Got place bytes)))) ∙ none })

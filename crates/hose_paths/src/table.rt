@@ -67,19 +67,12 @@ impl RowTable {
         self.links.same(links) && are_cost_alike(&self.top, top)
     }
 
-    /// Whether its rows are over this set of its network's links.
-    pub fn has_links(&self, links: &LinkSet) -> bool
-        ensures { IsTrue result ↔ (self.now.links ≡ links.now) }
-    {
-        self.links.same(links)
-    }
-
     /// Its rows, where they are over this set of its network's links. Whoever has made it of a
     /// network asks so, and nothing of the network is compared.
     pub fn kept(&self, links: &LinkSet) -> Option<&[Row]>
         ensures { IfSome result (λ rows. AreRows self.now.network links.now rows.now) }
     {
-        if self.has_links(links) {
+        if self.links.same(links) {
             Some(&self.rows)
         } else {
             None

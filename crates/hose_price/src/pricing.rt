@@ -99,7 +99,6 @@ impl PriceSheet {
             (slice_index_or self.now.columns place column) price)) }
     {
         let column = self.column(place);
-        // The call tells the proof what holds of each network.
         let _hops = self.hops.nodes();
         let Some(amounts) = plan(alloc, &column.top, asked.links, asked.hose, rows)? else {
             return Ok(None);

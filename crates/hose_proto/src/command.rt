@@ -70,7 +70,6 @@ pub fn read_command_at(
     ensures never_wrong { (command : Command) (word : ℕ) → IsCommand top.now words.old.left command
         → IsFirstWrong (command_shape top.now) words.old.left word → ⊥ }
 {
-    // The call tells the proof what holds of each network: that no two nodes have one name.
     let _nodes = top.nodes();
     read_words(alloc, top, words)
 }
@@ -99,7 +98,6 @@ pub fn read_hose(alloc: Global, top: &Topology, words: &mut Cursor<'_>) -> Resul
     ensures never_wrong { (hose : List Endpoint) (word : ℕ) → AreEndsOf top.now words.old.left hose
         → IsFirstWrong (ends_shape top.now) words.old.left word → ⊥ }
 {
-    // The call tells the proof what holds of each network: that no two nodes have one name.
     let _nodes = top.nodes();
     read_ends(alloc, top, words)
 }
@@ -146,10 +144,5 @@ impl Items for NewEnds {
 fn has_node(ends: &[Endpoint], node: u32) -> bool
     ensures { IsTrue result ↔ Any (λ end. node_of end ≡ node) ends.now }
 {
-    for end in ends {
-        if end.0 == node {
-            return true;
-        }
-    }
-    false
+    ends.iter().any(|end| end.0 == node)
 }

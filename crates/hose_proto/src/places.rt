@@ -96,8 +96,8 @@ pub fn name_and_rate(word: &[u8]) -> Option<(Name, u64)>
     ensures none { IfNone result (¬ IsEndWord word.now) }
 {
     let (name, rate) = parts(word)?;
-    let rate = number(rate, MOST_RATE)?;
     let name = Name::read(name)?;
+    let rate = number(rate, MOST_RATE)?;
     (rate > 0).then_some((name, rate))
 }
 
@@ -117,10 +117,6 @@ pub fn parts(word: &[u8]) -> Option<(&[u8], &[u8])>
     ensures first { IfSome result (λ parts. ¬ Contains parts.0.now 58) }
     ensures none { IfNone result (¬ Contains word.now 58) }
 {
-    for colon in 0..word.len() {
-        if word[colon] == b':' {
-            return Some((&word[..colon], &word[colon + 1..]));
-        }
-    }
-    None
+    let colon = word.iter().position(|byte| *byte == b':')?;
+    Some((&word[..colon], &word[colon + 1..]))
 }

@@ -48,7 +48,6 @@ pub fn read_reply(alloc: Global, top: &Topology, line: &[u8]) -> Result<Reply, R
     ensures again { (reply : Reply) → IsOfKind top.now reply
         → IsReply top.now (words_of (reply_text top.now reply)) reply }
 {
-    // The call tells the proof what holds of each network: that no two nodes have one name.
     let _nodes = top.nodes();
     read_words(alloc, top, &mut Cursor::new(line))
 }

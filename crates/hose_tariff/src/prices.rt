@@ -27,7 +27,6 @@ impl Prices for OwnCosts {
     ghost prices = { λ _ network priced. priced ≡ network };
 
     fn apply(&self, _alloc: Global, top: Topology) -> Result<Topology, AllocError> {
-        // The call tells the proof what holds of each network.
         let _nodes = top.nodes();
         Ok(top)
     }

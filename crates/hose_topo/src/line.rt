@@ -50,7 +50,6 @@ pub fn take_line(top: &mut Topology, line: &[u8]) -> Taken
     ensures takes { TakesWords result top.old (words_of line.now) top.new }
     ensures network { IsNetwork top.old }
 {
-    // The call tells the proof what holds of each network: that no two nodes have one name.
     let _nodes = top.nodes();
     let mut words = Cursor::new(line);
     if let None | Some([b'#', ..]) = words.peek() {

@@ -76,7 +76,6 @@ fn take_next<S: Source>(top: &mut Topology, lines: &mut LineReader<S>) -> Result
     ensures takes { TakesNext S.Source lines.old lines.new result top.old top.new }
     ensures network { IsNetwork top.old }
 {
-    // The call tells the proof what holds of each network.
     let _nodes = top.nodes();
     match lines.next()? {
         Some(Line::Text(line)) => Ok(take_line(top, line)),

@@ -40,7 +40,6 @@ fn read_link(top: &Topology, by_name: &NodesByName, value: &Value) -> Option<Lin
     ensures none { IfNone result
         ((link : Link) → ¬ TellsJsonLink top.now.nodes (view value.now) link) }
 {
-    // The call tells the proof what holds of each network.
     let _nodes = top.nodes();
     let Some(a) = node(top, by_name, value, "a") else {
         return None;

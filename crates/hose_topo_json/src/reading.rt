@@ -85,7 +85,6 @@ fn read_members(alloc: Global, bytes: &[u8]) -> Result<Topology, JsonFault>
     if let Err(index) = add_links(&mut top, &by_name, links) {
         return Err(JsonFault::Link { index });
     }
-    // The call tells the proof what holds of each network.
     let _nodes = top.nodes();
     Ok(top)
 }

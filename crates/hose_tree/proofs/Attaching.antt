@@ -69,19 +69,6 @@ module _ (network : Network) (is : IsNetwork network) (set_of : List Bool) (root
         omega (arith, leads.costs),
       )
 
-  -- a node that is on the tree needs no step
-  pub attached_there : (v : ℕ) (steps : List Step) (on : List Bool) → IsTightTree network set_of root steps on → IsOn root steps v
-      → IsAttached network set_of root v steps steps on
-  attached_there v steps on tree here =
-      record {
-        is_tree = tree;
-        here = here;
-        keeps = λ u there. there;
-        nodes = λ u there. inl there;
-        keeps_links = λ l there. there;
-        links = λ l there. inl there;
-      }
-
   -- a step attaches a node from the other node of its tight link
   module _ (v l other : ℕ) (some : IsSome (distance_of row v)) (there : tight_link_of row v ≡ Some l) (joins : Joins network l v other) (old mid : List Step) (before on : List Bool) (was : IsTightTree network set_of root old before) (off : ¬ IsIn before v) (below : v < length on) (by : IsAttached network set_of root other old mid on) where
     abbrev step : Step

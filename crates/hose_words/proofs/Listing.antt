@@ -13,10 +13,6 @@ pub record Listing {A : Type 0} (word_of : A → List ℕ) (form : Form) (items 
   pub took : TookAll old new (map word_of items)
   pub goes_on : (place : ℕ) → IsFirstNotAllowed (grammar_of form) (map word_of items) new.left place → IsFirstNotAllowed (grammar_of form) [] old.left place
 
--- no item yet
-pub listing_none : {A : Type 0} (word_of : A → List ℕ) (form : Form) (old : Position) → Listing word_of form [] old old
-listing_none word_of form old = record { took = record { cut = refl; counted = omega arith }; goes_on = λ place wrong. wrong }
-
 -- one item more
 pub listing_more : {A : Type 0} (word_of : A → List ℕ) (form : Form) (items : List A) (item : A) (old mid new : Position) → Listing word_of form items old mid → Took mid new (word_of item)
     → Follows form (map word_of items) (word_of item) → Listing word_of form (items ++ item ∷ []) old new

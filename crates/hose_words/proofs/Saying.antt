@@ -11,7 +11,7 @@ use Rattle.hose_words.specs.Lines.{IsAfterLines, StopsAfterLines, is_line_feed}
 use Rattle.hose_words.specs.steps.Lines.{GivesLine, IsNext, Reader, Shows}
 use Rattle.hose_words.specs.Reading.{WhereTold}
 use Rattle.hose_words.specs.steps.Reading.{ReadsOn}
-use Rattle.hose_words.specs.Saying.{IsAllTaken, IsLeftOver, SayLines, no_line, one_more}
+use Rattle.hose_words.specs.Saying.{IsAllTaken, SayLines, no_line, one_more}
 use Rattle.hose_words.specs.steps.Saying.{IsOver, SaysUpTo, StopsReading, TakesLine}
 use Rattle.hose_words.specs.declared.lines.Line.{Line}
 use Rattle.hose_words.specs.declared.lines.LineFault.{LineFault}
@@ -76,8 +76,3 @@ module _ {S L : Type 0} (source : Ghosts S) (Says : List L → List ℕ → L �
   pub said_until : (fault : LineFault) → now.fault ≡ None → StopsReading source now new fault → SaysUpTo source start new Says lines (StopsAfterLines fault)
   said_until fault none met = up_to IsAfterLines (StopsAfterLines fault) (reads.whole none met.before_end)
       (WhereTold-map (source.content now.source) (source.content new.source) _ _ met.stops (λ was left stops text lines. (lines, stops)))
-
--- no more lines are read, and whatever was pending is left
-pub said_enough : {S L : Type 0} (source : Ghosts S) (Says : List L → List ℕ → L → Type 0) (start now : Reader S) (lines : List L)
-    → WhereTold (source.content start.source) (source.content now.source) (λ was left. SayLines Says (start.pending ++ was) lines (now.pending ++ left)) → SaysUpTo source start now Says lines IsLeftOver
-said_enough source Says start now lines said = WhereTold-map (source.content start.source) (source.content now.source) _ _ said (λ was left says. (now.pending ++ left, says, (now.pending, refl)))

@@ -1,12 +1,11 @@
 -- Shapes of lines: where words tell something none of them is wrong, and a line has one first word that is wrong.
 use Rattle.std.proofs.Common.{◌≡◌, ◌∙◌, ◌⊎◌, ℕ, ◌+◌, ◌<◌, ◌≤◌, List, [], ◌∷◌, ◌++◌, length, take, drop, inl, inr, refl, sym, ap, subst, arith, suc, zero}
 use Rattle.std.proofs.lemmas.List.{take-append-drop, take_all}
-use Rattle.hose_words.specs.Shapes.{Begin, IsFirstWrong, Shape, Tells, Values, items, line_end, value}
+use Rattle.hose_words.specs.Shapes.{Begin, IsFirstWrong, Shape, Tells, Values, line_end, value}
 use Rattle.hose_words.specs.Words.{IsChoice, IsFirst}
 use Rattle.hose_words.specs.steps.Grammar.{Grammar}
 use Rattle.hose_words.proofs.Forms.{AreApart}
-use Rattle.hose_words.proofs.Passing.{IsClosed}
-use Rattle.hose_words.proofs.Shapes.{Agrees, agrees_end, agrees_items, first_word}
+use Rattle.hose_words.proofs.Shapes.{Agrees, agrees_end, first_word}
 
 -- ---- how words begin a line
 
@@ -21,9 +20,6 @@ firm_of agrees = record { nothing = agrees.steps.nothing; front = agrees.steps.f
 
 pub firm_end : IsFirm line_end
 firm_end = firm_of agrees_end
-
-pub firm_items : {A : Type 0} (may : List A → Type 0) (word_of : A → List ℕ) (least : ℕ) → IsClosed may → may [] → IsFirm (items may word_of least)
-firm_items may word_of least closed none = firm_of (agrees_items may word_of least closed none)
 
 pub firm_value : {A : Type 0} (may : A → Type 0) (word_of : A → List ℕ) (after : A → Shape) → ((a : A) → may a → IsFirm (after a)) → IsFirm (value may word_of after)
 firm_value {A} may word_of after on = record { nothing = tt; front = front; begin = begin }

@@ -1,5 +1,4 @@
 use Rattle.std.proofs.Common.{◌≡◌, refl, subst, sym}
-use Rattle.hose_graph.specs.declared.command.Command.TheVariants.{Admit, AdmitAfter, Down, Link, Quote, Release, Show, Take, Up, Vpns}
 use Rattle.hose_turn.specs.Known.{Known}
 use Rattle.hose_shared.specs.steps.Providing.{CanProvide, Provides}
 use Rattle.hose_shared.specs.steps.Sharing.{SharedBook}
@@ -13,16 +12,16 @@ returns-clause-provides g c =
     let customer = c.args.customer.now in
     let done = c.match-command in
     let provides : Provides was.shared.now.network (record { pass = c.replace-pass.result; quotes = was.quotes }) (record { pass = done.reply.1; quotes = done.self.quotes }) customer c.args.command done.reply.0 = elim done.branch [
-      | in-Admit w ↦ rw (w.reply-is, w.self-is, w.in-Admit.is) (provides_keeping (Admit w.in-Admit.hose) was.quotes (λ changes. changes) w.admit_bound.ensures)
-      | in-AdmitAfter w ↦ rw (w.reply-is, w.self-is, w.in-AdmitAfter.is) (provides_keeping (AdmitAfter w.in-AdmitAfter.known w.in-AdmitAfter.hose) was.quotes (λ changes. changes) w.admit_bound-in-AdmitAfter.ensures)
-      | in-Quote w ↦ rw (w.reply-is, w.self-is, w.in-Quote.is) (provides_changing (Quote w.in-Quote.hose) was.quotes w.quote.new.quotes (w.quote.ensures.steps customer) w.quote.ensures.names (λ number seen now is stale. absurd (cc is)))
-      | in-Take w ↦ rw (w.reply-is, w.self-is, w.in-Take.is) (provides_changing (Take w.in-Take.number) was.quotes w.take.new.quotes w.take.ensures.steps w.take.ensures.names (λ number seen now is stale. w.take.ensures.stale seen now stale))
-      | in-Release w ↦ rw (w.reply-is, w.self-is, w.in-Release.is) (provides_keeping (Release w.in-Release.id) was.quotes (λ changes. changes) w.release.ensures)
-      | in-Show w ↦ rw (w.reply-is, w.self-is, w.in-Show.is) (provides_keeping (Show w.in-Show.id) was.quotes (λ changes. changes) w.show.ensures)
-      | in-Vpns w ↦ rw (w.reply-is, w.self-is, w.in-Vpns.is) (provides_keeping Vpns was.quotes (λ changes. changes) w.vpns.ensures)
-      | in-Link w ↦ rw (w.reply-is, w.self-is, w.in-Link.is) (provides_keeping (Link w.in-Link.link) was.quotes (λ changes. changes) (w.link.ensures customer))
-      | in-Down w ↦ rw (w.reply-is, w.self-is, w.in-Down.is) (provides_keeping (Down w.in-Down.link) was.quotes (λ changes. changes) w.operate.ensures)
-      | in-Up w ↦ rw (w.reply-is, w.self-is, w.in-Up.is) (provides_keeping (Up w.in-Up.link) was.quotes (λ changes. changes) w.operate-in-Up.ensures)
+      | in-Admit w ↦ rw (w.reply-is, w.self-is, w.in-Admit.is) (provides_keeping _ was.quotes (λ changes. changes) w.admit_bound.ensures)
+      | in-AdmitAfter w ↦ rw (w.reply-is, w.self-is, w.in-AdmitAfter.is) (provides_keeping _ was.quotes (λ changes. changes) w.admit_bound-in-AdmitAfter.ensures)
+      | in-Quote w ↦ rw (w.reply-is, w.self-is, w.in-Quote.is) (provides_changing _ was.quotes w.quote.new.quotes (w.quote.ensures.steps customer) w.quote.ensures.names (λ number seen now is stale. absurd (cc is)))
+      | in-Take w ↦ rw (w.reply-is, w.self-is, w.in-Take.is) (provides_changing _ was.quotes w.take.new.quotes w.take.ensures.steps w.take.ensures.names (λ number seen now is stale. w.take.ensures.stale seen now stale))
+      | in-Release w ↦ rw (w.reply-is, w.self-is, w.in-Release.is) (provides_keeping _ was.quotes (λ changes. changes) w.release.ensures)
+      | in-Show w ↦ rw (w.reply-is, w.self-is, w.in-Show.is) (provides_keeping _ was.quotes (λ changes. changes) w.show.ensures)
+      | in-Vpns w ↦ rw (w.reply-is, w.self-is, w.in-Vpns.is) (provides_keeping _ was.quotes (λ changes. changes) w.vpns.ensures)
+      | in-Link w ↦ rw (w.reply-is, w.self-is, w.in-Link.is) (provides_keeping _ was.quotes (λ changes. changes) (w.link.ensures customer))
+      | in-Down w ↦ rw (w.reply-is, w.self-is, w.in-Down.is) (provides_keeping _ was.quotes (λ changes. changes) w.operate.ensures)
+      | in-Up w ↦ rw (w.reply-is, w.self-is, w.in-Up.is) (provides_keeping _ was.quotes (λ changes. changes) w.operate-in-Up.ensures)
     ] in
     subst (λ (k : Known). Provides was.shared.now.network (record { pass = k; quotes = was.quotes }) (record { pass = done.reply.1; quotes = done.self.quotes }) customer c.args.command done.reply.0) c.replace-pass.ensures.value provides
 

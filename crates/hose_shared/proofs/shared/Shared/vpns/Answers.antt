@@ -1,7 +1,6 @@
 use Rattle.std.proofs.Common.{◌∙◌, ap, subst, sym}
 use Rattle.hose_graph.specs.steps.Naming.{NamesPlaces}
 use Rattle.hose_graph.specs.Network.{Network}
-use Rattle.hose_graph.specs.declared.command.Command.TheVariants.{Vpns}
 use Rattle.hose_law.specs.Quotes.{none_held}
 use Rattle.hose_shared.proofs.Passes.{along_of}
 use Rattle.hose_shared.proofs.Turned.{reads_turn}
@@ -13,7 +12,7 @@ end_turn-pass-requires-clause-answers g c =
     let same = ap (λ (k : _). k.store) (c.value.ensures ∙ sym c.begin_turn-held.ensures.value) in
     let customer = c.args.caller.now.customer.now in
     let told = c.vpns_now-reply.ensures in
-    (customer, none_held, Vpns, reads_turn c.begin_turn-held.ensures.begins same now customer none_held Vpns told.step told.met)
+    (customer, none_held, _, reads_turn c.begin_turn-held.ensures.begins same now customer none_held _ told.step told.met)
 
 pub returns : goal.returns
 returns g c = record {
@@ -23,6 +22,6 @@ returns g c = record {
       let customer = c.args.caller.now.customer.now in
       let told = c.vpns_now-reply.ensures in
       along_of _ customer held _ _ _ _ _ c.begin_turn-held.ensures.more
-      (c.end_turn-pass.ensures customer held Vpns (reads_turn c.begin_turn-held.ensures.begins same now customer held Vpns told.step told.met));
+      (c.end_turn-pass.ensures customer held _ (reads_turn c.begin_turn-held.ensures.begins same now customer held _ told.step told.met));
   names = subst (λ (n : Network). NamesPlaces n c.vpns_now-reply.result) (ap (λ (k : _). k.store.ledger.network) (c.value.ensures ∙ sym c.begin_turn-held.ensures.value) ∙ c.begin_turn-held.ensures.network) c.vpns_now-reply.ensures.names;
 }
