@@ -39,8 +39,8 @@ pub fn plan_now<K: Books, R: RowMaker>(
         top,
         service,
         loads,
-        kept: kept_rows(table, service),
         epoch: book.epoch(),
+        kept: kept_rows(table, service),
     };
     plan_beside(alloc, seen, hose, rows)
 }

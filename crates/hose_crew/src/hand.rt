@@ -86,49 +86,6 @@ impl<L: Door, N: DoorStart> Hand<L, N> {
     }
 }
 
-// Serves one connection after another, each to its end along the pass, until no more is told of.
-fn serve_one_by_one<W: Wait, D: Disk, B: Begun<D>, G: Gate, L: Door, N: DoorStart, A: Accept<L, N>>(
-    work: &Work<'_, W, D, B, G>,
-    first: &Snapshot<Pass>,
-    from: &mut A,
-    place: Place<N>,
-    ended: &mut Vec<L::Done>,
-) -> Place<N>
-    requires may { MayServe work.now.shared.now first.now.value }
-    requires works { Works N.start.told first.now.value place (map L.came_to ended.old.items) }
-    requires room { N.start.connections ≤ vec_capacity ended.old }
-    ensures works { Works N.start.told first.now.value result (map L.came_to ended.new.items) }
-    ensures room { vec_capacity ended.new ≡ vec_capacity ended.old }
-    ensures over { A.is_over from.new }
-{
-    // The first pass is there for the clauses alone.
-    let _ = first;
-    let mut rows = RowsInAdvance::new();
-    let Place {
-        mut pass,
-        mut share,
-    } = place;
-    loop {
-        // Where the desk is locked, it is let go before the session begins.
-        let Some(one) = from.accept(&mut share) else {
-            return Place { pass, share };
-        };
-        let Accepted {
-            session,
-            mut input,
-            mut output,
-        } = one;
-        let session = Session {
-            context: &work.context,
-            shared: work.shared,
-            number: session,
-        };
-        let (_, later) = serve_session(session, &mut input, &mut output, pass, &mut rows);
-        pass = later;
-        ended.push_reserved(L::done(input, output));
-    }
-}
-
 impl<L: Door, N: DoorStart> Hand<L, N> {
     /// Takes a place that is a part of the first pass, and of which nothing was made.
     pub fn take_place(&mut self, place: Place<N>, first: &Snapshot<Pass>)
@@ -154,9 +111,33 @@ impl<L: Door, N: DoorStart> Hand<L, N> {
         ensures works { HasWorked L.came_to N.start first.now.value self.new }
         ensures over { A.is_over from.new }
     {
-        if let Some(place) = self.place.take() {
-            self.place = Some(serve_one_by_one(work, first, from, place, &mut self.ended));
+        // The first pass is there for the clauses alone.
+        let _ = first;
+        let Some(place) = self.place.take() else {
+            return;
+        };
+        let mut rows = RowsInAdvance::new();
+        let Place {
+            mut pass,
+            mut share,
+        } = place;
+        // Where the desk is locked, it is let go before the session begins.
+        while let Some(one) = from.accept(&mut share) {
+            let Accepted {
+                session,
+                mut input,
+                mut output,
+            } = one;
+            let session = Session {
+                context: &work.context,
+                shared: work.shared,
+                number: session,
+            };
+            let (_, later) = serve_session(session, &mut input, &mut output, pass, &mut rows);
+            pass = later;
+            self.ended.push_reserved(L::done(input, output));
         }
+        self.place = Some(Place { pass, share });
     }
 }
 

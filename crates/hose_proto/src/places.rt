@@ -96,8 +96,8 @@ pub fn name_and_rate(word: &[u8]) -> Option<(Name, u64)>
     ensures none { IfNone result (¬ IsEndWord word.now) }
 {
     let (name, rate) = parts(word)?;
-    let name = Name::read(name)?;
     let rate = number(rate, MOST_RATE)?;
+    let name = Name::read(name)?;
     (rate > 0).then_some((name, rate))
 }
 

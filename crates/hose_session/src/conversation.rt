@@ -12,23 +12,24 @@ ghost use Rattle.hose_session.specs.declared.phase.Phase.TheVariants as phase;
 use crate::ending::SessionEnd;
 use crate::phase::Phase;
 use hose_disk::Disk;
-use hose_graph::{Name, Reply};
+use hose_graph::{Name, Reply, Topology};
 use hose_greeting::{greeting_of, is_bye};
 use hose_io::{Failed, Sink};
 use hose_paths::RowMaker;
 use hose_pool::{Gate, Point};
-use hose_proto::{ReadFault, put_reply, read_command};
+use hose_proto::{ReadFault, put_reply, read_command_at};
 use hose_shared::{Begun, Seat};
 use hose_talk::{Answers, TalkEnd, TalkFault};
 use hose_turn::Pass;
-use hose_words::Line;
+use hose_words::{Cursor, Line};
 use std::sync::Wait;
 
-/// A session while its lines are answered: its customer's seat at the shared book, what it plans
-/// with, and how far it is.
+/// A session while its lines are answered: its customer's seat at the shared book, the network of
+/// that book, what it plans with, and how far it is.
 #[derive(Drop)]
 pub struct Conversation<'a, W, D: Disk, B: Begun<D>, G: Gate, R: RowMaker> {
     pub seat: Seat<'a, W, D, B, G>,
+    pub top: &'a Topology,
     pub rows: &'a mut R,
     pub phase: Phase,
 }
@@ -55,6 +56,7 @@ impl<'a, W: Wait, D: Disk, B: Begun<D>, G: Gate, R: RowMaker> Conversation<'a, W
         ensures of { IsPassOf self.new.seat.shared.now self.new.seat.pass }
         ensures names { NamesPlaces self.old.seat.shared.now.network result }
         ensures shared { self.new.seat.shared ≡ self.old.seat.shared }
+        ensures top { self.new.top ≡ self.old.top }
     {
         match greeting_of(line) {
             Ok(name) => {
@@ -72,6 +74,7 @@ impl<'a, W: Wait, D: Disk, B: Begun<D>, G: Gate, R: RowMaker> Conversation<'a, W
     // The reply to a later line, of the customer who was greeted.
     fn serve(&mut self, name: &Name, line: Line<'_>) -> Reply
         requires of { IsPassOf self.old.seat.shared.now self.old.seat.pass }
+        requires top { self.old.top.now ≡ self.old.seat.shared.now.network }
         requires phase { self.old.phase ≡ phase.Serving name.now }
         requires quotes { (held : Holding) × AreHeld self.old.seat.shared.now.network 0
             self.old.seat.pass.seen held self.old.seat.quotes }
@@ -85,12 +88,13 @@ impl<'a, W: Wait, D: Disk, B: Begun<D>, G: Gate, R: RowMaker> Conversation<'a, W
         ensures of { IsPassOf self.new.seat.shared.now self.new.seat.pass }
         ensures names { NamesPlaces self.old.seat.shared.now.network result }
         ensures shared { self.new.seat.shared ≡ self.old.seat.shared }
+        ensures top { self.new.top ≡ self.old.top }
     {
         let Line::Text(text) = line else {
             return Reply::Long;
         };
-        let alloc = self.seat.context.alloc;
-        match read_command(alloc, self.seat.shared.topology(), text, 0) {
+        let mut words = Cursor::new(text);
+        match read_command_at(self.seat.context.alloc, self.top, &mut words) {
             Ok(command) => self.seat.step(name, command, self.rows),
             Err(ReadFault::Bad { word }) => {
                 if is_bye(text) {
@@ -108,6 +112,7 @@ impl<'a, W: Wait, D: Disk, B: Begun<D>, G: Gate, R: RowMaker> Answers
     for Conversation<'a, W, D, B, G, R> {
     type Reply = Reply;
 
+    ghost use Rattle.std.specs.Prelude.{◌≡◌};
     ghost use Rattle.hose_graph.specs.steps.Naming.{NamesPlaces};
     ghost use Rattle.hose_graph.specs.Network.{Network};
     ghost use Rattle.hose_law.specs.Transcript.{SessionLine};
@@ -133,10 +138,12 @@ impl<'a, W: Wait, D: Disk, B: Begun<D>, G: Gate, R: RowMaker> Answers
         (record { pass = talk.seat.pass; phase = talk.phase; quotes = talk.seat.quotes }) lines
         replies };
 
-    ghost fits = { λ talk. CanBeServed talk.seat.shared.now
+    ghost fits = { λ talk. (talk.top.now ≡ talk.seat.shared.now.network)
+        × CanBeServed talk.seat.shared.now
         (record { pass = talk.seat.pass; phase = talk.phase; quotes = talk.seat.quotes }) };
 
-    ghost can_put = { λ talk reply. NamesPlaces talk.seat.shared.now.network reply };
+    ghost can_put = { λ talk reply. (talk.top.now ≡ talk.seat.shared.now.network)
+        × NamesPlaces talk.seat.shared.now.network reply };
 
     ghost over = { λ talk. over_at talk.phase };
 
@@ -148,7 +155,7 @@ impl<'a, W: Wait, D: Disk, B: Begun<D>, G: Gate, R: RowMaker> Answers
     }
 
     fn put<O: Sink>(&self, output: &mut O, reply: &Reply) -> Result<(), Failed> {
-        put_reply(output, self.seat.shared.topology(), reply)?;
+        put_reply(output, self.top, reply)?;
         self.seat.context.gate.at(Point::Answered {
             session: self.seat.session,
         });

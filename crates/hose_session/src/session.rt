@@ -14,9 +14,9 @@ use hose_io::{Sink, Source};
 use hose_paths::RowMaker;
 use hose_pool::Gate;
 use hose_shared::{Begun, Context, Seat, Shared};
-use hose_talk::hold_talk;
+use hose_talk::converse;
 use hose_turn::Pass;
-use hose_words::INPUT_LIMIT;
+use hose_words::{INPUT_LIMIT, LineReader};
 use std::sync::Wait;
 
 /// A session, but for its streams, its rows and its pass: what it is answered with, the shared
@@ -71,8 +71,16 @@ pub fn serve_session<W: Wait, S: Source, O: Sink, D: Disk, B: Begun<D>, R: RowMa
         pass,
         quotes,
     };
-    let phase = Phase::Waiting;
-    let mut talk = Conversation { seat, rows, phase };
-    let ended = hold_talk(&mut talk, source, sink);
+    let (top, phase) = (shared.topology(), Phase::Waiting);
+    let mut talk = Conversation {
+        seat,
+        top,
+        rows,
+        phase,
+    };
+    let mut lines = LineReader::new(source);
+    let ended = converse(&mut talk, &mut lines, sink);
+    // What is known of the input again comes from here.
+    let _ = lines.into_source();
     talk.into_end(ended)
 }

@@ -1,11 +1,7 @@
 // Planning over a copy of the links in service, and beside one of the loads.
-ghost use Rattle.std.specs.Prelude.{◌≡◌, MatchOption, MatchResult, length};
-ghost use Rattle.hose_law.specs.Book.{loads_of};
+ghost use Rattle.std.specs.Prelude.{MatchResult};
 ghost use Rattle.hose_law.specs.History.{book_of};
 ghost use Rattle.hose_law.specs.steps.Plan.{AreNodes};
-ghost use Rattle.hose_law.specs.Room.{first_links};
-ghost use Rattle.hose_tree.specs.steps.Amounts.{AreWithinCapacities};
-ghost use Rattle.hose_core.specs.steps.Bound.{HasNewest, TellsNewest};
 ghost use Rattle.hose_core.specs.steps.Planning.{IsPlannedFor};
 ghost use Rattle.hose_shared.specs.steps.Along.{IsNotTried};
 ghost use Rattle.hose_shared.specs.steps.Sharing.{HasSeenMore, IsPassOf};
@@ -50,7 +46,15 @@ impl<D: Disk, B: Begun<D>> Shared<D, B> {
         let Ok(mut service) = LinkSet::new(alloc, links) else {
             return (Err(Reply::Memory), pass);
         };
-        let (epoch, instead, pass) = self.look(caller, pass, known, &mut service, &mut loads);
+        // The links in service and the loads are copied, so that others have their turns meanwhile.
+        let held = self.turn.lock(caller.context.rt, pass);
+        let store = &held.value().store;
+        let book = store.book();
+        service.copy_from(book.service());
+        loads.copy_from_slice(book.loads());
+        let epoch = book.epoch();
+        let instead = newest_now(store, caller.customer, known);
+        let pass = self.turn.unlock(held);
         if let Some(reply) = instead {
             return (Err(reply), pass);
         }
@@ -61,39 +65,6 @@ impl<D: Disk, B: Begun<D>> Shared<D, B> {
             kept: kept_rows(self.table.as_ref(), &service),
             epoch,
         };
-        let planned = plan_beside(alloc, seen, hose, rows);
-        (planned, pass)
-    }
-
-    // Copies the links in service and the loads of all links at a place of the history, and tells
-    // the epoch there, and whether the customer's newest VPN there has another number than the one
-    // that is named.
-    fn look<W: Wait, G>(
-        &self,
-        caller: &Caller<'_, W, G>,
-        pass: Pass,
-        known: Option<u64>,
-        service: &mut LinkSet,
-        loads: &mut [u64],
-    ) -> (u64, Option<Reply>, Pass)
-        requires of { IsPassOf self.now pass }
-        requires links { length service.old ≡ length self.now.network.links }
-        requires places { length loads.old ≡ length self.now.network.links }
-        ensures more { HasSeenMore pass result.2 }
-        ensures epoch { result.0 ≡ (book_of 0 result.2.seen).epoch }
-        ensures instead { let book = book_of 0 result.2.seen in
-            MatchOption result.1 (HasNewest book caller.now.customer.now known)
-            (TellsNewest book caller.now.customer.now known) }
-        ensures service { service.new ≡ first_links self.now.network (book_of 0 result.2.seen) }
-        ensures loads { loads.new ≡ loads_of self.now.network (book_of 0 result.2.seen) }
-        ensures carried { AreWithinCapacities self.now.network loads.new }
-    {
-        let held = self.turn.lock(caller.context.rt, pass);
-        let book = held.value().store.book();
-        service.copy_from(book.service());
-        loads.copy_from_slice(book.loads());
-        let epoch = book.epoch();
-        let instead = newest_now(book, caller.customer, known);
-        (epoch, instead, self.turn.unlock(held))
+        (plan_beside(alloc, seen, hose, rows), pass)
     }
 }

@@ -60,53 +60,31 @@ impl<'a, W: Wait, D: Disk, B: Begun<D>, G: Gate> Seat<'a, W, D, B, G> {
         ensures session { self.new.session ≡ self.old.session }
     {
         let pass = replace(&mut self.pass, Pass::blank());
-        let caller = Caller {
+        let (shared, quotes) = (self.shared, &mut self.quotes);
+        let caller = &Caller {
             context: self.context,
             session: self.session,
             customer,
         };
-        let (reply, pass) = self
-            .shared
-            .step(&caller, pass, &mut self.quotes, command, rows);
-        self.pass = pass;
-        reply
-    }
-}
-
-impl<D: Disk, B: Begun<D>> Shared<D, B> {
-    // Answers a command by the call for its kind, along the pass of a customer who holds these
-    // quotes.
-    fn step<W: Wait, G: Gate, R: RowMaker>(
-        &self,
-        caller: &Caller<'_, W, G>,
-        pass: Pass,
-        quotes: &mut Quotes,
-        command: Command,
-        rows: &mut R,
-    ) -> (Reply, Pass)
-        requires can { CanProvide self.now quotes.old pass }
-        requires asks { AsksOf self.now.network command }
-        ensures { Provides self.now.network (record { pass = pass; quotes = quotes.old })
-            (record { pass = result.1; quotes = quotes.new }) caller.now.customer.now command
-            result.0 }
-    {
-        match command {
+        let (reply, pass) = match command {
             Command::Admit(hose) => {
                 let asked = Admission { known: None, hose };
-                self.admit_bound(caller, pass, asked, rows)
+                shared.admit_bound(caller, pass, asked, rows)
             }
             Command::AdmitAfter { known, hose } => {
                 let known = Some(known);
-                self.admit_bound(caller, pass, Admission { known, hose }, rows)
+                shared.admit_bound(caller, pass, Admission { known, hose }, rows)
             }
-            Command::Quote(hose) => self.quote(caller, pass, quotes, hose, rows),
-            Command::Take(number) => self.take(caller, pass, quotes, number),
-            Command::Release(id) => self.release(caller, pass, id),
-            Command::Show(id) => self.show(caller, pass, id),
-            Command::Vpns => self.vpns(caller, pass),
-            Command::Link(link) => self.link(caller, pass, link),
-            Command::Down(link) => self.operate(caller, pass, link, true),
-            Command::Up(link) => self.operate(caller, pass, link, false),
-        }
+            Command::Quote(hose) => shared.quote(caller, pass, quotes, hose, rows),
+            Command::Take(number) => shared.take(caller, pass, quotes, number),
+            Command::Release(id) => shared.release(caller, pass, id),
+            Command::Show(id) => shared.show(caller, pass, id),
+            Command::Vpns => shared.vpns(caller, pass),
+            Command::Link(link) => shared.link(caller, pass, link),
+            Command::Down(link) => shared.operate(caller, pass, link, true),
+            Command::Up(link) => shared.operate(caller, pass, link, false),
+        };
+        self.pass = pass;
+        reply
     }
 }
