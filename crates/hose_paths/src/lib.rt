@@ -9,7 +9,7 @@
 //! ```
 //! let row = HeapRows::new().row(alloc, &top, &links, root)?;
 //!
-//! if let Some(rows) = table.kept(&links) {
+//! if let Some(rows) = kept_rows(Some(&table), &links) {
 //!     let row = row_of(&top, &links, rows, root);
 //! }
 //!

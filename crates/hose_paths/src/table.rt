@@ -67,18 +67,6 @@ impl RowTable {
         self.links.same(links) && are_cost_alike(&self.top, top)
     }
 
-    /// Its rows, where they are over this set of its network's links. Whoever has made it of a
-    /// network asks so, and nothing of the network is compared.
-    pub fn kept(&self, links: &LinkSet) -> Option<&[Row]>
-        ensures { IfSome result (λ rows. AreRows self.now.network links.now rows.now) }
-    {
-        if self.links.same(links) {
-            Some(&self.rows)
-        } else {
-            None
-        }
-    }
-
     /// Its rows, where they are over this set of this network's links.
     pub fn over(&self, top: &Topology, links: &LinkSet) -> Option<&[Row]>
         ensures { IfSome result (λ rows. AreRows top.now links.now rows.now) }
@@ -100,13 +88,19 @@ impl RowTable {
 }
 
 /// The rows of all nodes over a set of a network's links, where there is a table of this network
-/// that keeps them.
+/// that keeps them. Whoever has made the table of a network asks so, and nothing of the network is
+/// compared.
 pub fn kept_rows<'a>(table: Option<&'a RowTable>, links: &LinkSet) -> Option<&'a [Row]>
     ensures { (network : Network)
         → IfSome table.entry (λ table. table.now.network ≡ network)
         → IfSome result (λ rows. AreRows network links.now rows.now) }
 {
-    table?.kept(links)
+    let table = table?;
+    if table.links.same(links) {
+        Some(&table.rows)
+    } else {
+        None
+    }
 }
 
 /// The row of a root among those of all nodes over a set of the topology's links.
