@@ -55,8 +55,9 @@ pub fn is_required(awaited: &Option<StandbyAt>) -> bool
     !may_go_alone(awaited)
 }
 
-/// Whether lines wait where a link was opened, as the host is alone or not and a standby is required
-/// or not: until the standby at the link has joined. Where one is required each reply waits.
+/// Whether lines wait where a link was opened, as the host is alone or not and a standby is
+/// required or not: until the standby at the link has joined. Where one is required each reply
+/// waits.
 pub fn waits_at(alone: bool, required: bool) -> bool
     ensures { required ≡ false → result ≡ false → alone ≡ true }
 {

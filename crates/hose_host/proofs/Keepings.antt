@@ -19,7 +19,7 @@ use Rattle.hose_net.specs.declared.hold.Hold.TheVariants.{Alone, Upto}
 use Rattle.hose_net.specs.declared.hold.Parting.{Parting}
 use Rattle.hose_net.specs.declared.hold.Parting.TheVariants as parting
 use Rattle.hose_net.specs.Story.{Answers, AwaitsMore, Exchange, Holds as HoldsSo, Joins, Link, MayAnswer, MayHappen, MayHold, MayLink, Happens, IsByDoor, IsHosted, IsKept, IsKeptAtLink, IsServed, IsSettled, Life, PartsFor, Step, AllServed, began, waited, happened, answered, held as is_held, bound_in, bound_of, exchanges, hold_in, is_empty, joined_in, leaves_lines, life, lines_of, link_after, link_answered, link_in, new_link, newcomer, no_link, nobody, texts_of}
-use Rattle.hose_net.proofs.Laws.{own_on}
+use Rattle.hose_net.proofs.Laws.{own_on, stays_alone}
 use Rattle.hose_net.proofs.Stories.{IsAt, bound-answers, bound-happens, bound-holds, exchanges-happens, exchanges-holds, exchanges-push, happened_now, happened_on, hold-push, joined-push, joined-same, life-answers, life-came, life-got, life-holds, life-left, life-linked, life-other, life-other_answers, life-refused, life-sent, life-stopped, link-push, link-same, served_holds, served_linked, served_now, served_too}
 use Rattle.hose_host.specs.steps.Seats.{AllFinished, AtRest, Awaits, Calm, Exact, Finished, FinishedBelow, Freed, FreedBelow, Gone, GrowsByLost, Held, Holds, InRound, IsSaid, Keeping, Quiet, Releases, Resting, SeatState, Sits, emptied, fresh_seat, held_of, with_held, with_text}
 use Rattle.hose_host.specs.steps.Keeping.{AllSit, At, GoesOnAt, GoesOnLink, Hall, Host, IsOpen, Keeps, KeepsAll, KeepsHost, KeepsLink, KeepsLinkAt, PartsHost, Stands, at, hall, housed, terms_of}
@@ -870,10 +870,10 @@ module _ {N A R B : Type 0} (net : ConnectionsGhosts N) (by : Ghosts A R B) wher
   host_joins Was was count network by_now by_new seats opened gone comes leaves is less joins leads = host_held Was (Upto count) was count network by_now by_new seats opened gone comes leaves refl (λ most. absurd (omega (arith, most, less))) (λ first from topic story stands there.
       let leads_so = subst (λ (l : Link). by.leads from (exchanges story) l (Some count)) (stands.links (there is)) (leads from (exchanges story) stands.link stands.comes) in
       ⊎_elim
-      (λ more. ((leads_so, joins_more (hold_in story) was count (exchanges story) stands.hears more less), inl more))
+      (λ more. ((leads_so, joins_more (hold_in story) was count (exchanges story) stands.hears more less, there is), inl more))
       (λ alone.
       let all : All (λ (x : Exchange by.said R). x.needs ≤ count) (exchanges story) = All-weaker (λ (x : Exchange by.said R). x.needs ≤ by.count by_now) (λ (x : Exchange by.said R). x.needs ≤ count) (λ x within. omega (arith, within, alone.1)) (exchanges story) stands.within in
-      ((leads_so, subst (λ (h : Hold). Joins h count (exchanges story)) (sym (stands.alone alone.0)) all), inr all))
+      ((leads_so, subst (λ (h : Hold). Joins h count (exchanges story)) (sym (stands.alone alone.0)) all, there is), inr all))
       joins)
 
   -- the host goes on alone
@@ -905,6 +905,10 @@ module _ {N A R B : Type 0} (net : ConnectionsGhosts N) (by : Ghosts A R B) wher
   parts_told_ahead Is None network by_now seats heard opened is ahead = tt
   parts_told_ahead Is (Some count) network by_now seats heard opened is ahead = parts_ahead Is count network by_now seats heard opened is ahead
 
+  -- nothing happened at all
+  pub host_same : (Is : ℕ → ℕ → Life by.said R → SeatState → Type 0) (one : Host N A) → KeepsHost net by Is Is one one
+  host_same Is one = λ first from topic story stands there all. record { later = story; onward = onward_same story; also = there; stands = stands; sit = all }
+
   -- places of which there is none yet
   pub host_first : (network : N) (by_now : A) (seats : List SeatState) (heard : ℕ) (opened : Bool) (now : Host N A) → seats ≡ [] → heard ≡ 0 → opened ≡ false → KeepsHost net by Resting Resting (housed network by_now seats heard opened) now → KeepsHost net by Resting Resting (housed network by_now [] 0 false) now
   host_first network by_now seats heard opened now none zero closed keeps =
@@ -931,7 +935,15 @@ module _ {N A R B : Type 0} (net : ConnectionsGhosts N) (by : Ghosts A R B) wher
     none_sits : AllSit net by Resting (by.about old) 0 [] []
     none_sits = record { sit = λ place seat below. absurd (omega (arith, below)); rest = λ place seat below. absurd (omega (arith, below)); beyond = λ place past. refl }
 
-    pub hosted : (why : Parting) → PartsHost net by why Resting (AllFinished (leaves_lines why)) (housed first old [] 0 false) (housed last now seats heard opened) → IsHosted (terms_of net by from (by.about old)) (λ xs. (link : Link) × by.comes from xs link now) why first last
-    hosted why parts =
-        let end = parts first from (by.about old) [] begins (λ no. absurd (false≢true no)) none_sits in
-        record { story = end.0.later; hosts = end.0.stands.hosts; comes_to = (end.0.stands.link, end.0.stands.comes); settled = λ place. subst (λ (h : ℕ). IsSettled (by.text (by.about old)) h (leaves_lines why) (life place end.0.later)) (sym end.0.stands.hears) (settled (leaves_lines why) heard (by.about old) end.0.later seats end.0.sit place); parts = end.1 }
+    pub hosted : (why : Parting) (begun : Host N A) → KeepsHost net by Resting Resting (housed first old [] 0 false) begun → (by.standby_at (by.about old) ≡ None → begun.hall.heard ≡ bound_of Alone) → PartsHost net by why Resting (AllFinished (leaves_lines why)) begun (housed last now seats heard opened) → IsHosted (terms_of net by from (by.about old)) (λ xs. (link : Link) × by.comes from xs link now) why first last
+    hosted why begun keeps lone parts =
+        let start = keeps first from (by.about old) [] begins (λ no. absurd (false≢true no)) none_sits in
+        let end = parts first from (by.about old) start.later start.stands start.also start.sit in
+        record {
+          story = end.0.later;
+          hosts = end.0.stands.hosts;
+          comes_to = (end.0.stands.link, end.0.stands.comes);
+          settled = λ place. subst (λ (h : ℕ). IsSettled (by.text (by.about old)) h (leaves_lines why) (life place end.0.later)) (sym end.0.stands.hears) (settled (leaves_lines why) heard (by.about old) end.0.later seats end.0.sit place);
+          parts = end.1;
+          alone = λ none. stays_alone (terms_of net by from (by.about old)) first none start.later end.0.later last end.0.onward end.0.stands.hosts (start.stands.alone (lone none));
+        }

@@ -24,8 +24,10 @@ pub fn begin<N: Connections, A: HostAnswers>(network: &mut N, answers: &A, place
     requires heard { places.old.heard ≡ 0 }
     requires alone { A.standby_at (A.about answers.now) ≡ None
         → A.goes_alone (A.about answers.now) ≡ true }
-    ensures { KeepsHost N.Connections A.HostAnswers Resting Resting
+    ensures keeps { KeepsHost N.Connections A.HostAnswers Resting Resting
         (host_of network.old answers.now places.old) (host_of network.new answers.now places.new) }
+    ensures alone { A.standby_at (A.about answers.now) ≡ None
+        → places.new.heard ≡ bound_of Alone }
 {
     match answers.standby() {
         None => places.heard = ALONE,

@@ -1,17 +1,19 @@
 -- What the stories of a host come to: no reply goes out too early, who came by a door bound to a
 -- name says what is that name's, and the lines of a connection are one session.
-use Rattle.std.proofs.Common.{⊎_elim, ◌≡◌, ◌∙◌, ℕ, ◌<◌, ◌≤◌, arith, Bool, true, false, cond, eqb, List, [], ◌∷◌, ◌++◌, All, length, length-append, sym, ap, subst, rules}
-use Rattle.std.proofs.lemmas.Bool.{cases_eq}
+use Rattle.std.proofs.Common.{⊎_elim, ◌≡◌, ◌∙◌, ℕ, ◌<◌, ◌≤◌, arith, Bool, true, false, cond, eqb, List, [], ◌∷◌, ◌++◌, All, None, length, length-append, refl, sym, ap, subst, rules}
+use Rattle.std.proofs.lemmas.Bool.{cases_eq, false≢true}
 use Rattle.std.specs.List.{fold}
 use Rattle.std.specs.Prelude.{get_or, ⊤}
 use Rattle.std.proofs.lemmas.List.Elements.{All-head, All-nil, All-push, All-tail}
+use Rattle.std.proofs.lemmas.List.Sums.{fold-append}
+use mathlib.Core.List.{IsPrefix}
 use Rattle.hose_net.specs.Happening.{Came, Closed, Gave, Got, Happening, Late, Left, LinkStep, Linked, Opened, Refused, Sent, Stopped, Took}
 use Rattle.hose_net.specs.declared.hold.Hold.{Hold}
 use Rattle.hose_net.specs.declared.hold.Hold.TheVariants.{Alone, Upto}
 use Rattle.hose_net.specs.declared.hold.Parting.{Parting}
 use Rattle.hose_net.specs.declared.hold.Parting.TheVariants as parting
-use Rattle.hose_net.specs.Story.{Answers, Exchange, Happens, Holds, Hosts, IsHosted, IsKept, IsKeptAtLink, Life, MayHold, PartsFor, Step, Terms, began, waited, happened, answered, held, bound_in, exchanges, is_empty, life, lives, newcomer, nobody, texts_of}
-use Rattle.hose_net.proofs.Stories.{exchanges-happens, exchanges-holds, exchanges-push, life-answers, life-holds, life-other_answers, life-push, served_now}
+use Rattle.hose_net.specs.Story.{Answers, Exchange, Happens, Holds, Hosts, IsHosted, IsKept, IsKeptAtLink, Life, Link, MayHold, PartsFor, Step, Terms, began, waited, happened, answered, held, bound_in, exchanges, hold_in, holds, is_empty, life, link_after, link_in, links, lives, newcomer, nobody, texts_of}
+use Rattle.hose_net.proofs.Stories.{exchanges-happens, exchanges-holds, exchanges-push, life-answers, life-holds, life-other_answers, life-push, link-push, served_now}
 
 module _ {L R : Type 0} (text : R → List ℕ) (heard : ℕ) where
   early : (free waiting before after : List (Exchange L R)) (x : Exchange L R) → free ++ waiting ≡ before ++ x ∷ after → All (λ (e : Exchange L R). e.needs ≤ heard) free → length (texts_of text before) < length (texts_of text free) → x.needs ≤ heard
@@ -136,4 +138,64 @@ module _ {N B L R : Type 0} (terms : Terms N B L R) (first : N) where
   -- the same story, which comes to something weaker, of which something weaker is said of what is
   -- kept
   pub hosted_on : (Stands : List (Exchange L R) → B → Type 0) (comes ends : List (Exchange L R) → Type 0) (why : Parting) → ((xs : List (Exchange L R)) (kept : B) → terms.stands xs kept → Stands xs kept) → ((xs : List (Exchange L R)) → comes xs → ends xs) → (last : N) → IsHosted terms comes why first last → IsHosted (record terms { stands = Stands }) ends why first last
-  hosted_on Stands comes ends why kept to last hosted = record { story = hosted.story; hosts = hosts_on Stands kept hosted.story last hosted.hosts; comes_to = to (exchanges hosted.story) hosted.comes_to; settled = hosted.settled; parts = parts_on Stands hosted.story why hosted.parts }
+  hosted_on Stands comes ends why kept to last hosted = record { story = hosted.story; hosts = hosts_on Stands kept hosted.story last hosted.hosts; comes_to = to (exchanges hosted.story) hosted.comes_to; settled = hosted.settled; parts = parts_on Stands hosted.story why hosted.parts; alone = hosted.alone }
+
+  -- without a standby there is no link
+  unlinked_at : (link : Link) (story : List (Step L R)) (was now : N) (step : LinkStep) → terms.standby ≡ None → link.here ≡ false → IsKeptAtLink terms story was step now → (link_after link step).here ≡ false
+  unlinked_at link story was now (Opened path) none closed kept = absurd (cc (sym none ∙ kept))
+  unlinked_at link story was now (Gave bytes) none closed kept = closed
+  unlinked_at link story was now (Took bytes) none closed kept = closed
+  unlinked_at link story was now Closed none closed kept = refl
+  unlinked_at link story was now Late none closed kept = closed
+
+  unlinked_by : (link : Link) (story : List (Step L R)) (was now : N) (happening : Happening) → terms.standby ≡ None → link.here ≡ false → IsKept terms story was happening now → (links {L = L} {R = R} link (Happens happening)).here ≡ false
+  unlinked_by link story was now (Came door place) none closed kept = closed
+  unlinked_by link story was now (Got place bytes) none closed kept = closed
+  unlinked_by link story was now (Sent place bytes) none closed kept = closed
+  unlinked_by link story was now (Refused place) none closed kept = closed
+  unlinked_by link story was now (Left place) none closed kept = closed
+  unlinked_by link story was now (Linked step) none closed kept = unlinked_at link story was now step none closed kept
+  unlinked_by link story was now Stopped none closed kept = closed
+
+  unlinked : terms.standby ≡ None → (story : List (Step L R)) (now : N) → Hosts terms first story now → (link_in story).here ≡ false
+  unlinked none _ _ began = refl
+  unlinked none _ _ (waited {story} {was} before did) = unlinked none story was before
+  unlinked none _ now (happened {story} {was} happening free before did kept served) =
+      ap (λ (l : Link). l.here) (link-push story (Happens happening)) ∙ unlinked_by (link_in story) story was now happening none (unlinked none story was before) kept
+  unlinked none _ now (answered {story} exchange before is_first says may served) = ap (λ (l : Link). l.here) (link-push story (Answers exchange)) ∙ unlinked none story now before
+  unlinked none _ now (held {story} hold before may served) = ap (λ (l : Link). l.here) (link-push story (Holds hold)) ∙ unlinked none story now before
+
+  -- so nothing is heard of one
+  abbrev IsLone : Step L R → Type 0
+  IsLone (Happens happening) = ⊤
+  IsLone (Answers exchange) = ⊤
+  IsLone (Holds Alone) = ⊤
+  IsLone (Holds (Upto count)) = ⊥
+
+  lone_hold : terms.standby ≡ None → (story : List (Step L R)) (now : N) (hold : Hold) → Hosts terms first story now → MayHold terms story hold → IsLone (Holds hold)
+  lone_hold none story now Alone hosts may = tt
+  lone_hold none story now (Upto count) hosts may = absurd (false≢true (sym (unlinked none story now hosts) ∙ may.2))
+
+  lone : terms.standby ≡ None → (story : List (Step L R)) (now : N) → Hosts terms first story now → All IsLone story
+  lone none _ _ began = All-nil IsLone
+  lone none _ _ (waited {story} {was} before did) = lone none story was before
+  lone none _ _ (happened {story} {was} happening free before did kept served) = All-push IsLone story (Happens happening) (lone none story was before) tt
+  lone none _ now (answered {story} exchange before is_first says may served) = All-push IsLone story (Answers exchange) (lone none story now before) tt
+  lone none _ now (held {story} hold before may served) = All-push IsLone story (Holds hold) (lone none story now before) (lone_hold none story now hold before may)
+
+  lone_stays : (rest : List (Step L R)) → All IsLone rest → fold holds Alone rest ≡ Alone
+  lone_stays [] all = refl
+  lone_stays (Happens happening ∷ rest) all = lone_stays rest (All-tail IsLone (Happens happening) rest all)
+  lone_stays (Answers exchange ∷ rest) all = lone_stays rest (All-tail IsLone (Answers exchange) rest all)
+  lone_stays (Holds Alone ∷ rest) all = lone_stays rest (All-tail IsLone (Holds Alone) rest all)
+  lone_stays (Holds (Upto count) ∷ rest) all = absurd (All-head IsLone (Holds (Upto count)) rest all)
+
+  All-right : (early rest : List (Step L R)) → All IsLone (early ++ rest) → All IsLone rest
+  All-right [] rest all = all
+  All-right (step ∷ early) rest all = All-right early rest (All-tail IsLone step (early ++ rest) all)
+
+  -- A host without a standby that goes on alone does so to the end.
+  pub stays_alone : terms.standby ≡ None → (early later : List (Step L R)) (now : N) → IsPrefix early later → Hosts terms first later now → hold_in early ≡ Alone → hold_in later ≡ Alone
+  stays_alone none early later now onward hosts is =
+      ap hold_in (sym onward.1) ∙ fold-append holds (Upto 0) early onward.0 ∙ ap (λ (h : Hold). fold holds h onward.0) is
+      ∙ lone_stays onward.0 (All-right early onward.0 (subst (All IsLone) (sym onward.1) (lone none later now hosts)))

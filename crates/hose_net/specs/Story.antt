@@ -1,5 +1,5 @@
 -- The story of a host: what happened at its connections, and what it answered.
-use Rattle.std.specs.Prelude.{◌≡◌, ◌≢◌, ℕ, ◌-◌, ◌^◌, Bool, true, false, ⊤, ◌==◌, if◌then◌else◌, nat_lt, ◌+◌, ◌<◌, ◌≤◌, List, [], ◌∷◌, ◌++◌, Option, Some, All}
+use Rattle.std.specs.Prelude.{◌≡◌, ◌≢◌, ℕ, ◌-◌, ◌^◌, Bool, true, false, ⊤, ◌==◌, if◌then◌else◌, nat_lt, ◌+◌, ◌<◌, ◌≤◌, List, [], ◌∷◌, ◌++◌, Option, None, Some, All}
 use Rattle.std.specs.List.{flat_map, fold}
 use Rattle.hose_net.specs.Happening.{Came, Closed, Gave, Got, Happening, Late, Left, LinkStep, Linked, Opened, Refused, Sent, Stopped, Took}
 use Rattle.hose_net.specs.declared.hold.Hold.{Hold}
@@ -279,11 +279,11 @@ Joins Alone count all = All (λ exchange. exchange.needs ≤ count) all
 Joins (Upto before) count all = before ≤ count
 
 -- how replies may be held from now on: the host goes on alone, where it may; or so much is heard of
--- the standby
+-- the standby, by a link that is there
 abbrev pub MayHold : {N B L R : Type 0} → Terms N B L R → List (Step L R) → Hold → Type 0
 MayHold terms story Alone = terms.may_be_alone ≡ true
 MayHold terms story (Upto count) = terms.leads (exchanges story) (link_in story) (Some count)
-    × Joins (hold_in story) count (exchanges story)
+    × Joins (hold_in story) count (exchanges story) × ((link_in story).here ≡ true)
 
 -- The stories of a host from a network on, and the network that each leaves. At each step each
 -- connection is served, so no reply comes before its line, none goes to another connection, and
@@ -358,7 +358,7 @@ PartsFor {N} {B} {L} {R} terms story (parting.Ahead count) = (before after : Lis
     × (story ≡ before ++ after) × terms.is_ahead (exchanges before) (link_in before) count
 
 -- A host came from one network to another by a story, whose exchanges, all of them in their order,
--- come to this; and it came to rest, for this reason.
+-- come to this; and it came to rest, for this reason. One without a standby held no reply back.
 pub record IsHosted {N B L R : Type 0} (terms : Terms N B L R)
     (comes : List (Exchange L R) → Type 0) (why : Parting) (first last : N) : Type 0 where
   pub story : List (Step L R)
@@ -367,3 +367,4 @@ pub record IsHosted {N B L R : Type 0} (terms : Terms N B L R)
   pub settled : (place : ℕ)
       → IsSettled terms.text (bound_in story) (leaves_lines why) (life place story)
   pub parts : PartsFor terms story why
+  pub alone : terms.standby ≡ None → hold_in story ≡ Alone

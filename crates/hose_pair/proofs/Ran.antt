@@ -289,7 +289,7 @@ module _ (network : Network) (path : List ℕ) (may required : Bool) where
       st8 = linked s7 (Gave (answer_line o3)) refl st7 (λ was now. tt)
 
       st9 : Story s9
-      st9 = holding s8 (Upto 0) (hears_first network required (link_in s8) led.has_none led.behind_none, omega arith) st8 (omega arith)
+      st9 = holding s8 (Upto 0) (hears_first network required (link_in s8) led.has_none led.behind_none, omega arith, refl) st8 (omega arith)
 
       st10 : Story s10
       st10 = happens s9 (Got 0 lines) (refl, refl) st9 (λ was now. tt) (at_place s9 s10 (Got 0 lines) (λ other apart. life-other other 0 s9 (Got 0 lines) refl apart) (bound-happens s9 (Got 0 lines)) st9 here10)
@@ -310,7 +310,7 @@ module _ (network : Network) (path : List ℕ) (may required : Bool) where
       st14 = linked s13 (Gave (answer_line o4)) refl st13 (λ was now. tt)
 
       st15 : Story s15
-      st15 = holding s14 (Upto (order_needs required)) (hears_order network required (link_in s14) some led.has_one led.behind_order, omega arith) st14 (omega arith)
+      st15 = holding s14 (Upto (order_needs required)) (hears_order network required (link_in s14) some led.has_one led.behind_order, omega arith, refl) st14 (omega arith)
 
       st16 : Story s16
       st16 = happens s15 (Sent 0 texts) refl st15 (λ was now. (tt, tt, tt)) (at_place s15 s16 (Sent 0 texts) (λ other apart. life-other other 0 s15 (Sent 0 texts) refl apart) (bound-happens s15 (Sent 0 texts)) st15 here16)

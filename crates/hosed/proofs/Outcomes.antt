@@ -11,7 +11,7 @@ use Rattle.hosed.specs.Failing.{FailsTask, FailsWords}
 use Rattle.hosed.specs.Hosed.{HosedOutcome}
 use Rattle.hosed.specs.Offline.{Does, Offer, OfflineOutcome}
 use Rattle.hosed.specs.ServeOutcome.{ServeOutcome}
-use Rattle.hosed.specs.steps.ServerDoor.{serving}
+use Rattle.hosed.specs.steps.ServerDoor.{port_asked}
 use Rattle.hosed.specs.ServerDoor.{DoorSeen}
 use Rattle.hosed_requests.specs.ProgramWords.{AreWrongWords, AsksToServe, program_word}
 use Rattle.hosed_requests.specs.steps.Arguments.{AreArgumentWords, ArgumentTask, IsFirstUnfit}
@@ -70,10 +70,10 @@ fails_of {tells = tells} {offer = offer} {was = was} {why = why} {words = words}
 
 -- what is beside a server, so told
 pub served_of : {I O C E : Type 0} {tells : Tellings I O C E} {names : PricedNames} {port connections : ℕ} {before was : Parts I O C} {door door' : DoorSeen} {status : ℕ} (after : Parts I O C) {input : I} {output : O} {cabinet : C} → before ≡ was → after.input ≡ input → after.output ≡ output → after.cabinet ≡ cabinet
-    → ServeOutcome tells names (serving port connections) (door_parts before door) (door_parts after door') status → ServeOutcome tells names (serving port connections) (door_parts was door) (door_parts (parts input output cabinet) door') status
+    → ServeOutcome tells names (port_asked port connections) (door_parts before door) (door_parts after door') status → ServeOutcome tells names (port_asked port connections) (door_parts was door) (door_parts (parts input output cabinet) door') status
 served_of {tells = tells} {names = names} {port = port} {connections = connections} {was = was} {door = door} {door' = door'} {status = status} after lent input output cabinet outcome =
-    subst (λ (now : Parts _ _ _). ServeOutcome tells names (serving port connections) (door_parts was door) (door_parts now door') status) (λ i. parts (input i) (output i) (cabinet i))
-    (subst (λ (old : Parts _ _ _). ServeOutcome tells names (serving port connections) (door_parts old door) (door_parts after door') status) lent outcome)
+    subst (λ (now : Parts _ _ _). ServeOutcome tells names (port_asked port connections) (door_parts was door) (door_parts now door') status) (λ i. parts (input i) (output i) (cabinet i))
+    (subst (λ (old : Parts _ _ _). ServeOutcome tells names (port_asked port connections) (door_parts old door) (door_parts after door') status) lent outcome)
 
 -- words that do not ask to serve come to what they come to for every command that waits for nobody,
 -- and the door is as it was

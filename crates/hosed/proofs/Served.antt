@@ -27,7 +27,7 @@ use Rattle.hose_outside.proofs.Named.{named_not_1, named_not_read, named_read, n
 use Rattle.hose_outside.proofs.Outcomes.{clash}
 use Rattle.hosed.specs.ServeOutcome.{EndsServed, IsServed, ServeOutcome, first_failed}
 use Rattle.hosed.specs.ServerDoor.{DoorSeen, ServesByJournal, Speaks}
-use Rattle.hosed.specs.steps.ServerDoor.{IsWhyServed, serving}
+use Rattle.hosed.specs.steps.ServerDoor.{IsWhyServed, port_asked}
 use Rattle.hosed.specs.declared.server.ServerEnd.{ServerEnd}
 use Rattle.hosed.proofs.Connections.{served_before}
 
@@ -78,25 +78,25 @@ serving_fails tells name old new network Along port output mid was now (Err anot
 module _ {I O C E : Type 0} (tells : Tellings I O C E) (names : PricedNames) (port connections : ℕ) (before after : Parts I O C) (was now : DoorSeen) where
   abbrev purpose : Purpose
   purpose = record {
-    IsFulfilled = IsServed tells names.journal (serving port connections) (door_parts before was) (door_parts after now);
+    IsFulfilled = IsServed tells names.journal (port_asked port connections) (door_parts before was) (door_parts after now);
     Untouched = now ≡ was;
     OthersHeld = ¬ Rose was.frame now.frame;
   }
 
   -- the words are not what is wrong
-  pub serve_not_1 : (status : ℕ) → ServeOutcome tells names (serving port connections) (door_parts before was) (door_parts after now) status → status ≢ 1
+  pub serve_not_1 : (status : ℕ) → ServeOutcome tells names (port_asked port connections) (door_parts before was) (door_parts after now) status → status ≢ 1
   serve_not_1 status outcome = named_not_1 tells names before after purpose outcome.left status
       (λ network told. served_status tells.sink port before.output told.mid after.output was now status told.came told.speaks told.ends 1 (λ e. absurd (cc e)) (λ e. absurd (cc e)) (λ e. absurd (cc e)) (λ e. absurd (cc e)) (λ e. absurd (cc e))) outcome.named.ends
 
   -- no topology was read
   pub no_topology_read : (why : Fault) (status : ℕ) → ReadsTopology tells.cabinet before.cabinet after.cabinet names.prices names.topology (Err why) → status ≡ status_of why → IsOut tells.sink before.output after.output (last_line why) → now ≡ was → after.input ≡ before.input
-      → ServeOutcome tells names (serving port connections) (door_parts before was) (door_parts after now) status
+      → ServeOutcome tells names (port_asked port connections) (door_parts before was) (door_parts after now) status
   no_topology_read why status reads is out same_door same_input = named_not_read tells names before after purpose why status (no_topology tells names before after why reads) is out same_door same_input
 
   module _ (read : C) (network : Network) (status : ℕ) (reads : ReadsTopology tells.cabinet before.cabinet read names.prices names.topology (Ok network)) (alone : TouchesOnly tells.cabinet names.journal read after.cabinet)
       (same_input : after.input ≡ before.input) where
     -- no store was opened
-    pub not_opened : (why : Fault) → OpensNoJournal tells.cabinet tells.disk names.journal read after.cabinet network (Err why) → status ≡ status_of why → IsOut tells.sink before.output after.output (last_line why) → now ≡ was → ServeOutcome tells names (serving port connections) (door_parts before was) (door_parts after now) status
+    pub not_opened : (why : Fault) → OpensNoJournal tells.cabinet tells.disk names.journal read after.cabinet network (Err why) → status ≡ status_of why → IsOut tells.sink before.output after.output (last_line why) → now ≡ was → ServeOutcome tells names (port_asked port connections) (door_parts before was) (door_parts after now) status
     not_opened why not is out same_door = named_not_read tells names before after purpose why status (no_store tells names before after read network why reads alone not) is out same_door same_input
 
     abbrev Failing : Type 0
@@ -107,7 +107,7 @@ module _ {I O C E : Type 0} (tells : Tellings I O C E) (names : PricedNames) (po
 
     -- one was
     pub is_served : (mid : O) (came : Result ServerEnd Fault) → ServesByJournal tells names.journal read after.cabinet network (AreServed was.told now.told connections) came → Speaks tells.sink port before.output mid was now came → EndsServed tells.sink mid after.output status came
-        → ServeOutcome tells names (serving port connections) (door_parts before was) (door_parts after now) status
+        → ServeOutcome tells names (port_asked port connections) (door_parts before was) (door_parts after now) status
     is_served mid came after_read speaks ends =
         named_read tells names before after purpose read network status reads alone same_input (record { mid = mid; came = came; serves = serves; speaks = speaks; ends = ends })
         (served_status tells.sink port before.output mid after.output was now status came speaks ends 8 (λ e. absurd (cc e)) (λ e. absurd (cc e)) (λ e. absurd (cc e)) (λ e. absurd (cc e)) (λ e. absurd (cc e)))

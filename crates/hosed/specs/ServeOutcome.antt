@@ -33,11 +33,11 @@ module _ {O : Type 0} (sink : SinkGhosts O) (output output' : O) (status : ℕ) 
   EndsServed (Err why) = (status ≡ status_of why) × IsOut sink output output' (last_line why)
 
 -- what a server is asked for besides: its port, and how many connections it serves
-pub record Serving : Type 0 where
+pub record PortAsked : Type 0 where
   pub port : ℕ
   pub connections : ℕ
 
-module _ {I O C E : Type 0} (tells : Tellings I O C E) (name : List ℕ) (asked : Serving)
+module _ {I O C E : Type 0} (tells : Tellings I O C E) (name : List ℕ) (asked : PortAsked)
     (before after : DoorParts I O C DoorSeen) where
   -- A store was opened on the journal and served connections, or not, which left the output as
   -- `mid` is, and then the rest was told.
@@ -49,7 +49,7 @@ module _ {I O C E : Type 0} (tells : Tellings I O C E) (name : List ℕ) (asked 
     pub speaks : Speaks tells.sink asked.port before.parts.output mid before.door after.door came
     pub ends : EndsServed tells.sink mid after.parts.output status came
 
-module _ {I O C E : Type 0} (tells : Tellings I O C E) (names : PricedNames) (asked : Serving)
+module _ {I O C E : Type 0} (tells : Tellings I O C E) (names : PricedNames) (asked : PortAsked)
     (before after : DoorParts I O C DoorSeen) where
   -- A server tells the book of the journal as it was after the last connection.
   abbrev pub ServeOutcome : ℕ → Type 0

@@ -12,7 +12,7 @@ ghost use Rattle.hose_outside.specs.Parts.{door_parts, tellings};
 ghost use Rattle.hose_outside.specs.steps.Parts.{KeepsAll, held};
 ghost use Rattle.hosed.specs.ServeOutcome.{EndsServed, ServeOutcome, first_failed};
 ghost use Rattle.hosed.specs.ServerDoor.{Speaks, seen_of};
-ghost use Rattle.hosed.specs.steps.ServerDoor.{BothStay, IsAnnounced, IsClosedOn, IsOpenedAs, IsWhyServed, Opened, ServesByStore, serving};
+ghost use Rattle.hosed.specs.steps.ServerDoor.{BothStay, IsAnnounced, IsClosedOn, IsOpenedAs, IsWhyServed, Opened, ServesByStore, port_asked};
 
 use hose_book::{Book, Books};
 use hose_crew::{Context, Crew, CrewEnd, DoorStart, Work};
@@ -246,7 +246,7 @@ pub fn serve<
     requires workers { (1 ≤ request.workers) × (request.workers ≤ MOST_WORKERS) }
     ensures outcome { ServeOutcome (tellings I.Source O.Sink C.Cabinet C.Disk.Disk)
         (priced_names (P.prices costs.now) request.entry.topology.now request.entry.journal.now)
-        (serving request.entry.port request.entry.connections) (door_parts (held outside.old)
+        (port_asked request.entry.port request.entry.connections) (door_parts (held outside.old)
         (seen_of (L.frame door.old) (L.told door.old) (L.opened_at door.old)))
         (door_parts (held outside.new)
         (seen_of (L.frame door.new) (L.told door.new) (L.opened_at door.new)))

@@ -137,6 +137,7 @@ module _ {I O C E D N : Type 0} (tells : Tellings I O C E) (by : DoorTellings D 
       comes_to = keeps_before (is_required asked.standby) hosts.since hosts.history (exchanges hosts.hosted.story) hosts.ended end.closing hosts.hosted.comes_to;
       settled = hosts.hosted.settled;
       parts = hosts.hosted.parts;
+      alone = hosts.hosted.alone;
     };
     is = hosts.is;
   }

@@ -209,6 +209,7 @@ module _ {I O C E D N : Type 0} (tells : Tellings I O C E) (by : DoorTellings D 
           comes_to = subst (KeepsHosted tells name before after network (is_required asked.standby) beginning come.hosted.state.history (exchanges made.story) ended) (sym same_closing) keeps;
           settled = made.settled;
           parts = made.parts;
+          alone = made.alone;
         };
         is = subst (IsLedgerOf network 0 come.hosted.state.history) (ap (λ (kept : KeptStore E). kept.ledger) is_last ∙ sym same_book) (record { is_network = come.network ∙ same_network led is_store; is_book = come.book });
       }

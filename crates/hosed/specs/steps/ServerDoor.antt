@@ -26,7 +26,7 @@ use Rattle.hose_outside.specs.declared.fault.Fault.TheVariants.{Memory}
 use Rattle.hose_outside.specs.declared.why.Why.{Why}
 use Rattle.hose_outside.specs.declared.why.Why.TheVariants.{Stopped}
 use Rattle.hosed.specs.declared.server.ServerEnd.{ServerEnd}
-use Rattle.hosed.specs.ServeOutcome.{Serving, first_failed}
+use Rattle.hosed.specs.ServeOutcome.{PortAsked, first_failed}
 use Rattle.hosed.specs.ServerDoor.{DoorSeen, ServesBook, Speaks, ready_line}
 
 -- ---- what a server says
@@ -49,8 +49,8 @@ module _ {O : Type 0} (sink : SinkGhosts O) (port : ℕ) (output output' : O)
   IsAnnounced (Err why) = Speaks sink port output output' was now (Err why)
 
 -- what a server is asked for besides, of its parts
-abbrev pub serving : ℕ → ℕ → Serving
-serving port connections = record { port = port; connections = connections }
+abbrev pub port_asked : ℕ → ℕ → PortAsked
+port_asked port connections = record { port = port; connections = connections }
 
 -- why it ended: as closing and accepting came, or for what no connection was served
 abbrev pub IsWhyServed : Result ServerEnd Fault → Why → Type 0
