@@ -211,7 +211,7 @@ def definition_lines():
             for crate, (count, code, total) in found.items() if count]
     whole = [sum(counts[k] for counts in found.values()) for k in range(3)]
     heads = [f"definitions: {whole[0]}, {whole[1]} lines ({whole[2]} with comments and uses)"]
-    for crate in ("hose_outside", "hose_offline", "hose_copying", "hosed"):
+    for crate in ("hose_outside", "hose_offline", "hose_copying", "hosed_requests", "hosed"):
         heads.append("  {}: {} definitions, {} lines ({})".format(crate, *found[crate]))
     return heads, rows
 
