@@ -111,7 +111,6 @@ impl<L: Door, N: DoorStart> Hand<L, N> {
         ensures works { HasWorked L.came_to N.start first.now.value self.new }
         ensures over { A.is_over from.new }
     {
-        // The first pass is there for the clauses alone.
         let _ = first;
         let Some(place) = self.place.take() else {
             return;
@@ -172,7 +171,6 @@ impl<L: Door, N: DoorStart> Hand<L, N> {
         if let Some(place) = place {
             shared.join(&mut gathered.pass, place.pass);
             gathered.share.merge(place.share);
-            // That a share is no more than the total is told by this call.
             gathered.tally.audit(&mut gathered.share);
             give_back(&mut gathered.door, ended);
         }

@@ -66,7 +66,6 @@ pub fn run<P: Prices, I: Source, O: Sink, C: Cabinet>(
 {
     let mut lines = LineReader::new(input);
     let done = run_lines(alloc, costs, journal, &mut lines, output, cabinet);
-    // What is known of the input again comes from here.
     let _ = lines.into_source();
     end(done, output)
 }

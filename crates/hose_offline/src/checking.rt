@@ -59,7 +59,6 @@ fn judge<I: Source>(alloc: Global, top: &Topology, input: &mut I) -> Result<Verd
 {
     let mut lines = LineReader::new(input);
     let verdict = judge_lines(alloc, top, &mut lines);
-    // What is known of the input again comes from here.
     let _ = lines.into_source();
     match verdict {
         Ok(verdict) => Ok(verdict),

@@ -2,8 +2,8 @@
 //! writes, and the files that it can reach), the network that the text of a topology tells
 //! (`read_topology`), the store on the journal of a name (`open_journal` takes its disk out of the
 //! cabinet, `close_journal` puts it back), the book that it holds told as a text (`tell`), and why
-//! a command ended, with its last line (`Why`, `end`). `hose_offline`, `hose_copying`, `hosed` and
-//! `hosed_host` stand on it:
+//! a command ended, with its last line (`Why`, `end`). Who does a command stands on it, and what
+//! reads the program's words:
 //!
 //! ```
 //! let topology = read_topology(alloc, &OwnCosts, "star.txt", cabinet)?;

@@ -83,7 +83,6 @@ fn read_json_text<C: Cabinet>(alloc: Global, name: &str, cabinet: &mut C) -> Res
 {
     let mut text = CabinetText::new(cabinet, name);
     let topology = read_whole_json(alloc, &mut text);
-    // What is known of the cabinet again comes from here.
     let _ = text.into_cabinet();
     topology
 }

@@ -80,7 +80,6 @@ pub fn serve_session<W: Wait, S: Source, O: Sink, D: Disk, B: Begun<D>, R: RowMa
     };
     let mut lines = LineReader::new(source);
     let ended = converse(&mut talk, &mut lines, sink);
-    // What is known of the input again comes from here.
     let _ = lines.into_source();
     talk.into_end(ended)
 }
