@@ -6,7 +6,7 @@
 # same archive.
 #
 # The program is that of ./hosed, which proves and builds it where it is not built, or a source is
-# newer: from nothing in 16 to 20 minutes, else by what the gate kept. The files are those of the
+# newer: from nothing in up to 20 minutes, else by what the gate kept. The files are those of the
 # commit, so nothing may be changed that git knows of.
 #
 # With --check no archive is made: the commit is cloned into another folder, its program is built
