@@ -1,7 +1,7 @@
 //! What the program does to copy a journal: `ship` writes its entries as packets, and `follow`
-//! takes packets into a journal that follows it; `move_journal` writes what a journal of one network
-//! holds into a journal of another one, and `cut_journal` its first entries into another journal.
-//! `hosed` chooses between them by the program's words:
+//! takes packets into a journal that follows it; `move_journal` writes what a journal of one
+//! network holds into a journal of another one, and `cut_journal` its first entries into another
+//! journal. `hosed` chooses between them by the program's words:
 //!
 //! ```
 //! let names = Names { topology: "star.txt", journal: "orders.journal" };
